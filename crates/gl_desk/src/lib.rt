@@ -1,0 +1,18 @@
+//! The outside of the product: a folder of files and a place to print, as a trait with contracts.
+#![tactic(auto)]
+
+mod calls;
+pub mod desk;
+pub mod error;
+pub mod host;
+pub mod mem;
+mod mem_file;
+pub mod name;
+pub mod read;
+
+pub use desk::Desk;
+pub use error::{DeskError, ReadError};
+pub use host::HostDesk;
+pub use mem::MemDesk;
+pub use name::Name;
+pub use read::read_all;

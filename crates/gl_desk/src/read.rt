@@ -1,0 +1,51 @@
+ghost use Rattle.std.specs.Prelude.{◌≡◌, ◌↔◌, ◌<◌, ◌≤◌, length, vec_len, IfOk, IsErrOf};
+ghost use Rattle.gl_desk.specs.Answers.{OnFault, UnlessFault, OnWholeRead};
+ghost use Rattle.gl_desk.specs.Desk.{Rose, HasFile, OnFile};
+
+use crate::desk::Desk;
+use crate::error::ReadError;
+use crate::name::Name;
+use std::alloc::{AllocError, Global};
+
+/// How many bytes are asked for at once.
+const PIECE: usize = 65_536;
+
+/// A buffer of `length` bytes.
+fn buffer(alloc: Global, length: usize) -> Result<Vec<u8>, AllocError>
+    ensures { IfOk result (λ bytes. vec_len bytes ≡ length) }
+{
+    vec![in alloc; 0; length]
+}
+
+/// The whole file, where it has at most `limit` bytes.
+pub fn read_all<D: Desk>(
+    alloc: Global,
+    desk: &mut D,
+    name: &Name,
+    limit: u64,
+) -> Result<Vec<u8>, ReadError>
+    requires { HasFile (D.folder desk.old) name.now }
+    ensures bytes { IfOk result (λ bytes. OnFile (D.folder desk.old) name.now (λ file. bytes.items ≡ file)) }
+    ensures fits { IfOk result (λ bytes. vec_len bytes ≤ limit) }
+    ensures too_large { OnWholeRead result (OnFile (D.folder desk.old) name.now (λ file. IsErrOf result ReadError.TooLarge ↔ (limit < length file))) }
+
+    ensures fault { OnFault result (Rose (D.faults desk.old) (D.faults desk.new)) }
+    ensures no_fault { UnlessFault result (D.faults desk.new ≡ D.faults desk.old) }
+    ensures never_falls { D.faults desk.old ≤ D.faults desk.new }
+    ensures same_folder { D.folder desk.new ≡ D.folder desk.old }
+    ensures same_said { D.said desk.new ≡ D.said desk.old }
+    ensures same_outputs { D.outputs desk.new ≡ D.outputs desk.old }
+{
+    let mut bytes = Vec::new(alloc);
+    let mut piece = buffer(alloc, PIECE)?;
+    'pieces: loop {
+        let read = desk.read_at(alloc, name, bytes.len() as u64, &mut piece)?;
+        if read == 0 {
+            return Ok(bytes);
+        }
+        if read as u64 > limit - bytes.len() as u64 {
+            return Err(ReadError::TooLarge);
+        }
+        bytes.extend_from_slice(&piece[..read])?;
+    }
+}

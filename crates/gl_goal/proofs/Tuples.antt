@@ -1,0 +1,112 @@
+-- Tuples that begin with the same places, and numbers in time order.
+use Rattle.std.proofs.Common.{◌≡◌, ◌∙◌, sym, ℕ, suc, ◌+◌, ◌-◌, ◌≤◌, ◌<◌, List, [], ◌∷◌, ◌++◌, length, take, drop, get_or, refl, ap, subst, Option, Some, None, arith, length-append, below_more}
+use Rattle.std.proofs.Math.Seq.{take-append_seam}
+use Rattle.gl_goal.specs.Rule.{Rule, IsTuple, IsInTimeOrder, IsLegal, IsOptimum, chosen, value}
+use Rattle.gl_goal.specs.declared.plain.Best.{Best}
+use Rattle.gl_goal.specs.Best.{IsAtLeast, IsBegun, IsSound, last_of, total_of}
+
+-- one more place
+pub fits_more : (axes : List (List ℕ)) (tuple : List ℕ) (place : ℕ) → IsTuple (take (length tuple) axes) tuple → length tuple < length axes → place < length (get_or axes (length tuple) []) → IsTuple (take (length (tuple ++ place ∷ [])) axes) (tuple ++ place ∷ [])
+fits_more [] tuple place fits room inside = absurd (omega arith)
+fits_more (axis ∷ axes) [] place fits room inside = (inside, tt)
+fits_more (axis ∷ axes) (first ∷ tuple) place fits room inside = (fits.0, fits_more axes tuple place fits.1 (omega arith) inside)
+
+-- what a longer tuple chooses
+pub chosen-append : (axes : List (List ℕ)) (tuple : List ℕ) (place : ℕ) (rest : List ℕ) → length tuple < length axes → chosen axes (tuple ++ place ∷ rest) ≡ chosen axes tuple ++ (get_or (get_or axes (length tuple) []) place 0 ∷ chosen (drop (suc (length tuple)) axes) rest)
+chosen-append [] tuple place rest room = absurd (omega arith)
+chosen-append (axis ∷ axes) [] place rest room = refl
+chosen-append (axis ∷ axes) (first ∷ tuple) place rest room = ap (λ numbers. get_or axis first 0 ∷ numbers) (chosen-append axes tuple place rest (omega arith))
+
+pub chosen-nothing : (axes : List (List ℕ)) → chosen axes [] ≡ []
+chosen-nothing [] = refl
+chosen-nothing (axis ∷ axes) = refl
+
+pub last_of-append : (xs : List ℕ) (x : ℕ) → last_of (xs ++ x ∷ []) ≡ x
+last_of-append [] x = refl
+last_of-append (y ∷ []) x = refl
+last_of-append (y ∷ z ∷ xs) x = last_of-append (z ∷ xs) x
+
+pub order_more : (xs : List ℕ) (x : ℕ) → IsInTimeOrder xs → last_of xs ≤ x → IsInTimeOrder (xs ++ x ∷ [])
+order_more [] x order last = tt
+order_more (y ∷ []) x order last = (last, tt)
+order_more (y ∷ z ∷ xs) x order last = (order.0, order_more (z ∷ xs) x order.1 last)
+
+pub order_at : (xs : List ℕ) (x : ℕ) (ys : List ℕ) → IsInTimeOrder (xs ++ x ∷ ys) → last_of xs ≤ x
+order_at [] x ys order = omega arith
+order_at (y ∷ []) x ys order = order.0
+order_at (y ∷ z ∷ xs) x ys order = order_at (z ∷ xs) x ys order.1
+
+-- the rest of a tuple begins with a place on the next axis
+pub next_place : (axes : List (List ℕ)) (tuple rest : List ℕ) → IsTuple axes (tuple ++ rest) → length tuple < length axes → (place : ℕ) × (more : List ℕ) × (rest ≡ place ∷ more) × (place < length (get_or axes (length tuple) []))
+next_place [] tuple rest fits room = absurd (omega arith)
+next_place (axis ∷ axes) [] [] fits room = absurd fits
+next_place (axis ∷ axes) [] (place ∷ more) fits room = (place, more, refl, fits.0)
+next_place (axis ∷ axes) (first ∷ tuple) rest fits room = next_place axes tuple rest fits.1 (omega arith)
+
+-- a tuple on all axes has no rest
+pub no_rest : (axes : List (List ℕ)) (tuple rest : List ℕ) → IsTuple axes (tuple ++ rest) → length tuple ≡ length axes → tuple ++ rest ≡ tuple
+no_rest [] [] [] fits full = refl
+no_rest [] [] (place ∷ rest) fits full = absurd fits
+no_rest [] (first ∷ tuple) rest fits full = absurd fits
+no_rest (axis ∷ axes) [] rest fits full = absurd (omega arith)
+no_rest (axis ∷ axes) (first ∷ tuple) rest fits full = ap (λ places. first ∷ places) (no_rest axes tuple rest fits.1 (omega arith))
+
+pub whole : (axes : List (List ℕ)) (tuple : List ℕ) → IsTuple (take (length tuple) axes) tuple → length tuple ≡ length axes → IsTuple axes tuple
+whole [] [] fits full = tt
+whole [] (first ∷ tuple) fits full = absurd (omega arith)
+whole (axis ∷ axes) [] fits full = absurd (omega arith)
+whole (axis ∷ axes) (first ∷ tuple) fits full = (fits.0, whole axes tuple fits.1 (omega arith))
+
+-- a tuple that is begun goes on with any place whose fix isn't too early
+pub begun_more : (rule : Rule) (tuple : List ℕ) (earliest place fix : ℕ) → IsBegun rule tuple earliest → length tuple < length rule.axes → place < length (get_or rule.axes (length tuple) []) → fix ≡ get_or (get_or rule.axes (length tuple) []) place 0 → earliest ≤ fix → IsBegun rule (tuple ++ place ∷ []) fix
+begun_more rule tuple earliest place fix begun room inside is late =
+    let numbers = chosen rule.axes tuple in
+    let only = ap (λ (more : List ℕ). numbers ++ fix ∷ more) (chosen-nothing (drop (suc (length tuple)) rule.axes)) in
+    let named = ap (λ (number : ℕ). numbers ++ number ∷ chosen (drop (suc (length tuple)) rule.axes) []) (sym is) in
+    let longer : chosen rule.axes (tuple ++ place ∷ []) ≡ numbers ++ fix ∷ [] = chosen-append rule.axes tuple place [] room ∙ named ∙ only in
+    record {
+      fits = fits_more rule.axes tuple place begun.fits room inside;
+      within = simp length-append (omega arith);
+      in_order = rw longer (order_more numbers fix begun.in_order (omega arith));
+      last = rw longer (sym (last_of-append numbers fix));
+    }
+
+-- a legal tuple goes on with no earlier fix
+pub legal_is_late : (rule : Rule) (tuple : List ℕ) (earliest place : ℕ) (rest : List ℕ) → IsBegun rule tuple earliest → length tuple < length rule.axes → IsLegal rule (tuple ++ place ∷ rest) → earliest ≤ get_or (get_or rule.axes (length tuple) []) place 0
+legal_is_late rule tuple earliest place rest begun room legal =
+    let order = rw (chosen-append rule.axes tuple place rest room) at legal.in_order in
+    let late = order_at _ _ _ order in
+    omega arith
+
+-- what was found is no less, whichever equal number it is asked at
+pub at_least_along : (rule : Rule) (found : Option Best) (t u : List ℕ) → t ≡ u → IsAtLeast (value rule t) found → IsAtLeast (value rule u) found
+at_least_along rule found t u same = let P : List ℕ → Type 0 = λ tuple. IsAtLeast (value rule tuple) found in subst P same
+
+pub legal_along : (rule : Rule) (t u : List ℕ) → t ≡ u → IsLegal rule t → IsLegal rule u
+legal_along rule t u same = let P : List ℕ → Type 0 = λ tuple. IsLegal rule tuple in subst P same
+
+-- after a push and a pop the list is as it was
+pub take_pushed : (xs ys : List ℕ) (x n : ℕ) → ys ≡ xs ++ x ∷ [] → n ≡ length ys → take (n - 1) ys ≡ xs
+take_pushed xs ys x n pushed is =
+    let short : n - 1 ≡ length xs = omega (arith, is ∙ ap length pushed, length-append xs (x ∷ [])) in
+    rw (short, pushed) (take-append_seam xs (x ∷ []))
+
+-- what holds of each earlier place, and of this one, holds of each place up to it
+pub tried_more : (rule : Rule) (tuple : List ℕ) (place : ℕ) (found : Option Best) → ((earlier : ℕ) (rest : List ℕ) → earlier < place → IsLegal rule (tuple ++ earlier ∷ rest) → IsAtLeast (value rule (tuple ++ earlier ∷ rest)) found) → ((rest : List ℕ) → IsLegal rule (tuple ++ place ∷ rest) → IsAtLeast (value rule (tuple ++ place ∷ rest)) found) → (any : ℕ) (rest : List ℕ) → any < place + 1 → IsLegal rule (tuple ++ any ∷ rest) → IsAtLeast (value rule (tuple ++ any ∷ rest)) found
+tried_more rule tuple place found before here any rest below =
+    let P : ℕ → Type 0 = λ at. IsLegal rule (tuple ++ at ∷ rest) → IsAtLeast (value rule (tuple ++ at ∷ rest)) found in
+    below_more P place (λ earlier less. before earlier rest less) (here rest) any below
+
+pub begun_nothing : (rule : Rule) → IsBegun rule [] 0
+begun_nothing rule =
+    let nothing = chosen-nothing rule.axes in
+    record { fits = tt; within = omega arith; in_order = rw nothing tt; last = rw nothing refl }
+
+-- what covers each tuple that goes on from nothing is the optimum
+pub optimum_from : (rule : Rule) (start : List ℕ) (found : Option Best) → start ≡ [] → IsSound rule found → ((rest : List ℕ) → IsLegal rule (start ++ rest) → IsAtLeast (value rule (start ++ rest)) found) → IsOptimum rule (total_of found)
+optimum_from rule start None nothing sound covers = λ tuple legal.
+    let same : tuple ≡ start ++ tuple = ap (λ front. front ++ tuple) (sym nothing) in
+    absurd (covers tuple (legal_along rule _ _ same legal))
+optimum_from rule start (Some best) nothing sound covers = ((best.tuple.items, sound), λ tuple legal.
+    let same : tuple ≡ start ++ tuple = ap (λ front. front ++ tuple) (sym nothing) in
+    at_least_along rule (Some best) _ _ (sym same) (covers tuple (legal_along rule _ _ same legal)))

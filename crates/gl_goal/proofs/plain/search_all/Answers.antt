@@ -1,0 +1,15 @@
+use Rattle.std.proofs.Common.{rules, ◌≡◌, ℕ, ◌≤◌, ◌<◌, List, [], ◌∷◌, ◌++◌, Option, None, Some, length, take, arith, refl, subst, sym}
+use Rattle.gl_goal.specs.declared.plain.Best.{Best}
+use Rattle.gl_goal.specs.Rule.{Rule, IsTuple, IsLegal, IsOptimum, IsReached, chosen, value}
+use Rattle.gl_goal.specs.Best.{IsAtLeast, IsBegun, IsSound, last_of, total_of}
+use Rattle.gl_goal.proofs.Tuples.{begun_nothing, optimum_from}
+use Rattle.gl_goal.proofs.plain.search_all.Goals as goal
+
+pub extend-requires-clause-begun : goal.extend-requires-clause-begun
+extend-requires-clause-begun g c =
+    let P : List ℕ → Type 0 = λ tuple. IsBegun (g.G.Goal.rule c.args.goal.now) tuple 0 in
+    subst P (sym c.in_ok-tuple.ensures.items) (begun_nothing (g.G.Goal.rule c.args.goal.now))
+
+pub returns-clause-optimum : goal.returns-clause-optimum
+returns-clause-optimum g c =
+    optimum_from (g.G.Goal.rule c.args.goal.now) c.in_ok-tuple.tuple.items c.extend.new.best c.in_ok-tuple.ensures.items c.in_ok-extend.ensures.sound c.in_ok-extend.ensures.covers

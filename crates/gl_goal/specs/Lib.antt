@@ -1,0 +1,4 @@
+pub mod Rule
+pub mod Best
+pub mod Free
+pub mod FreeGoal

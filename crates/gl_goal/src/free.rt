@@ -1,0 +1,16 @@
+ghost use Rattle.std.specs.Prelude.{◌<◌, ◌≤◌, vec_len};
+
+use gl_igc::Fix;
+
+/// The free distance over some fixes of a recording: five fixes in time order, worth the four legs between them, of
+/// which the last is at most `loss` metres lower than the first.
+#[derive(Debug, Drop)]
+pub struct FreeGoal {
+    pub(crate) fixes: Vec<Fix>,
+    pub(crate) first: u32,
+    pub(crate) last: u32,
+    pub(crate) loss: i32,
+    pub ghost in_order: { first ≤ last },
+    pub ghost within: { last < vec_len fixes },
+    pub ghost at_most_90000: { vec_len fixes ≤ 90_000 },
+}

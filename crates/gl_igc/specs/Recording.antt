@@ -1,0 +1,30 @@
+-- What the types of the code say, as plain data.
+use Rattle.std.specs.Prelude.{ℕ, List, map, Option, None, Some, option_map, ℤ}
+use Rattle.gl_igc.specs.declared.fix.Fix.{Fix}
+use Rattle.gl_igc.specs.declared.recording.Recording.{Recording}
+use Rattle.gl_igc.specs.declared.recording.Declared.{Declared}
+use Rattle.gl_sphere.specs.declared.place.Grid.{Grid}
+use Rattle.gl_igc.specs.Plain.{Sighting, Reading}
+
+-- what a fix says
+abbrev pub sighting_of : Fix → Sighting
+sighting_of fix = record { second = fix.second; lat = fix.grid.lat; lon = fix.grid.lon; alt = fix.alt; enl = fix.enl }
+
+-- a place as its latitude and longitude
+abbrev pub place_of : Grid → ℤ × ℤ
+place_of grid = (grid.lat, grid.lon)
+
+-- the declared places
+abbrev pub declared_of : Option Declared → Option (List (ℤ × ℤ))
+declared_of None = None
+declared_of (Some declared) = Some (map place_of declared.points.items)
+
+-- what a recording says
+abbrev pub reading_of : Recording → Reading
+reading_of r = record {
+  date = r.date;
+  fixes = map sighting_of r.fixes.items;
+  events = r.events.items;
+  declared = declared_of r.declared;
+  skipped = r.skipped;
+}

@@ -1,0 +1,29 @@
+ghost use Rattle.std.specs.Prelude.{◌≤◌, vec_len};
+
+use crate::fix::Fix;
+use gl_sphere::Grid;
+
+/// The places that a pilot declared before the flight: take-off, start, turn points, finish and landing, in order.
+#[derive(Debug, Drop)]
+pub struct Declared {
+    pub points: Vec<Grid>,
+    pub ghost at_least_four: { 4 ≤ vec_len points },
+    pub ghost at_most_103: { vec_len points ≤ 103 },
+}
+
+/// What a flight recorder wrote of one flight.
+#[derive(Debug, Drop)]
+pub struct Recording {
+    /// The day, as the number of days from 1970-01-01.
+    pub date: i32,
+    /// The used fixes; their seconds rise.
+    pub fixes: Vec<Fix>,
+    /// The seconds of the pilot's events, in the order of the file.
+    pub events: Vec<i32>,
+    /// The declared places, if the declaration is whole.
+    pub declared: Option<Declared>,
+    /// How many B lines gave no fix.
+    pub skipped: u32,
+    pub ghost some_fix: { 1 ≤ vec_len fixes },
+    pub ghost at_most_90000: { vec_len fixes ≤ 90_000 },
+}

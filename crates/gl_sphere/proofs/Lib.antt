@@ -1,0 +1,3 @@
+pub mod Arcs
+pub mod Roots
+pub mod Vectors

@@ -1,0 +1,37 @@
+use Rattle.std.specs.Prelude.{ℕ, zero, suc, ◌+◌, ◌*◌, ◌/◌, nat_le, if◌then◌else◌, ℤ, ◌-ℤ◌, unsigned_abs}
+use Rattle.gl_sphere.specs.declared.place.Vec3.{Vec3}
+use Rattle.gl_sphere.specs.declared.sphere.TheConstants.{RADIUS}
+
+-- the square of the difference of two components
+unfoldable pub squared_gap : ℤ → ℤ → ℕ
+squared_gap a b = unsigned_abs (a -ℤ b) * unsigned_abs (a -ℤ b)
+
+-- the squared length of the chord between two points
+unfoldable pub squared_chord : Vec3 → Vec3 → ℕ
+squared_chord a b = squared_gap a.x b.x + squared_gap a.y b.y + squared_gap a.z b.z
+
+-- the square root rounded down, which grows by one at each square
+unfoldable pub floor_root : ℕ → ℕ
+floor_root zero = 0
+floor_root (suc n) =
+    let r = floor_root n in if nat_le ((r + 1) * (r + 1)) (suc n) then r + 1 else r
+
+-- the second term of 2R·arcsin(c / 2R) for a chord c
+unfoldable pub third_order : ℕ → ℕ
+third_order c = c * c * c / (24 * (RADIUS * RADIUS))
+
+-- the third term
+unfoldable pub fifth_order : ℕ → ℕ
+fifth_order c = 9 * third_order c * (c * c) / (80 * (RADIUS * RADIUS))
+
+-- the fourth term
+unfoldable pub seventh_order : ℕ → ℕ
+seventh_order c = 25 * fifth_order c * (c * c) / (168 * (RADIUS * RADIUS))
+
+-- the first four terms of 2R·arcsin(c / 2R), the arc over a chord c
+unfoldable pub arc_over : ℕ → ℕ
+arc_over c = c + third_order c + fifth_order c + seventh_order c
+
+-- the distance along the surface of two points with the squared chord q
+unfoldable pub written_distance : ℕ → ℕ
+written_distance q = arc_over (floor_root q)

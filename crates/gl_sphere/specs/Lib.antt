@@ -1,0 +1,6 @@
+pub mod Distance
+pub mod Laws
+pub mod Place
+pub mod Product
+pub mod Range
+pub mod Sine

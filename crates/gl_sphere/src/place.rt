@@ -1,0 +1,26 @@
+ghost use Rattle.gl_sphere.specs.Range.{IsWithin};
+ghost use Rattle.gl_sphere.specs.declared.sphere.TheConstants.{HALF_TURN, QUARTER_TURN, RADIUS};
+
+/// A place on the sphere, in 1/100,000 minute. North and east are positive.
+#[derive(Clone, Copy, Debug, PartialEq, Eq)]
+pub struct Grid {
+    /// From -540,000,000, the south pole, to 540,000,000.
+    pub lat: i32,
+    /// From -1,080,000,000 to 1,080,000,000.
+    pub lon: i32,
+    pub ghost lat_in_range: { IsWithin QUARTER_TURN lat },
+    pub ghost lon_in_range: { IsWithin HALF_TURN lon },
+}
+
+/// A point in whole centimetres from the centre of the sphere, each component within the radius.
+///
+/// The x axis leads to latitude 0 and longitude 0, the y axis to 90 degrees east, the z axis to the north pole.
+#[derive(Clone, Copy, Debug, PartialEq, Eq)]
+pub struct Vec3 {
+    pub x: i32,
+    pub y: i32,
+    pub z: i32,
+    pub ghost x_in_range: { IsWithin RADIUS x },
+    pub ghost y_in_range: { IsWithin RADIUS y },
+    pub ghost z_in_range: { IsWithin RADIUS z },
+}

@@ -1,0 +1,44 @@
+ghost use Rattle.std.specs.Prelude.{◌≡◌};
+ghost use Rattle.gl_sphere.specs.Place.{written_vector};
+ghost use Rattle.gl_sphere.specs.Product.{product, scaled};
+ghost use Rattle.gl_sphere.specs.Range.{IsWithin};
+
+use crate::place::{Grid, Vec3};
+use crate::sine::{product_over, wcos, wsin};
+use crate::sphere::{RADIUS, UNIT};
+
+/// The point of a place.
+pub fn vector(g: Grid) -> Vec3
+    ensures { result ≡ written_vector g }
+{
+    let lat = g.lat as i64;
+    let lon = g.lon as i64;
+    let from_axis = wcos(lat);
+    Vec3 {
+        x: scale(mul(from_axis, wcos(lon))),
+        y: scale(mul(from_axis, wsin(lon))),
+        z: scale(wsin(lat)),
+    }
+}
+
+// The product of two sines or cosines.
+fn mul(a: i64, b: i64) -> i64
+    requires a_in_range { IsWithin UNIT a }
+    requires b_in_range { IsWithin UNIT b }
+    ensures value { result ≡ product a b }
+    ensures bound { IsWithin UNIT result }
+{
+    let size = product_over(a.unsigned_abs(), b.unsigned_abs(), UNIT) as i64;
+    if (a < 0) == (b < 0) { size } else { -size }
+}
+
+// A sine, a cosine or a product of two, as a length along the radius, in centimetres, rounded half away from the centre.
+fn scale(m: i64) -> i32
+    requires { IsWithin UNIT m }
+    ensures value { result ≡ scaled m }
+    ensures bound { IsWithin RADIUS result }
+{
+    let doubled = m.unsigned_abs() as u128 * (2 * RADIUS) as u128;
+    let length = ((doubled + UNIT as u128) / (2 * UNIT) as u128) as i32;
+    if m < 0 { -length } else { length }
+}

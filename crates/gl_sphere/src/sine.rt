@@ -1,0 +1,75 @@
+ghost use Rattle.std.specs.Prelude.{◌≡◌, ◌+◌, ◌*◌, ◌/◌, ◌^◌, ◌<◌, ◌≤◌, pos};
+ghost use Rattle.gl_sphere.specs.Range.{IsWithin};
+ghost use Rattle.gl_sphere.specs.Sine.{quarter_sine, half_turn_sine, written_sine, written_cosine};
+
+use crate::sphere::{HALF_TURN, PI, QUARTER_TURN, UNIT};
+
+/// The written sine of an angle in 1/100,000 minute, where `UNIT` is one.
+pub fn wsin(n: i64) -> i64
+    requires { IsWithin HALF_TURN n }
+    ensures value { result ≡ written_sine n }
+    ensures bound { IsWithin UNIT result }
+{
+    let sine = first_half(n.unsigned_abs()) as i64;
+    if n < 0 { -sine } else { sine }
+}
+
+/// The written cosine of an angle in 1/100,000 minute, where `UNIT` is one.
+pub fn wcos(n: i64) -> i64
+    requires { IsWithin HALF_TURN n }
+    ensures value { result ≡ written_cosine n }
+    ensures bound { IsWithin UNIT result }
+{
+    wsin(QUARTER_TURN as i64 - n.unsigned_abs() as i64)
+}
+
+// The sine of an angle from 0 to 180 degrees.
+fn first_half(n: u64) -> u64
+    requires { n ≤ HALF_TURN }
+    ensures value { pos result ≡ half_turn_sine n }
+    ensures bound { result ≤ UNIT }
+{
+    if n <= QUARTER_TURN {
+        first_quarter(n)
+    } else {
+        first_quarter(HALF_TURN - n)
+    }
+}
+
+// The sine of an angle from 0 to 90 degrees: eleven terms of its series, the first of them and then two a turn.
+fn first_quarter(n: u64) -> u64
+    requires { n ≤ QUARTER_TURN }
+    ensures value { pos result ≡ quarter_sine n }
+    ensures bound { result ≤ UNIT }
+{
+    let x = product_over(n, PI, HALF_TURN);
+    let square = product_over(x, x, UNIT);
+    let mut term = x;
+    let mut sum = x;
+    for pair in 0..5u64 {
+        let odd = next_term(term, square, 2 * pair);
+        term = next_term(odd, square, 2 * pair + 1);
+        sum = sum - odd + term;
+    }
+    sum.min(UNIT)
+}
+
+// The term of the series after term k, where `square` is the square of the angle.
+fn next_term(term: u64, square: u64, k: u64) -> u64
+    requires term_in_range { term ≤ 2 * UNIT }
+    requires square_in_range { square ≤ 3 * UNIT }
+    requires k_in_range { k < 10 }
+    ensures value { result ≡ term * square / UNIT / ((2 * k + 2) * (2 * k + 3)) }
+    ensures bound { result ≤ term }
+{
+    product_over(term, square, UNIT) / ((2 * k + 2) * (2 * k + 3))
+}
+
+/// The product of two numbers over a divisor, rounded down.
+pub fn product_over(a: u64, b: u64, divisor: u64) -> u64
+    requires divides { 0 < divisor }
+    requires fits { a * b / divisor < 2 ^ 64 }
+    ensures { result ≡ a * b / divisor }
+{
+    (a as u128 * b as u128 / divisor as u128) as u64
+}
