@@ -1,23 +1,26 @@
-use Rattle.std.proofs.Common.{◌≡◌, ◌≢◌, ◌↔◌, ℕ, Bool, true, false, List, [], ◌++◌, Option, None, Some, IsSome, IfSome, unwrap_or, Result, Ok, Err, OnErr, Decides, refl, sym, ap, subst, ◌∙◌, append_assoc, inl, inr}
-use Rattle.std.specs.Prelude.{take, AllPairs, Contains, is_some, option_map}
+use Rattle.std.proofs.Common.{◌≡◌, ◌≢◌, ◌↔◌, ℕ, Bool, true, false, List, [], ◌++◌, Option, None, Some, IsSome, IfSome, unwrap_or, Result, Ok, Err, Decides, refl, sym, ap, subst, ◌∙◌, append_assoc}
+use Rattle.std.specs.Prelude.{Contains, is_some, option_map}
 use Rattle.std.specs.Ordering.{nat_cmp, is_eq, eq_by_cmp}
 use Rattle.std.specs.Cmp.{eq_by_cmp_equiv}
 use Rattle.std.specs.Cmp.Lexicographic.{slice_cmp, nat_list_cmp_total}
 use Rattle.std.specs.BTreeMap.{UpdatesBy, IsOrdered, keys}
 use Rattle.std.proofs.lemmas.Bool.{false_from_ne_true}
-use Rattle.std.proofs.lemmas.List.{append-nil}
 use Rattle.std.proofs.lemmas.Map.Keys.{IsDistinct-from_sorted}
 use Rattle.std.proofs.lemmas.Map.Made.{AllPairs-from_IsDistinct, is_member-Decides, is_some-lookup}
 use Rattle.std.proofs.lemmas.Map.Text.{is_eq-slice_cmp}
 use Rattle.std.proofs.lemmas.Slice.Eq.{bytes_eq-Decides}
-use Rattle.gl_desk.specs.Desk.{ListsNames, TookPrefix, Took, output_of, file_of, followed_by, grown_by}
-use Rattle.gl_desk.specs.MemDesk.{StoredFile, StoredFiles, stored, bytes_of, appended_to, with_piece, files_in, outputs_in}
+use Rattle.gl_desk.specs.declared.error.DeskError.{DeskError}
+use Rattle.gl_desk.specs.declared.error.DeskError.TheVariants.{Failed, Memory}
+use Rattle.gl_desk.specs.declared.mem.MemDesk.{MemDesk}
+use Rattle.gl_desk.specs.Answers.{OnMemory}
+use Rattle.gl_desk.specs.Desk.{ListsNames}
+use Rattle.gl_desk.specs.MemDesk.{StoredFile, StoredFiles, stored, bytes_of, appended_to, with_piece, files_in, outputs_in, IsSameUnder, Appends}
 
 -- the order of names ties two names exactly where they are one
-abbrev same_name : List ℕ → List ℕ → Bool
+abbrev pub same_name : List ℕ → List ℕ → Bool
 same_name = eq_by_cmp (slice_cmp nat_cmp)
 
-same_name-Decides : (a b : List ℕ) → Decides (same_name a b) (a ≡ b)
+pub same_name-Decides : (a b : List ℕ) → Decides (same_name a b) (a ≡ b)
 same_name-Decides a b = rw is_eq-slice_cmp (bytes_eq-Decides a b)
 
 -- a change under one name leaves the others
@@ -54,29 +57,21 @@ pub grown_output : (old new : StoredFiles) (name piece : List ℕ) → stored ne
 unfolding outputs_in
 grown_output old new name piece grown = ap appended_to grown ∙ output_with_piece (stored old name) piece
 
--- a call that appended this part
-abbrev pub Appended : StoredFiles → StoredFiles → List ℕ → List ℕ → Type 0
-Appended old new name part =
-    (output_of (Some (outputs_in new)) name ≡ followed_by (output_of (Some (outputs_in old)) name) part)
-    × Took (file_of (Some (files_in old)) name) (file_of (Some (files_in new)) name) part
+pub same_under : (old new : MemDesk) (name : List ℕ) → stored new.files name ≡ stored old.files name → IsSameUnder old new name
+same_under old new name same =
+    record { file = same_file old.files new.files name same; output = same_output old.files new.files name same }
 
--- the first part of the piece was appended
-pub took_part : (old new : StoredFiles) (name piece : List ℕ) (n : ℕ) → stored new name ≡ Some (with_piece (stored old name) (take n piece))
-    → TookPrefix piece (Appended old new name)
-took_part old new name piece n grown =
-    (n, (ap Some (grown_output old new name _ grown), inl (ap Some (grown_file old new name _ grown))))
+pub appends : (old new : MemDesk) (name part : List ℕ) → stored new.files name ≡ Some (with_piece (stored old.files name) part) → Appends old new name part
+appends old new name part grown =
+    record { file = grown_file old.files new.files name part grown; output = grown_output old.files new.files name part grown }
 
--- nothing was appended
-pub took_nothing : (old new : StoredFiles) (name piece : List ℕ) → stored new name ≡ stored old name → TookPrefix piece (Appended old new name)
-took_nothing old new name piece same =
-    (0, (ap Some (same_output old new name same ∙ sym (append-nil (outputs_in old name))), inr (refl, ap Some (same_file old new name same))))
-
-pub on_err : {X E P : Type 0} (r : Result X E) → P → OnErr r P
-on_err (Ok x) p = tt
-on_err (Err e) p = p
+pub on_memory : {X P : Type 0} (r : Result X DeskError) → P → OnMemory r P
+on_memory (Ok x) p = tt
+on_memory (Err Failed) p = tt
+on_memory (Err Memory) p = p
 
 -- the keys of the files are the folder's names, each once
-is_some-bytes_of : (file : Option StoredFile) → is_some (option_map bytes_of file) ≡ is_some file
+pub is_some-bytes_of : (file : Option StoredFile) → is_some (option_map bytes_of file) ≡ is_some file
 is_some-bytes_of None = refl
 is_some-bytes_of (Some file) = refl
 

@@ -15,6 +15,12 @@ OnFailed (Ok x) P = ⊤
 OnFailed (Err Failed) P = P
 OnFailed (Err Memory) P = ⊤
 
+-- the fact holds where the answer of a desk is `Memory`
+abbrev pub OnMemory : {X : Type 0} → Result X DeskError → Type 0 → Type 0
+OnMemory (Ok x) P = ⊤
+OnMemory (Err Failed) P = ⊤
+OnMemory (Err Memory) P = P
+
 -- the fact holds at every answer but `Failed`
 abbrev pub UnlessFailed : {X : Type 0} → Result X DeskError → Type 0 → Type 0
 UnlessFailed (Ok x) P = P

@@ -12,7 +12,7 @@ pub struct Calls {
 }
 
 impl Calls {
-    ghost use Rattle.gl_desk.specs.MemDesk.{IsDue};
+    ghost use Rattle.gl_desk.specs.MemDesk.{IsNextDue};
 
     /// Before the first call. The k-th, counted from 1, is to fail where `failing` holds k.
     pub fn new(failing: Vec<u64>) -> Calls
@@ -30,7 +30,7 @@ impl Calls {
     /// Counts a call, and tells whether it is one that fails. Once 2^64 - 1 calls were made, a
     /// call has no number and doesn't fail.
     pub fn is_next_due(&mut self) -> bool
-        ensures due { IsTrue result ↔ IsDue self.old }
+        ensures due { IsTrue result ↔ IsNextDue self.old }
         ensures made { self.new.made ≡ min (self.old.made + 1) (2 ^ 64 - 1) }
         ensures room { IsTrue result → self.new.failed < self.new.made }
         ensures failed { self.new.failed ≡ self.old.failed }

@@ -1,6 +1,11 @@
-ghost use Rattle.std.specs.Prelude.{◌≡◌, ◌≢◌, ℕ, List, AllPairs, IfOk, OnOk, OnErr, Some};
-ghost use Rattle.gl_desk.specs.Desk.{ListsNames};
-ghost use Rattle.gl_desk.specs.MemDesk.{StoredFiles, stored, with_piece, files_in};
+ghost use Rattle.std.specs.Prelude.{◌≡◌, ◌≢◌, ◌≤◌, ◌/◌, ◌++◌, ℕ, List, take, length, IsTrue, IfOk, IsSome, IfSome, OnOk, OnErr, Some, []};
+ghost use Rattle.std.specs.Ordering.{nat_cmp};
+ghost use Rattle.std.specs.Cmp.Lexicographic.{slice_cmp};
+ghost use Rattle.std.specs.BTreeMap.{is_at};
+ghost use Rattle.std.specs.Map.{keys_of, lookup};
+ghost use Rattle.gl_desk.specs.Answers.{OnFailed, OnMemory};
+ghost use Rattle.gl_desk.specs.Desk.{ListsNames, ReadsFrom};
+ghost use Rattle.gl_desk.specs.MemDesk.{all_differ, given_files, stored, with_piece, files_in};
 
 use crate::calls::Calls;
 use crate::desk::Desk;
@@ -19,20 +24,25 @@ pub struct MemDesk {
 }
 
 impl MemDesk {
+    ghost use Rattle.std.specs.Option.{option_copied};
+    ghost use Rattle.gl_desk.specs.MemDesk.{files_of, outputs_of, said_to, faults_of, calls_of, failing_of, HoldsFiles};
+
     /// A desk with these files, whose k-th call, counted from 1, fails where `failing` holds k.
     pub fn new(
         alloc: Global,
         files: Vec<(Name, Vec<u8>)>,
         failing: Vec<u64>,
     ) -> Result<MemDesk, AllocError>
-        requires { AllPairs (λ one other. one.0 ≢ other.0) files.items }
+        requires { IsTrue (all_differ (keys_of files.items)) }
+        ensures files { IfOk result (λ desk. HoldsFiles files.items (files_of desk)) }
+        ensures outputs { IfOk result (λ desk. (name : List ℕ) → outputs_of desk name ≡ []) }
+        ensures said { IfOk result (λ desk. said_to desk ≡ []) }
+        ensures faults { IfOk result (λ desk. faults_of desk ≡ 0) }
+        ensures calls { IfOk result (λ desk. calls_of desk ≡ 0) }
+        ensures failing { IfOk result (λ desk. failing_of desk ≡ failing.items) }
     {
-        let mut stored = BTreeMap::new(alloc);
-        for (name, bytes) in files {
-            stored.insert(name, MemFile::given(bytes))?;
-        }
         Ok(MemDesk {
-            files: stored,
+            files: store(alloc, files)?,
             said: Vec::new(alloc),
             calls: Calls::new(failing),
         })
@@ -40,16 +50,33 @@ impl MemDesk {
 
     /// What was said so far.
     pub fn printed(&self) -> &[u8]
-        ensures { result.now ≡ self.now.said.items }
+        ensures { result.now ≡ said_to self.now }
     {
         self.said.as_slice()
     }
 
     /// What the file with this name holds, if there is one.
-    pub fn file(&self, name: &Name) -> Option<&[u8]> {
+    pub fn file(&self, name: &Name) -> Option<&[u8]>
+        ensures { option_copied result ≡ files_of self.now name.now }
+    {
         let file = self.files.get(name)?;
         Some(file.bytes())
     }
+}
+
+/// The files by their names, which differ.
+fn store(
+    alloc: Global,
+    files: Vec<(Name, Vec<u8>)>,
+) -> Result<BTreeMap<Name, MemFile>, AllocError>
+    requires { IsTrue (all_differ (keys_of files.items)) }
+    ensures { IfOk result (λ made. (name : List ℕ) → stored made name ≡ lookup (is_at (slice_cmp nat_cmp name)) (given_files files.items)) }
+{
+    let mut made = BTreeMap::new(alloc);
+    for (name, bytes) in files {
+        made.insert(name, MemFile::given(bytes))?;
+    }
+    Ok(made)
 }
 
 /// The names of the files.
@@ -86,7 +113,7 @@ fn add(
 
 impl Desk for MemDesk {
     ghost use Rattle.std.specs.Prelude.{Some};
-    ghost use Rattle.gl_desk.specs.MemDesk.{files_in, outputs_in};
+    ghost use Rattle.gl_desk.specs.MemDesk.{files_in, outputs_in, files_of, outputs_of, said_to, CountsCall, FailsWhenDue, Appends, IsSameUnder};
 
     ghost folder = { λ desk. Some (files_in desk.files) };
 
@@ -96,7 +123,14 @@ impl Desk for MemDesk {
 
     ghost faults = { λ desk. desk.calls.failed };
 
-    fn names(&mut self, alloc: Global) -> Result<Vec<Name>, DeskError> {
+    fn names(&mut self, alloc: Global) -> Result<Vec<Name>, DeskError>
+        ensures listed { IfOk result (λ names. ListsNames (Some (files_of self.old)) names.items) }
+        ensures due { FailsWhenDue result self.old self.new }
+        ensures counted { CountsCall self.old self.new }
+        ensures same_files { files_of self.new ≡ files_of self.old }
+        ensures same_said { said_to self.new ≡ said_to self.old }
+        ensures same_outputs { outputs_of self.new ≡ outputs_of self.old }
+    {
         if self.calls.is_next_due() {
             return Err(self.calls.fail());
         }
@@ -109,7 +143,16 @@ impl Desk for MemDesk {
         name: &Name,
         at: u64,
         into: &mut [u8],
-    ) -> Result<usize, DeskError> {
+    ) -> Result<usize, DeskError>
+        requires { IsSome (files_of self.old name.now) }
+        ensures within { IfOk result (λ n. n ≤ length into.new) }
+        ensures bytes { IfOk result (λ n. IfSome (files_of self.old name.now) (λ file. ReadsFrom file at into.new n)) }
+        ensures due { FailsWhenDue result self.old self.new }
+        ensures counted { CountsCall self.old self.new }
+        ensures same_files { files_of self.new ≡ files_of self.old }
+        ensures same_said { said_to self.new ≡ said_to self.old }
+        ensures same_outputs { outputs_of self.new ≡ outputs_of self.old }
+    {
         if self.calls.is_next_due() {
             return Err(self.calls.fail());
         }
@@ -117,7 +160,15 @@ impl Desk for MemDesk {
         Ok(copy_from(file.bytes(), at, into))
     }
 
-    fn append(&mut self, alloc: Global, name: &Name, piece: &[u8]) -> Result<(), DeskError> {
+    fn append(&mut self, alloc: Global, name: &Name, piece: &[u8]) -> Result<(), DeskError>
+        ensures appended { OnOk result (Appends self.old self.new name.now piece.now) }
+        ensures half { OnFailed result (Appends self.old self.new name.now (take (length piece.now / 2) piece.now)) }
+        ensures nothing { OnMemory result (IsSameUnder self.old self.new name.now) }
+        ensures others { (other : List ℕ) → other ≢ name.now → IsSameUnder self.old self.new other }
+        ensures due { FailsWhenDue result self.old self.new }
+        ensures counted { CountsCall self.old self.new }
+        ensures same_said { said_to self.new ≡ said_to self.old }
+    {
         if self.calls.is_next_due() {
             add(alloc, &mut self.files, name, &piece[..piece.len() / 2])?;
             return Err(self.calls.fail());
@@ -125,11 +176,37 @@ impl Desk for MemDesk {
         Ok(add(alloc, &mut self.files, name, piece)?)
     }
 
-    fn say(&mut self, _alloc: Global, piece: &[u8]) -> Result<(), DeskError> {
+    fn say(&mut self, _alloc: Global, piece: &[u8]) -> Result<(), DeskError>
+        ensures said { OnOk result (said_to self.new ≡ said_to self.old ++ piece.now) }
+        ensures half { OnFailed result (said_to self.new ≡ said_to self.old ++ take (length piece.now / 2) piece.now) }
+        ensures nothing { OnMemory result (said_to self.new ≡ said_to self.old) }
+        ensures due { FailsWhenDue result self.old self.new }
+        ensures counted { CountsCall self.old self.new }
+        ensures same_files { files_of self.new ≡ files_of self.old }
+        ensures same_outputs { outputs_of self.new ≡ outputs_of self.old }
+    {
         if self.calls.is_next_due() {
             self.said.extend_from_slice(&piece[..piece.len() / 2])?;
             return Err(self.calls.fail());
         }
         Ok(self.said.extend_from_slice(piece)?)
+    }
+}
+
+#[cfg(test)]
+mod tests {
+    use super::*;
+    use std::test::Fail;
+
+    #[test]
+    fn fails_where_told(rt: HostRuntime) -> Result<(), Fail> {
+        let alloc = rt.alloc();
+        let a = Name::from_text(alloc, "A.IGC")?;
+        let b = Name::from_text(alloc, "B.IGC")?;
+        let c = Name::from_text(alloc, "DAY.TOML")?;
+        let files = vec![in alloc; (a, Vec::new(alloc)), (b, Vec::new(alloc)), (c, Vec::new(alloc))]?;
+        let mut desk = MemDesk::new(alloc, files, Vec::new(alloc))?;
+        assert_eq!(rt; desk.names(alloc)?.len(), 3);
+        Ok(())
     }
 }

@@ -1,9 +1,10 @@
 -- Tuples of five places of one axis that has consecutive fix numbers.
 use Rattle.std.proofs.Common.{◌≡◌, ◌∙◌, sym, ap, ℕ, zero, suc, ◌+◌, ◌-◌, ◌<◌, ◌≤◌, List, [], ◌∷◌, length, get_or, refl, arith}
-use Rattle.gl_goal.specs.Rule.{IsTuple, chosen}
-use Rattle.std.specs.Prelude.{◌-ℤ◌, slice_get}
+use Rattle.gl_goal.specs.Rule.{IsTuple, IsLegal, chosen}
+use Rattle.std.specs.Prelude.{◌-ℤ◌, ◌≤ℤ◌, ℤ, pos, int_le, IsTrue, slice_get}
+use Rattle.std.proofs.lemmas.Int.{ints}
 use Rattle.gl_igc.specs.declared.fix.Fix.{Fix}
-use Rattle.gl_goal.specs.Free.{numbers_from, loss_over, altitude}
+use Rattle.gl_goal.specs.Free.{free_goal, numbers_from, loss_over, altitude}
 
 pub length-numbers_from : (first count : ℕ) → length (numbers_from first count) ≡ count
 length-numbers_from first zero = refl
@@ -70,3 +71,15 @@ five_places first last (a ∷ b ∷ c ∷ d ∷ e ∷ []) order fits =
 pub loss_over-five : (fixes : List Fix) (numbers all : List ℕ) (a b c d e : ℕ) → numbers ≡ all → all ≡ a ∷ b ∷ c ∷ d ∷ e ∷ [] → loss_over fixes all ≡ altitude (slice_get fixes (get_or numbers 0 0)) -ℤ altitude (slice_get fixes (get_or numbers 4 0))
 loss_over-five fixes numbers all a b c d e same five =
     ap (loss_over fixes) five ∙ ap (λ (xs : List ℕ). altitude (slice_get fixes (get_or xs 0 0)) -ℤ altitude (slice_get fixes (get_or xs 4 0))) (sym (same ∙ five))
+
+no_loss : (z loss : ℤ) → pos 0 ≤ℤ loss → IsTrue (int_le (z -ℤ z) loss)
+no_loss z loss low = grind (arith, ints)
+
+-- staying at the first fix is legal
+pub stay_legal : (fixes : List Fix) (first last : ℕ) (loss : ℤ) → pos 0 ≤ℤ loss → IsLegal (free_goal fixes first last loss) (0 ∷ 0 ∷ 0 ∷ 0 ∷ 0 ∷ [])
+unfolding free_goal
+stay_legal fixes first last loss low = record {
+  is_tuple = (omega arith, (omega arith, (omega arith, (omega arith, (omega arith, tt)))));
+  in_order = (omega arith, (omega arith, (omega arith, (omega arith, tt))));
+  allowed = no_loss (altitude (slice_get fixes first)) loss low;
+}

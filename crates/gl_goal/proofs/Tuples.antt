@@ -1,5 +1,5 @@
 -- Tuples that begin with the same places, and numbers in time order.
-use Rattle.std.proofs.Common.{◌≡◌, ◌∙◌, sym, ℕ, suc, ◌+◌, ◌-◌, ◌≤◌, ◌<◌, List, [], ◌∷◌, ◌++◌, length, take, drop, get_or, refl, ap, subst, Option, Some, None, arith, length-append, below_more}
+use Rattle.std.proofs.Common.{◌≡◌, ◌∙◌, sym, ℕ, zero, suc, ◌+◌, ◌-◌, ◌≤◌, ◌<◌, List, [], ◌∷◌, ◌++◌, length, take, drop, get_or, refl, ap, subst, Option, Some, None, arith, length-append, below_more}
 use Rattle.std.proofs.Math.Seq.{take-append_seam}
 use Rattle.gl_goal.specs.Rule.{Rule, IsTuple, IsInTimeOrder, IsLegal, IsOptimum, chosen, value}
 use Rattle.gl_goal.specs.declared.plain.Best.{Best}
@@ -110,3 +110,21 @@ optimum_from rule start None nothing sound covers = λ tuple legal.
 optimum_from rule start (Some best) nothing sound covers = ((best.tuple.items, sound), λ tuple legal.
     let same : tuple ≡ start ++ tuple = ap (λ front. front ++ tuple) (sym nothing) in
     at_least_along rule (Some best) _ _ (sym same) (covers tuple (legal_along rule _ _ same legal)))
+
+-- each place of a tuple lies on its axis
+pub place_at : (axes : List (List ℕ)) (tuple : List ℕ) (axis : ℕ) → IsTuple axes tuple → axis < length tuple → (axis < length axes) × (get_or tuple axis 0 < length (get_or axes axis []))
+place_at [] [] axis fits inside = absurd (omega arith)
+place_at [] (place ∷ tuple) axis fits inside = absurd fits
+place_at (first ∷ axes) [] axis fits inside = absurd fits
+place_at (first ∷ axes) (place ∷ tuple) zero fits inside = (omega arith, fits.0)
+place_at (first ∷ axes) (place ∷ tuple) (suc axis) fits inside =
+    let rest = place_at axes tuple axis fits.1 (omega arith) in
+    (omega (arith, rest.0), rest.1)
+
+-- one more place names one more fix
+pub chosen-take : (axes : List (List ℕ)) (tuple : List ℕ) (axis : ℕ) → IsTuple axes tuple → axis < length tuple → chosen axes (take (suc axis) tuple) ≡ chosen axes (take axis tuple) ++ get_or (get_or axes axis []) (get_or tuple axis 0) 0 ∷ []
+chosen-take [] [] axis fits inside = absurd (omega arith)
+chosen-take [] (place ∷ tuple) axis fits inside = absurd fits
+chosen-take (first ∷ axes) [] axis fits inside = absurd fits
+chosen-take (first ∷ axes) (place ∷ tuple) zero fits inside = ap (λ numbers. get_or first place 0 ∷ numbers) (chosen-nothing axes)
+chosen-take (first ∷ axes) (place ∷ tuple) (suc axis) fits inside = ap (λ numbers. get_or first place 0 ∷ numbers) (chosen-take axes tuple axis fits.1 (omega arith))

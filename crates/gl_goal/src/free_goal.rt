@@ -1,6 +1,6 @@
-ghost use Rattle.std.specs.Prelude.{◌≡◌, ◌+◌, ◌^◌, ◌≤◌, ◌<◌, ◌≤ℤ◌, ◌-ℤ◌, pos, length, IfOk, Some, All, slice_get};
+ghost use Rattle.std.specs.Prelude.{◌≡◌, ◌+◌, ◌^◌, ◌≤◌, ◌<◌, ◌≤ℤ◌, ◌-ℤ◌, pos, [], ◌∷◌, length, IfOk, Some, All, slice_get};
 ghost use Rattle.gl_goal.specs.Free.{altitude, free_goal, leg};
-ghost use Rattle.gl_goal.specs.Rule.{IsTuple, chosen};
+ghost use Rattle.gl_goal.specs.Rule.{IsLegal, IsTuple, chosen};
 ghost use Rattle.gl_goal.specs.FreeGoal.{rule_of};
 
 use crate::free::FreeGoal;
@@ -26,7 +26,9 @@ impl FreeGoal {
         requires within { last < length fixes.now }
         requires most { length fixes.now ≤ 90_000 }
         requires loss { pos 0 ≤ℤ loss }
-        ensures { IfOk result (λ goal. rule_of goal ≡ free_goal fixes.now first last loss) }
+        ensures goal { IfOk result (λ goal. rule_of goal ≡ free_goal fixes.now first last loss) }
+        // Staying at the first fix is always allowed.
+        ensures legal { IfOk result (λ goal. IsLegal (rule_of goal) (0 ∷ 0 ∷ 0 ∷ 0 ∷ 0 ∷ [])) }
     {
         Ok(FreeGoal {
             fixes: Vec::from_slice(alloc, fixes)?,

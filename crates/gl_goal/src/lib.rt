@@ -4,8 +4,10 @@
 mod free;
 mod free_goal;
 mod goal;
+mod numbers;
 mod plain;
 
 pub use free::FreeGoal;
 pub use goal::Goal;
+pub use numbers::fix_numbers;
 pub use plain::{Best, search_all};

@@ -1,0 +1,51 @@
+ghost use Rattle.std.specs.Prelude.{◌≡◌, option_map};
+ghost use Rattle.std.specs.List.{list_all};
+ghost use Rattle.gl_app.specs.Words.{command_of, is_dots, is_file_name, is_name_byte};
+ghost use Rattle.gl_app.specs.Command.{seen};
+
+use gl_desk::Name;
+
+/// The most bytes that the name of a file has.
+const MOST_NAME_BYTES: usize = 128;
+
+/// A command and what it is given.
+#[derive(Clone, Copy, Debug)]
+pub enum Command<'a> {
+    /// `free FILE`: the best free distance of a recording.
+    Free(&'a Name),
+}
+
+/// Whether each byte may stand in a name: no `/`, and none below 32.
+fn are_name_bytes(bytes: &[u8]) -> bool
+    ensures { result ≡ list_all is_name_byte bytes.now }
+{
+    bytes.iter().all(|&byte| byte >= 32 && byte != b'/')
+}
+
+/// Whether the text is `.` or `..`, which name folders.
+fn is_dots(text: &str) -> bool
+    ensures { result ≡ is_dots text.now }
+{
+    text == "." || text == ".."
+}
+
+/// Whether the name is a file's: 1 to 128 bytes without `/` and without a byte below 32, and neither `.` nor `..`.
+#[tactic(auto, unfolding(crate::specs::Words::is_file_name))]
+fn is_file_name(name: &Name) -> bool
+    ensures { result ≡ is_file_name name.now }
+{
+    let bytes = name.as_str().as_bytes();
+    let length = bytes.len();
+    length >= 1 && length <= MOST_NAME_BYTES && are_name_bytes(bytes) && !is_dots(name.as_str())
+}
+
+/// The command that the words are a form of; `None` where they are of no form.
+#[tactic(auto, unfolding(crate::specs::Words::command_of))]
+pub fn read_words(words: &[Name]) -> Option<Command<'_>>
+    ensures { option_map seen result ≡ command_of words.now }
+{
+    match words {
+        [word, file] if word.as_str() == "free" && is_file_name(file) => Some(Command::Free(file)),
+        _ => None,
+    }
+}

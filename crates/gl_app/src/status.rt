@@ -1,0 +1,16 @@
+/// How a run ended. The program ends with the status as a number.
+#[derive(Clone, Copy, Debug, PartialEq, Eq)]
+pub enum Status {
+    /// The command was carried out, and its answer was said.
+    Done = 0,
+    /// The words are of no form; the usage line was said.
+    Words = 2,
+    /// A call of the desk failed; nothing more was said.
+    Desk = 3,
+    /// A test of the files failed; its one line was said.
+    Refused = 4,
+    /// There was no memory; nothing more was said.
+    Memory = 5,
+    /// The proof text doesn't prove what the folder asks for; its one line was said.
+    NotProved = 6,
+}

@@ -1,0 +1,7 @@
+use Rattle.std.proofs.Common.{◌≡◌, take}
+use Rattle.gl_goal.specs.Rule.{chosen}
+use Rattle.gl_goal.proofs.numbers.fix_numbers.Given as goal
+
+-- the numbers at the places so far
+abbrev pub invariant-loop-axis : goal.invariant-loop-axis
+invariant-loop-axis g l = l.numbers.items ≡ chosen (g.G.Goal.rule l.goal).axes (take l.axis l.tuple)
