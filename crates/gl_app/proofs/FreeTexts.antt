@@ -1,5 +1,5 @@
 -- The text of a free distance, from what the search found.
-use Rattle.std.proofs.Common.{◌≡◌, ◌∙◌, ap, sym, subst, ℕ, List, Option, Some, map}
+use Rattle.std.proofs.Common.{◌≡◌, ◌∙◌, ap, subst, ℕ, List, Option, Some, map}
 use Rattle.gl_igc.specs.declared.fix.Fix.{Fix}
 use Rattle.gl_igc.specs.Plain.{Reading}
 use Rattle.gl_igc.specs.Recording.{sighting_of}

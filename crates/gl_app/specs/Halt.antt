@@ -1,6 +1,5 @@
 -- How a command stops before its answer.
-use Rattle.std.specs.Prelude.{◌≡◌, ◌<◌, ◌≤◌, ℕ, List, length, Option, None, Some, Result, Ok, Err, ⊤}
-use Rattle.std.specs.declared.vec.Vec.{Vec}
+use Rattle.std.specs.Prelude.{Option, None, Some, Result, Ok, Err, ⊤}
 use Rattle.gl_desk.specs.Desk.{FilesByName}
 use Rattle.gl_app.specs.declared.halt.Halt.{Halt}
 use Rattle.gl_app.specs.declared.halt.Halt.TheVariants.{Desk, Memory, Refused}

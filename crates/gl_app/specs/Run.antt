@@ -1,10 +1,11 @@
 -- The right answer of a run.
 use Rattle.std.specs.Prelude.{◌≡◌, ℕ, List, Option, None, Some, take, ◌⊎◌, ⊤}
-use Rattle.gl_desk.specs.Desk.{FilesByName, Rose, followed_by}
+use Rattle.gl_desk.specs.Desk.{FilesByName, followed_by}
 use Rattle.gl_app.specs.declared.status.Status.{Status}
 use Rattle.gl_app.specs.declared.status.Status.TheVariants.{Done, Words, Desk, Refused, Memory, NotProved}
 use Rattle.gl_app.specs.Words.{Command, Free, command_of}
-use Rattle.gl_app.specs.Texts.{usage_line}
+use Rattle.gl_app.specs.declared.refusal.Refusal.{Refusal}
+use Rattle.gl_app.specs.Texts.{usage_line, refusal_line}
 use Rattle.gl_app.specs.Free.{IsFree}
 
 -- The status and the text that are right for a command in a folder. A further command has its case here.
@@ -38,6 +39,24 @@ IsRun words files Refused before after = SaidWhole words files Refused before af
 IsRun words files NotProved before after = SaidWhole words files NotProved before after
 IsRun words files Desk before after = SaidPart words files before after
 IsRun words files Memory before after = SaidPart words files before after
+
+-- A text that may be said at the end with a status: one line, but for the text of a command that was carried out.
+abbrev pub IsSaidWith : Status → List ℕ → Type 0
+IsSaidWith Done said = ⊤
+IsSaidWith Words said = said ≡ usage_line
+IsSaidWith Refused said = (refusal : Refusal) × (name : List ℕ) × (said ≡ refusal_line refusal name)
+IsSaidWith NotProved said = ⊥
+IsSaidWith Desk said = ⊥
+IsSaidWith Memory said = ⊥
+
+-- What was said by the end of a run, as far as its status alone tells.
+abbrev pub SaysWith : Status → Option (List ℕ) → Option (List ℕ) → Type 0
+SaysWith Done before after = ⊤
+SaysWith Words before after = (said : List ℕ) × IsSaidWith Words said × (after ≡ followed_by before said)
+SaysWith Refused before after = (said : List ℕ) × IsSaidWith Refused said × (after ≡ followed_by before said)
+SaysWith NotProved before after = ⊥
+SaysWith Desk before after = ⊤
+SaysWith Memory before after = ⊤
 
 -- the status agrees with whether the words are of a form, as far as a run comes to its answer
 abbrev pub AgreesWithWords : Option Command → Status → Type 0

@@ -1,11 +1,10 @@
 ghost use Rattle.std.specs.Prelude.{◌≡◌, ◌≢◌, ◌↔◌, None, IfOk};
-ghost use Rattle.gl_desk.specs.Desk.{Rose, followed_by};
+ghost use Rattle.gl_desk.specs.Desk.{Rose};
 ghost use Rattle.gl_app.specs.Halt.{IfRefused, OnDesk, OnFolder, UnlessDesk};
-ghost use Rattle.gl_app.specs.Run.{AgreesWithWords, IsRight, IsRightFor, IsRun, OnDeskElse};
+ghost use Rattle.gl_app.specs.Run.{AgreesWithWords, IsRight, IsRightFor, IsRun, IsSaidWith, OnDeskElse, SaysWith};
 ghost use Rattle.gl_app.specs.Command.{seen};
-ghost use Rattle.gl_app.specs.Texts.{usage_line};
 ghost use Rattle.gl_app.specs.Words.{command_of};
-ghost use Rattle.gl_app.specs.declared.status.Status.TheVariants.{Desk, Words};
+ghost use Rattle.gl_app.specs.declared.status.Status.TheVariants.{Words};
 
 use crate::command::{Command, read_words};
 use crate::free::free;
@@ -23,10 +22,14 @@ struct Reply {
 }
 
 /// The reply to a command.
-fn reply_to_command<D: Desk>(alloc: Global, desk: &mut D, command: Command<'_>) -> Result<Reply, Halt>
+fn reply_to_command<D: Desk>(
+    alloc: Global,
+    desk: &mut D,
+    command: Command<'_>,
+) -> Result<Reply, Halt>
     ensures right { IfOk result (λ reply. OnFolder (D.folder desk.old) (λ files. IsRightFor (seen command.entry) files reply.status reply.text.items)) }
     ensures words { IfOk result (λ reply. reply.status ≢ Words) }
-    ensures spoken { IfOk result (λ reply. reply.status ≢ Desk) }
+    ensures line { IfOk result (λ reply. IsSaidWith reply.status reply.text.items) }
     ensures not_refused { IfRefused result (λ _. ⊥) }
 
     ensures failed { OnDesk result (Rose (D.faults desk.old) (D.faults desk.new)) }
@@ -53,8 +56,7 @@ fn reply_to_command<D: Desk>(alloc: Global, desk: &mut D, command: Command<'_>) 
 fn reply_to_words<D: Desk>(alloc: Global, words: &[Name], desk: &mut D) -> Result<Reply, Halt>
     ensures right { IfOk result (λ reply. OnFolder (D.folder desk.old) (λ files. IsRight words.now files reply.status reply.text.items)) }
     ensures words { IfOk result (λ reply. reply.status ≡ Words ↔ (command_of words.now ≡ None)) }
-    ensures usage { IfOk result (λ reply. reply.status ≡ Words → reply.text.items ≡ usage_line) }
-    ensures spoken { IfOk result (λ reply. reply.status ≢ Desk) }
+    ensures line { IfOk result (λ reply. IsSaidWith reply.status reply.text.items) }
     ensures not_refused { IfRefused result (λ _. ⊥) }
 
     ensures failed { OnDesk result (Rose (D.faults desk.old) (D.faults desk.new)) }
@@ -80,9 +82,9 @@ pub fn run_single<D: Desk>(alloc: Global, words: &[Name], desk: &mut D) -> Statu
     // In a folder that the desk tells: the status and the text are right for the words.
     ensures right { OnFolder (D.folder desk.old) (λ files. IsRun words.now files result (D.said desk.old) (D.said desk.new)) }
 
-    // On any desk: `Words` exactly where the words are of no form, and then the usage line was said.
+    // On any desk: `Words` exactly where the words are of no form. After `Words` and `Refused` one line was said.
     ensures words { AgreesWithWords (command_of words.now) result }
-    ensures usage { result ≡ Words → D.said desk.new ≡ followed_by (D.said desk.old) usage_line }
+    ensures line { SaysWith result (D.said desk.old) (D.said desk.new) }
 
     // `Desk` only where a call of the desk failed; at every other status none did.
     ensures faults { OnDeskElse result (Rose (D.faults desk.old) (D.faults desk.new)) (D.faults desk.new ≡ D.faults desk.old) }

@@ -107,9 +107,12 @@ pub optimum_from : (rule : Rule) (start : List ℕ) (found : Option Best) → st
 optimum_from rule start None nothing sound covers = λ tuple legal.
     let same : tuple ≡ start ++ tuple = ap (λ front. front ++ tuple) (sym nothing) in
     absurd (covers tuple (legal_along rule _ _ same legal))
-optimum_from rule start (Some best) nothing sound covers = ((best.tuple.items, sound), λ tuple legal.
-    let same : tuple ≡ start ++ tuple = ap (λ front. front ++ tuple) (sym nothing) in
-    at_least_along rule (Some best) _ _ (sym same) (covers tuple (legal_along rule _ _ same legal)))
+optimum_from rule start (Some best) nothing sound covers = (
+  (best.tuple.items, sound),
+  λ tuple legal.
+      let same : tuple ≡ start ++ tuple = ap (λ front. front ++ tuple) (sym nothing) in
+      at_least_along rule (Some best) _ _ (sym same) (covers tuple (legal_along rule _ _ same legal)),
+)
 
 -- each place of a tuple lies on its axis
 pub place_at : (axes : List (List ℕ)) (tuple : List ℕ) (axis : ℕ) → IsTuple axes tuple → axis < length tuple → (axis < length axes) × (get_or tuple axis 0 < length (get_or axes axis []))

@@ -14,14 +14,15 @@ decides_le a b = (λ yes. grind (arith, nat_tests), λ below. grind (arith, nat_
 pub calendar_decides : (year month day : ℕ) → year < 2_100 → Decides (is_in_calendar year month day) (IsDate (pos year) (pos month) (pos day))
 unfolding is_in_calendar
 calendar_decides year month day recent =
-    let tests = Decides-and _ _ (Decides-and _ _ (Decides-and _ _ (decides_le 1 month) (decides_le month 12)) (decides_le 1 day)) (decides_le day (days_in_month (pos year) month)) in
-    (λ yes.
-        let all = tests.0 yes in
-        let a = all.0.0.0 in let b = all.0.0.1 in let d = all.0.1 in let e = all.1 in
-        ((omega (arith, ints), omega (arith, ints)), (omega (arith, ints), omega (arith, ints)), (omega (arith, ints), omega (arith, ints))),
-     λ date.
-        let low = date.1.0 in let high = date.1.1 in let from = date.2.0 in let to = date.2.1 in
-        tests.1 (((omega (arith, ints), omega (arith, ints)), omega (arith, ints)), omega (arith, ints)))
+    let tests = Decides-and _ _ (Decides-and _ _ (Decides-and _ _ (decides_le 1 month) (decides_le month 12)) (decides_le 1 day)) (decides_le day (days_in_month (pos year) month)) in (
+      λ yes.
+          let all = tests.0 yes in
+          let a = all.0.0.0 in let b = all.0.0.1 in let d = all.0.1 in let e = all.1 in
+          ((omega (arith, ints), omega (arith, ints)), (omega (arith, ints), omega (arith, ints)), (omega (arith, ints), omega (arith, ints))),
+      λ date.
+          let low = date.1.0 in let high = date.1.1 in let from = date.2.0 in let to = date.2.1 in
+          tests.1 (((omega (arith, ints), omega (arith, ints)), omega (arith, ints)), omega (arith, ints)),
+    )
 
 none_is : {X : Type 0} (o : Option X) → IsNone o → o ≡ None
 none_is None is = refl

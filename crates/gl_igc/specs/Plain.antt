@@ -26,13 +26,13 @@ pub record Reading : Type 0 where
 unfoldable pub plain_fix : List ℕ → Option Sighting
 plain_fix line =
     if (length line == 35) && starts_with nat_eq line (codes "B") && starts_with nat_eq (columns 25 25 line) (codes "A") then
-      (do
-        second ← time_of_day line
-        lat ← latitude_of 0 line
-        lon ← longitude_of 0 line
-        pressure ← altitude_of (columns 26 30 line)
-        alt ← altitude_of (columns 31 35 line)
-        if int_le alt (pos 32_767) then Some (record { second = pos second; lat = lat; lon = lon; alt = alt; enl = None }) else None)
+    (do
+      second ← time_of_day line
+      lat ← latitude_of 0 line
+      lon ← longitude_of 0 line
+      pressure ← altitude_of (columns 26 30 line)
+      alt ← altitude_of (columns 31 35 line)
+      if int_le alt (pos 32_767) then Some (record { second = pos second; lat = lat; lon = lon; alt = alt; enl = None }) else None)
     else None
 
 -- the fixes of lines that are all such B lines
@@ -70,9 +70,9 @@ plain_lines [] = None
 plain_lines (first ∷ []) = None
 plain_lines (first ∷ dated ∷ lines) =
     if starts_with nat_eq first (codes "A") then
-      (do
-        date ← plain_date dated
-        recording_of date lines)
+    (do
+      date ← plain_date dated
+      recording_of date lines)
     else None
 
 -- the recording of a text, none where it isn't plain

@@ -110,11 +110,7 @@ fn recording_from(
 /// validity `A`, later in the day than the line before; and there are 1 to 40 of these.
 ///
 /// Answers [`IgcError::Unbuilt`] exactly for every other text.
-pub fn read_igc(
-    alloc: Global,
-    text: &[u8],
-    task_day: Option<i32>,
-) -> Result<Recording, IgcError>
+pub fn read_igc(alloc: Global, text: &[u8], task_day: Option<i32>) -> Result<Recording, IgcError>
     requires { task_day ≡ None }
     ensures ok { IfOk result (λ recording. plain_recording text.now ≡ Some (reading_of recording)) }
     ensures unbuilt { result ≡ Err Unbuilt → plain_recording text.now ≡ None }

@@ -1,18 +1,18 @@
-use Rattle.std.proofs.Common.{◌≡◌, ◌∙◌, refl}
+use Rattle.std.proofs.Common.{◌∙◌, List, ℕ}
 use Rattle.gl_app.specs.declared.status.Status.{Status}
 use Rattle.gl_app.specs.declared.status.Status.TheVariants.{Done, Words, Desk, Refused, Memory, NotProved}
-use Rattle.gl_app.specs.Run.{OnDeskElse}
+use Rattle.gl_app.specs.Run.{IsSaidWith, OnDeskElse}
 use Rattle.gl_app.proofs.run.run_single.Goals as goal
 
 -- what holds where no call of the desk failed
-elsewhere : (status : Status) (P Q : Type 0) → (status ≡ Desk → ⊥) → Q → OnDeskElse status P Q
-elsewhere Done P Q spoken q = q
-elsewhere Words P Q spoken q = q
-elsewhere Desk P Q spoken q = absurd (spoken refl)
-elsewhere Refused P Q spoken q = q
-elsewhere Memory P Q spoken q = q
-elsewhere NotProved P Q spoken q = q
+elsewhere : (status : Status) (said : List ℕ) (P Q : Type 0) → IsSaidWith status said → Q → OnDeskElse status P Q
+elsewhere Done said P Q with_status q = q
+elsewhere Words said P Q with_status q = q
+elsewhere Desk said P Q with_status q = absurd with_status
+elsewhere Refused said P Q with_status q = q
+elsewhere Memory said P Q with_status q = q
+elsewhere NotProved said P Q with_status q = q
 
 pub returns-in-Ok-say-clause-faults : goal.returns-in-Ok-say-clause-faults
 returns-in-Ok-say-clause-faults g c =
-    elsewhere c.in-Ok.reply.status _ _ c.in-Ok.ensures.spoken (c.in-Ok-say.ensures.not_failed ∙ c.in-Ok.ensures.not_failed)
+    elsewhere c.in-Ok.reply.status c.in-Ok.reply.text.items _ _ c.in-Ok.ensures.line (c.in-Ok-say.ensures.not_failed ∙ c.in-Ok.ensures.not_failed)

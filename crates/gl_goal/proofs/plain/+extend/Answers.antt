@@ -11,9 +11,9 @@ pub returns-then-axis-axes-clause-covers : goal.returns-then-axis-axes-clause-co
 returns-then-axis-axes-clause-covers g t c =
     let rule = g.G.Goal.rule c.args.goal.now in
     on_ok_weaker c.consider.result (λ covers rest legal.
-        let full = no_rest rule.axes c.args.tuple.now.items rest legal.is_tuple (omega arith) in
-        let same = c.as_slice.ensures.value ∙ sym full in
-        at_least_along rule _ _ _ same (covers (legal_along rule _ _ (sym same) legal))) c.consider.ensures.covers
+    let full = no_rest rule.axes c.args.tuple.now.items rest legal.is_tuple (omega arith) in
+    let same = c.as_slice.ensures.value ∙ sym full in
+    at_least_along rule _ _ _ same (covers (legal_along rule _ _ (sym same) legal))) c.consider.ensures.covers
 
 pub extend-requires : goal.extend-requires
 extend-requires g t c κs within =
@@ -42,27 +42,27 @@ loop-place-preserved g t c =
     let fix : c.fix-fix.result ≡ get_or (get_or rule.axes (length tuple) []) place 0 = c.fix-fix.ensures ∙ ap (λ (n : ℕ). get_or (get_or rule.axes n []) place 0) at in
     elim c.if-fix-earliest.branch [
       | then-fix-earliest+in_ok-push+in_ok-extend w ↦
-        let pushed = w.in_ok-push.ensures.items ∙ ap (λ items. items ++ place ∷ []) c.loop-place.invariant.same in
-        record {
-          same = rw w.tuple-is (w.pop.ensures.rest ∙ take_pushed tuple _ place _ (w.in_ok-extend.ensures.same ∙ pushed) w.extend.new.tuple.ok.0);
-          sound = rw w.best-is w.in_ok-extend.ensures.sound;
-          grows = λ worth had. rw w.best-is (w.in_ok-extend.ensures.grows worth (c.loop-place.invariant.grows worth had));
-          covers = tried_more rule tuple place c.if-fix-earliest.best
-              (λ earlier rest less legal. rw w.best-is (w.in_ok-extend.ensures.grows _ (c.loop-place.invariant.covers earlier rest less legal)))
-              (λ rest legal.
+          let pushed = w.in_ok-push.ensures.items ∙ ap (λ items. items ++ place ∷ []) c.loop-place.invariant.same in
+          record {
+            same = rw w.tuple-is (w.pop.ensures.rest ∙ take_pushed tuple _ place _ (w.in_ok-extend.ensures.same ∙ pushed) w.extend.new.tuple.ok.0);
+            sound = rw w.best-is w.in_ok-extend.ensures.sound;
+            grows = λ worth had. rw w.best-is (w.in_ok-extend.ensures.grows worth (c.loop-place.invariant.grows worth had));
+            covers = tried_more rule tuple place c.if-fix-earliest.best
+                (λ earlier rest less legal. rw w.best-is (w.in_ok-extend.ensures.grows _ (c.loop-place.invariant.covers earlier rest less legal)))
+                (λ rest legal.
                 let joined : w.push.new.self.items ++ rest ≡ tuple ++ place ∷ rest = ap (λ items. items ++ rest) pushed ∙ append_assoc tuple (place ∷ []) rest in
                 rw w.best-is (at_least_along rule w.extend.new.best _ _ joined (w.in_ok-extend.ensures.covers rest (legal_along rule _ _ (sym joined) legal))));
-        }
+          }
       | else-fix-earliest w ↦ record {
-          same = rw w.tuple-is c.loop-place.invariant.same;
-          sound = rw w.best-is c.loop-place.invariant.sound;
-          grows = λ worth had. rw w.best-is (c.loop-place.invariant.grows worth had);
-          covers = tried_more rule tuple place c.if-fix-earliest.best
-              (λ earlier rest less legal. rw w.best-is (c.loop-place.invariant.covers earlier rest less legal))
-              (λ rest legal.
-                let late = legal_is_late rule tuple c.args.earliest place rest c.requires.begun room legal in
-                absurd (omega (arith, late, fix, w.if-fix-earliest.false)));
-        }
+        same = rw w.tuple-is c.loop-place.invariant.same;
+        sound = rw w.best-is c.loop-place.invariant.sound;
+        grows = λ worth had. rw w.best-is (c.loop-place.invariant.grows worth had);
+        covers = tried_more rule tuple place c.if-fix-earliest.best
+            (λ earlier rest less legal. rw w.best-is (c.loop-place.invariant.covers earlier rest less legal))
+            (λ rest legal.
+            let late = legal_is_late rule tuple c.args.earliest place rest c.requires.begun room legal in
+            absurd (omega (arith, late, fix, w.if-fix-earliest.false)));
+      }
     ]
 
 pub returns-clause-covers : goal.returns-clause-covers

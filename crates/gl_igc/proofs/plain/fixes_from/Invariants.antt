@@ -8,9 +8,9 @@ use Rattle.gl_igc.proofs.plain.fixes_from.Given as goal
 -- the fixes so far, and then those of the lines that are left
 abbrev pub invariant-loop-line : goal.invariant-loop-line
 invariant-loop-line l = record {
-    read : after (map sighting_of l.fixes.items) (plain_fixes (lines_of (drop l.at l.text))) ≡ plain_fixes (lines_of (drop l.start l.text));
-    within : l.at ≤ length l.text;
-  }
+  read : after (map sighting_of l.fixes.items) (plain_fixes (lines_of (drop l.at l.text))) ≡ plain_fixes (lines_of (drop l.start l.text));
+  within : l.at ≤ length l.text;
+}
 
 abbrev pub decreases-loop-line : goal.decreases-loop-line
 decreases-loop-line l = length l.text - l.at
