@@ -17,20 +17,20 @@ floor_root (suc n) =
     let r = floor_root n in if nat_le ((r + 1) * (r + 1)) (suc n) then r + 1 else r
 
 -- the second term of 2R·arcsin(c / 2R) for a chord c
-unfoldable pub third_order : ℕ → ℕ
-third_order c = c * c * c / (24 * (RADIUS * RADIUS))
+unfoldable pub second_term_of : ℕ → ℕ
+second_term_of c = c * c * c / (24 * (RADIUS * RADIUS))
 
 -- the third term
-unfoldable pub fifth_order : ℕ → ℕ
-fifth_order c = 9 * third_order c * (c * c) / (80 * (RADIUS * RADIUS))
+unfoldable pub third_term_of : ℕ → ℕ
+third_term_of c = 9 * second_term_of c * (c * c) / (80 * (RADIUS * RADIUS))
 
 -- the fourth term
-unfoldable pub seventh_order : ℕ → ℕ
-seventh_order c = 25 * fifth_order c * (c * c) / (168 * (RADIUS * RADIUS))
+unfoldable pub fourth_term_of : ℕ → ℕ
+fourth_term_of c = 25 * third_term_of c * (c * c) / (168 * (RADIUS * RADIUS))
 
 -- the first four terms of 2R·arcsin(c / 2R), the arc over a chord c
 unfoldable pub arc_over : ℕ → ℕ
-arc_over c = c + third_order c + fifth_order c + seventh_order c
+arc_over c = c + second_term_of c + third_term_of c + fourth_term_of c
 
 -- the distance along the surface of two points with the squared chord q
 unfoldable pub written_distance : ℕ → ℕ

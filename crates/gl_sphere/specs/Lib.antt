@@ -1,3 +1,4 @@
+pub mod Components
 pub mod Distance
 pub mod Laws
 pub mod Place

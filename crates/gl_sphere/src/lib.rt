@@ -6,13 +6,16 @@
 mod distance;
 mod place;
 mod projection;
+mod quotient;
 mod sine;
 mod sphere;
 mod square_root;
+#[cfg(test)]
+mod tests;
 
 pub use distance::{dist, sq};
 pub use place::{Grid, Vec3};
 pub use projection::vector;
 pub use sine::{wcos, wsin};
+pub use sphere::{GREATEST_DISTANCE, GREATEST_SQUARE, HALF_TURN, PI, QUARTER_TURN, RADIUS, UNIT};
 pub use square_root::root;
-pub use sphere::{GREATEST_SQUARE, HALF_TURN, PI, QUARTER_TURN, RADIUS, UNIT};

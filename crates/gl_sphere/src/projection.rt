@@ -4,7 +4,8 @@ ghost use Rattle.gl_sphere.specs.Product.{product, scaled};
 ghost use Rattle.gl_sphere.specs.Range.{IsWithin};
 
 use crate::place::{Grid, Vec3};
-use crate::sine::{product_over, wcos, wsin};
+use crate::quotient::quotient;
+use crate::sine::{over_unit, wcos, wsin};
 use crate::sphere::{RADIUS, UNIT};
 
 /// The point of a place.
@@ -28,17 +29,18 @@ fn mul(a: i64, b: i64) -> i64
     ensures value { result ≡ product a b }
     ensures bound { IsWithin UNIT result }
 {
-    let size = product_over(a.unsigned_abs(), b.unsigned_abs(), UNIT) as i64;
+    let size = over_unit(a.unsigned_abs(), b.unsigned_abs()) as i64;
     if (a < 0) == (b < 0) { size } else { -size }
 }
 
 // A sine, a cosine or a product of two, as a length along the radius, in centimetres, rounded half away from the centre.
+// Twice `UNIT` is 2^17·5^13·5^3.
 fn scale(m: i64) -> i32
     requires { IsWithin UNIT m }
     ensures value { result ≡ scaled m }
     ensures bound { IsWithin RADIUS result }
 {
     let doubled = m.unsigned_abs() as u128 * (2 * RADIUS) as u128;
-    let length = ((doubled + UNIT as u128) / (2 * UNIT) as u128) as i32;
+    let length = quotient((doubled + UNIT as u128) >> 17, 1_220_703_125, 125) as i32;
     if m < 0 { -length } else { length }
 }

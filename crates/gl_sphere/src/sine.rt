@@ -2,6 +2,7 @@ ghost use Rattle.std.specs.Prelude.{◌≡◌, ◌+◌, ◌*◌, ◌/◌, ◌^�
 ghost use Rattle.gl_sphere.specs.Range.{IsWithin};
 ghost use Rattle.gl_sphere.specs.Sine.{quarter_sine, half_turn_sine, written_sine, written_cosine};
 
+use crate::quotient::quotient;
 use crate::sphere::{HALF_TURN, PI, QUARTER_TURN, UNIT};
 
 /// The written sine of an angle in 1/100,000 minute, where `UNIT` is one.
@@ -42,8 +43,8 @@ fn first_quarter(n: u64) -> u64
     ensures value { pos result ≡ quarter_sine n }
     ensures bound { result ≤ UNIT }
 {
-    let x = product_over(n, PI, HALF_TURN);
-    let square = product_over(x, x, UNIT);
+    let x = quotient(n as u128 * PI as u128, HALF_TURN, 1);
+    let square = over_unit(x, x);
     let mut term = x;
     let mut sum = x;
     for pair in 0..5u64 {
@@ -62,14 +63,14 @@ fn next_term(term: u64, square: u64, k: u64) -> u64
     ensures value { result ≡ term * square / UNIT / ((2 * k + 2) * (2 * k + 3)) }
     ensures bound { result ≤ term }
 {
-    product_over(term, square, UNIT) / ((2 * k + 2) * (2 * k + 3))
+    over_unit(term, square) / ((2 * k + 2) * (2 * k + 3))
 }
 
-/// The product of two numbers over a divisor, rounded down.
-pub fn product_over(a: u64, b: u64, divisor: u64) -> u64
-    requires divides { 0 < divisor }
-    requires fits { a * b / divisor < 2 ^ 64 }
-    ensures { result ≡ a * b / divisor }
+/// The product of two numbers over `UNIT`, rounded down. `UNIT` is 2^16·5^13·5^3.
+pub fn over_unit(a: u64, b: u64) -> u64
+    requires a_in_range { a ≤ 2 * UNIT }
+    requires b_in_range { b ≤ 3 * UNIT }
+    ensures { result ≡ a * b / UNIT }
 {
-    (a as u128 * b as u128 / divisor as u128) as u64
+    quotient((a as u128 * b as u128) >> 16, 1_220_703_125, 125)
 }

@@ -1,6 +1,5 @@
-use Rattle.std.proofs.Common.{◌≡◌, ℕ, zero, suc, ◌+◌, ◌-◌, ◌*◌, ◌/◌, ◌%◌, ◌<◌, ◌≤◌, min, ℤ, pos, negsuc, neg_ℤ, ◌-ℤ◌, ◌<ℤ◌, ◌≤ℤ◌, refl, sym, ap, subst, ◌∙◌, arith, ⊎_elim}
+use Rattle.std.proofs.Common.{◌≡◌, ℕ, zero, suc, ◌+◌, ◌-◌, ◌*◌, ◌/◌, ◌<◌, ◌≤◌, min, ℤ, pos, negsuc, ◌-ℤ◌, refl, sym, ap, subst, arith, ⊎_elim}
 use Rattle.std.specs.Prelude.{unsigned_abs}
-use Rattle.std.specs.Int.{int_min}
 use Rattle.std.proofs.Props.{props}
 use Rattle.std.proofs.lemmas.Int.{ints}
 use Rattle.std.proofs.lemmas.Bool.{cases_lt}
@@ -38,11 +37,13 @@ partial_sum x (suc j) h =
     let one : suc (2 * j) ≡ 2 * j + 1 = omega arith in
     let double : 2 * suc j ≡ 2 * j + 2 = omega arith in
     let falls : odd ≤ s = omega (arith, sine_term-falls x (2 * j) h, ap (sine_term x) one, before.1.last_in_sum) in
-    let last : sine_term x (2 * suc j) ≡ even = ap (sine_term x) double in
-    (s - odd + even, record {
-      sum_is = sine_sum-pair x (2 * j) (2 * suc j + 1) s odd even (omega arith) (omega arith) before.1.sum_is refl refl falls;
-      last_in_sum = omega (arith, last)
-    })
+    let last : sine_term x (2 * suc j) ≡ even = ap (sine_term x) double in (
+      s - odd + even,
+      record {
+        sum_is = sine_sum-pair x (2 * j) (2 * suc j + 1) s odd even (omega arith) (omega arith) before.1.sum_is refl refl falls;
+        last_in_sum = omega (arith, last);
+      },
+    )
 
 square-at_most : (n : ℕ) → n ≤ 540000000 → radians n * radians n / 10000000000000000 ≤ 30000000000000000
 square-at_most n h =

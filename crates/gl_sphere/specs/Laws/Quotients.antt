@@ -1,6 +1,6 @@
-use Rattle.std.proofs.Common.{◌≡◌, ℕ, ◌+◌, ◌*◌, ◌/◌, ◌%◌, ◌<◌, ◌≤◌, sym, ap, ◌∙◌, arith}
+use Rattle.std.proofs.Common.{ℕ, ◌*◌, ◌/◌, ◌<◌, ◌≤◌, arith}
 use Rattle.std.proofs.lemmas.Nat.{le-div}
-use Rattle.std.proofs.Math.Nat.{mul-le-mul, div-mul-le_self, div-le_of_le-mul, mul-add-div, div-div-eq-div-mul}
+use Rattle.std.proofs.Math.Nat.{mul-le-mul, div-mul-le_self, div-le_of_le-mul}
 
 -- a quotient never falls where the dividend grows
 pub div-mono : (a b d : ℕ) → 0 < d → a ≤ b → a / d ≤ b / d

@@ -1,10 +1,10 @@
-use Rattle.std.proofs.Common.{◌≡◌, ℕ, zero, suc, ◌+◌, ◌*◌, ◌/◌, ◌%◌, ◌<◌, ◌≤◌, eqb, ltb, cond, ℤ, pos, ◌+ℤ◌, ◌-ℤ◌, min, ◌-◌, refl, sym, ap, ◌∙◌, arith, ⊎_elim}
+use Rattle.std.proofs.Common.{◌≡◌, ℕ, suc, ◌+◌, ◌*◌, ◌/◌, ◌%◌, ◌<◌, ◌≤◌, eqb, ltb, pos, ◌+ℤ◌, ◌-ℤ◌, min, ◌-◌, refl, sym, ap, ◌∙◌, arith, ⊎_elim}
 use Rattle.std.specs.Int.{int_min}
 use Rattle.std.proofs.lemmas.Int.{ints}
 use Rattle.std.proofs.lemmas.Bool.{cond-true, cond-false, eq-eqb, ne_eqb, lt-ltb, le-ltb, cases_lt}
 use Rattle.std.proofs.Math.Nat.{min-eq_left, min-eq_right}
 use Rattle.gl_sphere.specs.Sine.{radians, sine_term, sine_sum, quarter_sine}
-use Rattle.gl_sphere.specs.Laws.Quotients.{div-mono, scaled_at_most}
+use Rattle.gl_sphere.specs.Laws.Quotients.{div-mono}
 
 -- the first quarter of the circle ends at half of pi
 pub radians-at_most : (n : ℕ) → n ≤ 540000000 → radians n ≤ 15707963267948966

@@ -6,16 +6,16 @@ use mathlib.Core.Bool.{beq}
 use Rattle.gl_sphere.specs.Laws.Quotients.{scaled_at_most}
 use Rattle.gl_sphere.specs.Laws.Signs.{abs_at_most, product-alike, product-unlike}
 use Rattle.gl_sphere.proofs.projection.mul.Goals as goal
-use Rattle.gl_sphere.proofs.projection.mul.Goals.{After-product_over-size}
+use Rattle.gl_sphere.proofs.projection.mul.Goals.{After-over_unit-size}
 
 -- the size of the product
-size-is : (c : After-product_over-size) → c.product_over-size.result ≡ unsigned_abs c.args.a * unsigned_abs c.args.b / 10000000000000000
+size-is : (c : After-over_unit-size) → c.over_unit-size.result ≡ unsigned_abs c.args.a * unsigned_abs c.args.b / 10000000000000000
 size-is c =
     let a : c.unsigned_abs.result ≡ unsigned_abs c.args.a = grind (arith, to_z-of_z, c.unsigned_abs.ensures.value) in
     let b : c.unsigned_abs-2.result ≡ unsigned_abs c.args.b = grind (arith, to_z-of_z, c.unsigned_abs-2.ensures.value) in
-    c.product_over-size.ensures ∙ ap (λ n. n * c.unsigned_abs-2.result / 10000000000000000) a ∙ ap (λ n. unsigned_abs c.args.a * n / 10000000000000000) b
+    c.over_unit-size.ensures ∙ ap (λ n. n * c.unsigned_abs-2.result / 10000000000000000) a ∙ ap (λ n. unsigned_abs c.args.a * n / 10000000000000000) b
 
-size-fits : (c : After-product_over-size) → c.product_over-size.result ≤ 10000000000000000
+size-fits : (c : After-over_unit-size) → c.over_unit-size.result ≤ 10000000000000000
 size-fits c =
     omega (arith, size-is c, scaled_at_most (unsigned_abs c.args.a) (unsigned_abs c.args.b) 10000000000000000 1 10000000000000000 (abs_at_most c.args.a _ c.requires.a_in_range) (omega (arith, abs_at_most c.args.b 10000000000000000 c.requires.b_in_range)))
 

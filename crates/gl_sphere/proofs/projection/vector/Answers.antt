@@ -1,8 +1,9 @@
-use Rattle.std.proofs.Common.{◌≡◌, ℤ, ap, ◌∙◌, to_z, of_z, w32, arith}
+use Rattle.std.proofs.Common.{◌≡◌, ℤ, to_z, of_z, w32, arith}
 use Rattle.std.proofs.lemmas.Int.{ints, to_z-of_z}
 use Rattle.gl_sphere.specs.Sine.{written_sine, written_cosine}
 use Rattle.gl_sphere.specs.Product.{product, scaled}
-use Rattle.gl_sphere.specs.Place.{written_x, written_y, written_z, written_vector}
+use Rattle.gl_sphere.specs.Components.{written_x, written_y, written_z}
+use Rattle.gl_sphere.specs.Place.{written_vector}
 use Rattle.gl_sphere.specs.declared.place.Grid.{Grid}
 use Rattle.gl_sphere.proofs.Vectors.{Vec3-same}
 use Rattle.gl_sphere.proofs.projection.vector.Goals as goal

@@ -1,4 +1,4 @@
-use Rattle.std.proofs.Common.{◌≡◌, ℕ, ◌+◌, ◌*◌, ◌/◌, ◌≤◌, pos, sym, ap, ◌∙◌, arith}
+use Rattle.std.proofs.Common.{◌≡◌, ℕ, ◌+◌, ◌*◌, ◌/◌, ◌≤◌, sym, ap, ◌∙◌, arith}
 use Rattle.std.proofs.Math.Nat.{mul-le-mul}
 use Rattle.gl_sphere.specs.Sine.{radians, sine_term, sine_sum}
 use Rattle.gl_sphere.specs.Laws.Quotients.{div-mono}
@@ -27,14 +27,14 @@ loop-pair-init c = record {
 
 pub next_term-term-requires-clause-square_in_range : goal.next_term-term-requires-clause-square_in_range
 next_term-term-requires-clause-square_in_range c =
-    square-at_most c.args.n c.product_over-x.result c.product_over-square.result c.requires (radians-is _ _ c.product_over-x.ensures) c.product_over-square.ensures
+    square-at_most c.args.n c.quotient-x.result c.over_unit-square.result c.requires (radians-is _ _ c.quotient-x.ensures) c.over_unit-square.ensures
 
 pub loop-pair-preserved : goal.loop-pair-preserved
 loop-pair-preserved c =
     let pair = c.loop-pair.pair in
-    let x = c.product_over-x.result in
-    let odd_is : c.next_term-odd.result ≡ sine_term x (2 * pair + 1) = sine_term-after x c.loop-pair.term c.product_over-square.result (2 * pair) (2 * pair + 1) c.next_term-odd.result (omega arith) c.loop-pair.invariant.term_is c.product_over-square.ensures c.next_term-odd.ensures.value in
-    let even_is : c.next_term-term.result ≡ sine_term x (2 * pair + 2) = sine_term-after x c.next_term-odd.result c.product_over-square.result (2 * pair + 1) (2 * pair + 2) c.next_term-term.result (omega arith) odd_is c.product_over-square.ensures c.next_term-term.ensures.value in
+    let x = c.quotient-x.result in
+    let odd_is : c.next_term-odd.result ≡ sine_term x (2 * pair + 1) = sine_term-after x c.loop-pair.term c.over_unit-square.result (2 * pair) (2 * pair + 1) c.next_term-odd.result (omega arith) c.loop-pair.invariant.term_is c.over_unit-square.ensures c.next_term-odd.ensures.value in
+    let even_is : c.next_term-term.result ≡ sine_term x (2 * pair + 2) = sine_term-after x c.next_term-odd.result c.over_unit-square.result (2 * pair + 1) (2 * pair + 2) c.next_term-term.result (omega arith) odd_is c.over_unit-square.ensures c.next_term-term.ensures.value in
     let same : 2 * (pair + 1) ≡ 2 * pair + 2 = omega arith in
     record {
       pairs = omega arith;
@@ -47,4 +47,4 @@ loop-pair-preserved c =
 pub returns-clause-value : goal.returns-clause-value
 returns-clause-value c =
     let done : 2 * c.loop-pair.pair + 1 ≡ 11 = omega arith in
-    quarter_sine-sum c.args.n c.product_over-x.result c.loop-pair.sum c.min.result (radians-is _ _ c.product_over-x.ensures) (c.loop-pair.invariant.sum_is ∙ ap (sine_sum c.product_over-x.result) done) c.min.ensures
+    quarter_sine-sum c.args.n c.quotient-x.result c.loop-pair.sum c.min.result (radians-is _ _ c.quotient-x.ensures) (c.loop-pair.invariant.sum_is ∙ ap (sine_sum c.quotient-x.result) done) c.min.ensures

@@ -8,5 +8,5 @@ invariant-loop-pair l = record {
   term_is : l.term ≡ sine_term l.x (2 * l.pair);
   sum_is : pos l.sum ≡ sine_sum l.x (2 * l.pair + 1);
   term_in_sum : l.term ≤ l.sum;
-  sum_in_angle : l.sum ≤ l.x
+  sum_in_angle : l.sum ≤ l.x;
 }

@@ -1,0 +1,152 @@
+// The expected values were computed by a program of exact whole numbers in another language, written from the formulas
+// alone.
+use crate::{Grid, Vec3, dist, root, sq, vector, wcos, wsin};
+
+// The origin of the places: latitude 0 and longitude 0.
+const ORIGIN: Vec3 = Vec3 {
+    x: 637_100_000,
+    y: 0,
+    z: 0,
+};
+
+// Takes what threads may share.
+fn share<T: Send + Sync>(_value: &T) {}
+
+#[test]
+fn threads_may_share_places_and_points() {
+    share(&Grid { lat: 0, lon: 0 });
+    share(&ORIGIN);
+}
+
+#[test]
+fn sines_and_cosines(rt: HostRuntime) {
+    assert_eq!(rt; wsin(0), 0);
+    assert_eq!(rt; wsin(1), 29_088_820);
+    assert_eq!(rt; wsin(180_000_000), 5_000_000_000_000_000);
+    assert_eq!(rt; wsin(270_000_000), 7_071_067_811_865_476);
+    assert_eq!(rt; wsin(540_000_000), 10_000_000_000_000_000);
+    assert_eq!(rt; wsin(1_080_000_000), 0);
+    assert_eq!(rt; wsin(-987_654_321), -2_654_037_741_950_524);
+    assert_eq!(rt; wcos(540_000_001), -29_088_820);
+    assert_eq!(rt; wcos(-360_000_000), 5_000_000_000_000_000);
+    assert_eq!(rt; wcos(123_456_789), 9_362_060_260_823_172);
+    assert_eq!(rt; wcos(-987_654_321), -9_641_373_536_187_786);
+}
+
+#[test]
+fn points_on_the_axes(rt: HostRuntime) {
+    assert_eq!(rt; vector(Grid { lat: 0, lon: 0 }), ORIGIN);
+    let east = Vec3 {
+        x: 0,
+        y: 637_100_000,
+        z: 0,
+    };
+    assert_eq!(rt;
+        vector(Grid {
+            lat: 0,
+            lon: 540_000_000
+        }),
+        east
+    );
+    let north = Vec3 {
+        x: 551_744_785,
+        y: 0,
+        z: 318_550_000,
+    };
+    assert_eq!(rt;
+        vector(Grid {
+            lat: 180_000_000,
+            lon: 0
+        }),
+        north
+    );
+    let west = Vec3 {
+        x: 637_002_967,
+        y: -11_118_928,
+        z: 0,
+    };
+    assert_eq!(rt;
+        vector(Grid {
+            lat: 0,
+            lon: -6_000_000
+        }),
+        west
+    );
+    let far_side = Vec3 {
+        x: -637_100_000,
+        y: 0,
+        z: 0,
+    };
+    assert_eq!(rt;
+        vector(Grid {
+            lat: 0,
+            lon: -1_080_000_000
+        }),
+        far_side
+    );
+}
+
+#[test]
+fn points_between_the_axes(rt: HostRuntime) {
+    let north_east = Vec3 {
+        x: 387_390_461,
+        y: 58_166_151,
+        z: 502_435_807,
+    };
+    let place = Grid {
+        lat: 312_345_678,
+        lon: 51_234_567,
+    };
+    assert_eq!(rt; vector(place), north_east);
+    let south_west = Vec3 {
+        x: -437_337_292,
+        y: -87_195_905,
+        z: -455_004_810,
+    };
+    let place = Grid {
+        lat: -273_456_789,
+        lon: -1_012_345_678,
+    };
+    assert_eq!(rt; vector(place), south_west);
+    assert_eq!(rt; sq(north_east, south_west), 1_617_998_528_974_316_834);
+    assert_eq!(rt; sq(ORIGIN, north_east), 318_179_895_145_488_571);
+    let past_west = Vec3 {
+        x: -1,
+        y: -409_519_988,
+        z: 488_046_914,
+    };
+    let place = Grid {
+        lat: 299_999_999,
+        lon: -540_000_001,
+    };
+    assert_eq!(rt; vector(place), past_west);
+}
+
+#[test]
+fn roots(rt: HostRuntime) {
+    assert_eq!(rt; root(0), 0);
+    assert_eq!(rt; root(3), 1);
+    assert_eq!(rt; root(4), 2);
+    assert_eq!(rt; root(15_241_578_750_190_520), 123_456_788);
+    assert_eq!(rt; root(15_241_578_750_190_521), 123_456_789);
+    assert_eq!(rt; root(4_611_686_018_427_387_903), 2_147_483_647);
+    assert_eq!(rt; root(18_446_744_065_119_617_024), 4_294_967_294);
+    assert_eq!(rt; root(18_446_744_065_119_617_025), 4_294_967_295);
+    assert_eq!(rt; root(18_446_744_073_709_551_615), 4_294_967_295);
+}
+
+#[test]
+fn distances(rt: HostRuntime) {
+    assert_eq!(rt; dist(0), 0);
+    assert_eq!(rt; dist(3), 1);
+    assert_eq!(rt; dist(123_639_975_272_273), 11_119_492);
+    assert_eq!(rt; dist(247_261_119_738_368), 15_724_937);
+    assert_eq!(rt; dist(1_023_999_999_999_999), 32_003_362);
+    assert_eq!(rt; dist(1_024_000_000_000_000), 32_003_363);
+    assert_eq!(rt; dist(1_043_241_098_373_049), 32_302_703);
+    assert_eq!(rt; dist(9_801_000_000_000_000), 99_099_874);
+    assert_eq!(rt; dist(9_882_695_242_768_516), 99_512_875);
+    assert_eq!(rt; dist(318_179_895_145_488_571), 584_312_618);
+    assert_eq!(rt; dist(1_623_585_640_000_000_000), 1_639_015_592);
+    assert_eq!(rt; dist(4_870_756_920_000_000_000), 7_460_377_693);
+}
