@@ -1,0 +1,247 @@
+use crate::setting::{NORTH, ORIGIN, recording, run};
+use gl_app::Status;
+use std::alloc::Global;
+use std::process::Abort;
+use std::test::Fail;
+
+/// The line for words that are of no form.
+const USAGE: &str =
+    "usage: free FILE | triangle FILE | score TASK PROOF WORKERS | check TASK PROOF | replay FILE SCHEDULE WORKERS | demo NUMBER\n";
+
+/// What a recording is refused with that isn't plain.
+const NOT_PLAIN: &str = "REFUSED IGC 9 - A.IGC\n";
+
+/// What is said of a recording whose every choice stays at one fix.
+const NO_DISTANCE: &str = "FREE 0.00 m\nFIXES 0 0 0 0 0\n";
+
+/// To and fro between two places a degree apart, four times.
+const TO_AND_FRO: [(&str, &str); 5] = [
+    (ORIGIN, "01000"),
+    (NORTH, "01000"),
+    (ORIGIN, "01000"),
+    (NORTH, "01000"),
+    (ORIGIN, "01000"),
+];
+
+/// What is said of it.
+const FOUR_DEGREES: &str = "FREE 444779.68 m\nFIXES 0 1 2 3 4\n";
+
+/// Runs `free A.IGC` over the bytes, and wants this status and this text.
+fn expect(
+    rt: &impl Abort,
+    alloc: Global,
+    bytes: Vec<u8>,
+    status: Status,
+    text: &str,
+) -> Result<(), Fail> {
+    let (ended, said) = run(alloc, "free A.IGC", bytes, &[])?;
+    assert_eq!(rt; ended, status, "and said {said}");
+    assert_eq!(rt; said.as_str(), text);
+    Ok(())
+}
+
+#[test]
+fn distances_of_one_and_of_five_fixes(rt: HostRuntime) -> Result<(), Fail> {
+    let five = recording(rt.alloc(), &TO_AND_FRO)?;
+    expect(&rt, rt.alloc(), five, Status::Done, FOUR_DEGREES)?;
+    let one = recording(rt.alloc(), &[(ORIGIN, "01000")])?;
+    expect(&rt, rt.alloc(), one, Status::Done, NO_DISTANCE)
+}
+
+/// Flights between places drawn from the whole globe, with their greatest distances by an independent program, which
+/// tries every choice in whole numbers without width.
+#[test]
+fn wandering_flights(rt: HostRuntime) -> Result<(), Fail> {
+    let cases = [
+        (
+            [
+                ("1737303N06507727W", "03116"),
+                ("5730949S05306151W", "00116"),
+                ("4928361N17829188W", "02955"),
+                ("2938741N08102004E", "00104"),
+                ("8335482N09744989E", "03969"),
+                ("5447569N13514528W", "03846"),
+                ("6336232N08815130E", "03116"),
+                ("5818991N10654891E", "00761"),
+                ("8047424S03048702W", "03668"),
+            ],
+            "FREE 48761897.67 m\nFIXES 1 2 3 5 8\n",
+        ),
+        (
+            [
+                ("0706002N09254755E", "03014"),
+                ("8555956S06439711E", "02485"),
+                ("0438089N11041842W", "03291"),
+                ("6524383S12817579E", "03567"),
+                ("0323856S08159490W", "01735"),
+                ("6710779N06015112E", "00723"),
+                ("4111376N13033438W", "02104"),
+                ("8636692N11452216W", "03008"),
+                ("6759414S15123185W", "03518"),
+            ],
+            "FREE 59018566.15 m\nFIXES 0 2 3 7 8\n",
+        ),
+        (
+            [
+                ("3038839N09439578W", "02562"),
+                ("7404294N12016997E", "00785"),
+                ("6035453S10141881E", "00949"),
+                ("8109936S00344001E", "00652"),
+                ("7502804S00753973W", "01936"),
+                ("7647108S10925884W", "03948"),
+                ("1757597S02402351E", "02027"),
+                ("2716907S16056048W", "01725"),
+                ("6454622S14622997W", "02393"),
+            ],
+            "FREE 47721325.93 m\nFIXES 0 1 5 6 7\n",
+        ),
+    ];
+    for (fixes, text) in cases {
+        let bytes = recording(rt.alloc(), &fixes)?;
+        expect(&rt, rt.alloc(), bytes, Status::Done, text)?;
+    }
+    Ok(())
+}
+
+#[test]
+fn a_loss_of_a_thousand_metres_is_allowed_and_no_more(rt: HostRuntime) -> Result<(), Fail> {
+    let low = [
+        "FREE 111194.92 m\nFIXES 0 0 0 0 1\n",
+        "FREE 111194.92 m\nFIXES 0 0 0 1 1\n",
+        "FREE 111194.92 m\nFIXES 0 0 1 1 1\n",
+        "FREE 111194.92 m\nFIXES 0 1 1 1 1\n",
+    ];
+    let other = "FREE 0.00 m\nFIXES 1 1 1 1 1\n";
+    let too_low = [NO_DISTANCE, other, NO_DISTANCE, other];
+    for (altitude, right) in [("01000", low), ("00999", too_low)] {
+        let bytes = recording(rt.alloc(), &[(ORIGIN, "02000"), (NORTH, altitude)])?;
+        let (status, said) = run(rt.alloc(), "free A.IGC", bytes, &[])?;
+        assert_eq!(rt; status, Status::Done);
+        assert!(rt; right.contains(&said.as_str()), "said {said}");
+    }
+    Ok(())
+}
+
+#[test]
+fn forty_fixes_read_and_forty_one_do_not(rt: HostRuntime) -> Result<(), Fail> {
+    let cases = [
+        (40, Status::Done, NO_DISTANCE),
+        (41, Status::Refused, NOT_PLAIN),
+    ];
+    for (count, status, text) in cases {
+        let fixes = vec![in rt.alloc(); (ORIGIN, "01000"); count]?;
+        let bytes = recording(rt.alloc(), &fixes)?;
+        expect(&rt, rt.alloc(), bytes, status, text)?;
+    }
+    Ok(())
+}
+
+#[test]
+fn texts_that_are_no_plain_recordings(rt: HostRuntime) -> Result<(), Fail> {
+    let texts = [
+        "",
+        // the calendar has no 31 June, and no 29 February 2023
+        "AXXXABC\nHFDTE310624\nB1000000000000N00000000EA0100001000\n",
+        "AXXXABC\nHFDTE290223\nB1000000000000N00000000EA0100001000\n",
+        "AXXXABC\nHFDTE010724 \nB1000000000000N00000000EA0100001000\n",
+        "AXXXABC\nHFDTEDATE:010724,01\nB1000000000000N00000000EA0100001000\n",
+        "XXXXABC\nHFDTE010724\nB1000000000000N00000000EA0100001000\n",
+        "AXXXABC\nHFDTE010724\n",
+        "AXXXABC\nHFDTE010724\n\n",
+        "AXXXABC\nHFDTE010724\nLXXX\n",
+        "AXXXABC\nHFDTE010724\nB1000000000000N00000000EV0100001000\n",
+        "AXXXABC\nHFDTE010724\nB1000000000000N00000000EA01000010000\n",
+        "AXXXABC\nHFDTE010724\nB2400000000000N00000000EA0100001000\n",
+        "AXXXABC\nHFDTE010724\nB1060000000000N00000000EA0100001000\n",
+        "AXXXABC\nHFDTE010724\nB1000600000000N00000000EA0100001000\n",
+        "AXXXABC\nHFDTE010724\nB1000000060000N00000000EA0100001000\n",
+        "AXXXABC\nHFDTE010724\nB1000009000001N00000000EA0100001000\n",
+        "AXXXABC\nHFDTE010724\nB1000000000000X00000000EA0100001000\n",
+        "AXXXABC\nHFDTE010724\nB1000000000000N18000001EA0100001000\n",
+        "AXXXABC\nHFDTE010724\nB1000000000000N00000000EA0x00001000\n",
+        "AXXXABC\nHFDTE010724\nB1000000000000N00000000EA0100032768\n",
+        // the second fix isn't later than the first
+        "AXXXABC\nHFDTE010724\nB1000000000000N00000000EA0100001000\nB1000000000000N00000000EA0100001000\n",
+    ];
+    for text in texts {
+        let bytes = Vec::from_slice(rt.alloc(), text.as_bytes())?;
+        expect(&rt, rt.alloc(), bytes, Status::Refused, NOT_PLAIN)?;
+    }
+    Ok(())
+}
+
+#[test]
+fn plain_recordings_at_the_bounds(rt: HostRuntime) -> Result<(), Fail> {
+    let texts = [
+        "A\nHFDTE290224\nB2359590000000N00000000EA0100001000",
+        "A\r\nHFDTE311299\r\nB1000009000000N00000000EA0100032767\r\n",
+        "AXXXABC\nHFDTE010100\nB1000009000000S18000000WA-0001-9999\r",
+        "AXXXABC\nHFDTE010724\nB1000000059999N00059999EA9999900000\n",
+    ];
+    for text in texts {
+        let bytes = Vec::from_slice(rt.alloc(), text.as_bytes())?;
+        expect(&rt, rt.alloc(), bytes, Status::Done, NO_DISTANCE)?;
+    }
+    Ok(())
+}
+
+#[test]
+fn words_of_no_form(rt: HostRuntime) -> Result<(), Fail> {
+    let lines = [
+        "",
+        "free",
+        "free A.IGC B.IGC",
+        "Free A.IGC",
+        "--help",
+        "--version",
+        "free ",
+        "free .",
+        "free ..",
+        "free a/A.IGC",
+        // 129 bytes
+        "free AAAAAAAAAAAAAAAAAAAAAAAAAAAAAAAAAAAAAAAAAAAAAAAAAAAAAAAAAAAAAAAAAAAAAAAAAAAAAAAAAAAAAAAAAAAAAAAAAAAAAAAAAAAAAAAAAAAAAAAAAAAAAAAAA",
+    ];
+    for line in lines {
+        let bytes = recording(rt.alloc(), &TO_AND_FRO)?;
+        let (status, said) = run(rt.alloc(), line, bytes, &[])?;
+        assert_eq!(rt; status, Status::Words, "at {line}");
+        assert_eq!(rt; said.as_str(), USAGE);
+    }
+    Ok(())
+}
+
+#[test]
+fn files_that_are_missing_or_too_large(rt: HostRuntime) -> Result<(), Fail> {
+    let cases = [
+        ("free NONE.IGC", 5, "REFUSED FILE 1 - NONE.IGC\n"),
+        ("free A.IGC", 16_777_217, "REFUSED FILE 3 - A.IGC\n"),
+        ("free A.IGC", 16_777_216, NOT_PLAIN),
+    ];
+    for (line, size, text) in cases {
+        let bytes = vec![in rt.alloc(); b'A'; size]?;
+        let (status, said) = run(rt.alloc(), line, bytes, &[])?;
+        assert_eq!(rt; status, Status::Refused);
+        assert_eq!(rt; said.as_str(), text);
+    }
+    Ok(())
+}
+
+/// The run lists the names, reads twice and says once, so its fifth call is the first that it doesn't make. The text has
+/// 33 bytes, of which a failing call says 16.
+#[test]
+fn each_call_of_the_desk_fails_in_turn(rt: HostRuntime) -> Result<(), Fail> {
+    let cases = [
+        (1, Status::Desk, ""),
+        (2, Status::Desk, ""),
+        (3, Status::Desk, ""),
+        (4, Status::Desk, "FREE 444779.68 m"),
+        (5, Status::Done, FOUR_DEGREES),
+    ];
+    for (call, status, text) in cases {
+        let bytes = recording(rt.alloc(), &TO_AND_FRO)?;
+        let (ended, said) = run(rt.alloc(), "free A.IGC", bytes, &[call])?;
+        assert_eq!(rt; ended, status, "at call {call}");
+        assert_eq!(rt; said.as_str(), text, "at call {call}");
+    }
+    Ok(())
+}
