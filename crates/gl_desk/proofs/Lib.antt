@@ -1,3 +1,4 @@
 pub mod Pieces
 pub mod StoredLemmas
 pub mod GivenLemmas
+pub mod DeskLemmas

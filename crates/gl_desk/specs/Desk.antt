@@ -55,10 +55,19 @@ abbrev pub grown_by : Option (Option (List ℕ)) → List ℕ → Option (Option
 grown_by None piece = None
 grown_by (Some file) piece = Some (Some (unwrap_or file [] ++ piece))
 
--- some first part of the piece meets the fact
-abbrev pub TookPrefix : List ℕ → (List ℕ → Type 0) → Type 0
-TookPrefix piece P = (n : ℕ) × P (take n piece)
+-- the part was added to what was appended under the name
+abbrev pub OutputGrows : Option AppendedByName → Option AppendedByName → List ℕ → List ℕ → Type 0
+OutputGrows before after name part = output_of after name ≡ followed_by (output_of before name) part
 
--- the file is grown by the part; where nothing was taken, it may also be as it was
-abbrev pub Took : Option (Option (List ℕ)) → Option (Option (List ℕ)) → List ℕ → Type 0
-Took before after part = (after ≡ grown_by before part) ⊎ ((part ≡ []) × (after ≡ before))
+-- the part was added to the file with the name, which is made where it isn't there
+abbrev pub FileGrows : Option FilesByName → Option FilesByName → List ℕ → List ℕ → Type 0
+FileGrows before after name part = file_of after name ≡ grown_by (file_of before name) part
+
+-- the part was added to the file, or there was nothing to add and the file is as it was
+abbrev pub FileTakes : Option FilesByName → Option FilesByName → List ℕ → List ℕ → Type 0
+FileTakes before after name part =
+    FileGrows before after name part ⊎ ((part ≡ []) × (file_of after name ≡ file_of before name))
+
+-- some first part of the piece meets the fact
+abbrev pub TakesPrefix : List ℕ → (List ℕ → Type 0) → Type 0
+TakesPrefix piece P = (n : ℕ) × P (take n piece)

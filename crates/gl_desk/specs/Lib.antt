@@ -1,3 +1,4 @@
 pub mod Answers
 pub mod Desk
+pub mod HostDesk
 pub mod MemDesk

@@ -5,9 +5,9 @@ use crate::error::DeskError;
 /// The calls of a desk: which of them fail, how many were made, and how many of those failed.
 #[derive(Drop)]
 pub struct Calls {
-    failing: Vec<u64>,
-    made: u64,
-    failed: u64,
+    pub failing: Vec<u64>,
+    pub made: u64,
+    pub failed: u64,
     ghost counted: { failed ≤ made },
 }
 

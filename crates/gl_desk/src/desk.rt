@@ -1,6 +1,6 @@
 ghost use Rattle.std.specs.Prelude.{◌≡◌, ◌≢◌, ℕ, ◌≤◌, List, Option, length, IfOk, OnOk, OnErr};
 ghost use Rattle.gl_desk.specs.Answers.{OnFailed, UnlessFailed};
-ghost use Rattle.gl_desk.specs.Desk.{FilesByName, AppendedByName, Rose, HasFile, OnFile, ListsNames, ReadsFrom, followed_by, output_of, file_of, grown_by, TookPrefix, Took};
+ghost use Rattle.gl_desk.specs.Desk.{FilesByName, AppendedByName, Rose, HasFile, OnFile, ListsNames, ReadsFrom, followed_by, output_of, file_of, OutputGrows, FileGrows, FileTakes, TakesPrefix};
 
 use crate::error::DeskError;
 use crate::name::Name;
@@ -48,7 +48,8 @@ pub trait Desk {
     ) -> Result<usize, DeskError>
         requires { HasFile (folder self.old) name.now }
         ensures within { IfOk result (λ n. n ≤ length into.new) }
-        ensures bytes { IfOk result (λ n. OnFile (folder self.old) name.now (λ file. ReadsFrom file at into.new n)) }
+        ensures bytes { IfOk result (λ n.
+            OnFile (folder self.old) name.now (λ file. ReadsFrom file at into.new n)) }
 
         ensures failed { OnFailed result (Rose (faults self.old) (faults self.new)) }
         ensures not_failed { UnlessFailed result (faults self.new ≡ faults self.old) }
@@ -60,11 +61,19 @@ pub trait Desk {
     /// Adds all of `piece` to the file, which is made where it isn't there. After an error a prefix
     /// of `piece` was added, perhaps an empty one.
     fn append(&mut self, alloc: Global, name: &Name, piece: &[u8]) -> Result<(), DeskError>
-        ensures appended { OnOk result (output_of (outputs self.new) name.now ≡ followed_by (output_of (outputs self.old) name.now) piece.now) }
-        ensures written { OnOk result (file_of (folder self.new) name.now ≡ grown_by (file_of (folder self.old) name.now) piece.now) }
-        ensures prefix { OnErr result (TookPrefix piece.now (λ part. (output_of (outputs self.new) name.now ≡ followed_by (output_of (outputs self.old) name.now) part) × Took (file_of (folder self.old) name.now) (file_of (folder self.new) name.now) part)) }
-        ensures other_outputs { (other : List ℕ) → other ≢ name.now → output_of (outputs self.new) other ≡ output_of (outputs self.old) other }
-        ensures other_files { (other : List ℕ) → other ≢ name.now → file_of (folder self.new) other ≡ file_of (folder self.old) other }
+        ensures appended { OnOk result
+            (OutputGrows (outputs self.old) (outputs self.new) name.now piece.now) }
+        ensures written { OnOk result
+            (FileGrows (folder self.old) (folder self.new) name.now piece.now) }
+
+        // The same part stands in the file and among what was appended.
+        ensures prefix { OnErr result (TakesPrefix piece.now (λ part.
+            OutputGrows (outputs self.old) (outputs self.new) name.now part
+            × FileTakes (folder self.old) (folder self.new) name.now part)) }
+        ensures other_outputs { (other : List ℕ) → other ≢ name.now
+            → output_of (outputs self.new) other ≡ output_of (outputs self.old) other }
+        ensures other_files { (other : List ℕ) → other ≢ name.now
+            → file_of (folder self.new) other ≡ file_of (folder self.old) other }
 
         ensures failed { OnFailed result (Rose (faults self.old) (faults self.new)) }
         ensures not_failed { UnlessFailed result (faults self.new ≡ faults self.old) }
@@ -74,7 +83,8 @@ pub trait Desk {
     /// Prints all of `piece`. After an error a prefix of it was printed, perhaps an empty one.
     fn say(&mut self, alloc: Global, piece: &[u8]) -> Result<(), DeskError>
         ensures said { OnOk result (said self.new ≡ followed_by (said self.old) piece.now) }
-        ensures prefix { OnErr result (TookPrefix piece.now (λ part. said self.new ≡ followed_by (said self.old) part)) }
+        ensures prefix { OnErr result (TakesPrefix piece.now
+            (λ part. said self.new ≡ followed_by (said self.old) part)) }
 
         ensures failed { OnFailed result (Rose (faults self.old) (faults self.new)) }
         ensures not_failed { UnlessFailed result (faults self.new ≡ faults self.old) }

@@ -1,4 +1,4 @@
-ghost use Rattle.std.specs.Prelude.{◌≡◌, ◌≤◌, ◌↔◌, length, IfOk, IfErr, IsErr, OnOk, IsOkAnd, IsErrAnd, MatchResult};
+ghost use Rattle.std.specs.Prelude.{◌≡◌, ◌≤◌, length, IfOk, IsErr, MatchResult};
 ghost use Rattle.gl_desk.specs.Answers.{OnFailed, UnlessFailed};
 ghost use Rattle.gl_desk.specs.Desk.{Rose};
 
@@ -126,6 +126,7 @@ fn append_file<Rt: Files>(rt: &Rt, name: &str, piece: &[u8]) -> io::Result<()> {
 
 impl<Rt: Files + Print> Desk for HostDesk<Rt> {
     ghost use Rattle.std.specs.Prelude.{None};
+    ghost use Rattle.gl_desk.specs.HostDesk.{faults_counted};
 
     ghost folder = { λ _. None };
 
@@ -133,7 +134,7 @@ impl<Rt: Files + Print> Desk for HostDesk<Rt> {
 
     ghost outputs = { λ _. None };
 
-    ghost faults = { λ desk. desk.faults };
+    ghost faults = { faults_counted };
 
     fn names(&mut self, alloc: Global) -> Result<Vec<Name>, DeskError> {
         let listed = plain_names(&self.rt, alloc);
@@ -159,5 +160,69 @@ impl<Rt: Files + Print> Desk for HostDesk<Rt> {
     fn say(&mut self, _alloc: Global, piece: &[u8]) -> Result<(), DeskError> {
         let written = write_whole(&mut io::writer(&self.rt), piece);
         self.settle(written)
+    }
+}
+
+#[cfg(test)]
+mod tests {
+    use super::*;
+    use crate::error::ReadError;
+    use crate::read::read_all;
+    use std::os::unix::fs::symlink;
+    use std::test::Fail;
+
+    /// Appends `length` bytes to a file that isn't there before, and reads it again.
+    fn written_and_read(
+        alloc: Global,
+        desk: &mut HostDesk<&HostRuntime>,
+        name: &Name,
+        length: usize,
+    ) -> Result<bool, Fail> {
+        let bytes = vec![in alloc; 7u8; length]?;
+        let _ = fs::remove_file(desk.rt, name.as_str());
+        desk.append(alloc, name, &bytes)?;
+        let read = read_all(alloc, desk, name, 1_000_000)?;
+        fs::remove_file(desk.rt, name.as_str())?;
+        Ok(read == bytes)
+    }
+
+    #[test]
+    fn reads_what_it_appends(rt: HostRuntime) -> Result<(), Fail> {
+        let alloc = rt.alloc();
+        let mut desk = HostDesk::new(&rt);
+        for (text, length) in [("NONE.BIN", 0), ("ONE.BIN", 1), ("LONG.BIN", 100_000)] {
+            let name = Name::from_text(alloc, text)?;
+            assert!(rt; written_and_read(alloc, &mut desk, &name, length)?);
+        }
+        assert_eq!(rt; desk.faults, 0);
+        let missing = Name::from_text(alloc, "MISSING.BIN")?;
+        assert_eq!(rt;
+            read_all(alloc, &mut desk, &missing, 9),
+            Err(ReadError::Fault)
+        );
+        assert_eq!(rt; desk.faults, 1);
+        Ok(())
+    }
+
+    #[test]
+    fn lists_plain_files_alone(rt: HostRuntime) -> Result<(), Fail> {
+        let alloc = rt.alloc();
+        let mut desk = HostDesk::new(&rt);
+        let plain = Name::from_text(alloc, "PLAIN.BIN")?;
+        let _ = fs::remove_dir(&rt, "SUB.DIR");
+        let _ = fs::remove_file(&rt, "LINK.BIN");
+        desk.append(alloc, &plain, b"x")?;
+        fs::create_dir(&rt, "SUB.DIR")?;
+        symlink(&rt, "PLAIN.BIN", "LINK.BIN")?;
+        let names = desk.names(alloc)?;
+        fs::remove_dir(&rt, "SUB.DIR")?;
+        fs::remove_file(&rt, "LINK.BIN")?;
+        fs::remove_file(&rt, "PLAIN.BIN")?;
+        assert!(rt; names.contains(&plain));
+        assert!(rt; !names.contains(&Name::from_text(alloc, "SUB.DIR")?));
+        assert!(rt; !names.contains(&Name::from_text(alloc, "LINK.BIN")?));
+        desk.say(alloc, b"said\n")?;
+        assert_eq!(rt; desk.faults, 0);
+        Ok(())
     }
 }

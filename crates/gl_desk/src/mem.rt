@@ -5,7 +5,7 @@ ghost use Rattle.std.specs.BTreeMap.{is_at};
 ghost use Rattle.std.specs.Map.{keys_of, lookup};
 ghost use Rattle.gl_desk.specs.Answers.{OnFailed, OnMemory};
 ghost use Rattle.gl_desk.specs.Desk.{ListsNames, ReadsFrom};
-ghost use Rattle.gl_desk.specs.MemDesk.{all_differ, given_files, stored, with_piece, files_in};
+ghost use Rattle.gl_desk.specs.MemDesk.{all_differ, given_files, stored, with_piece, files_in, files_of};
 
 use crate::calls::Calls;
 use crate::desk::Desk;
@@ -65,12 +65,10 @@ impl MemDesk {
 }
 
 /// The files by their names, which differ.
-fn store(
-    alloc: Global,
-    files: Vec<(Name, Vec<u8>)>,
-) -> Result<BTreeMap<Name, MemFile>, AllocError>
+fn store(alloc: Global, files: Vec<(Name, Vec<u8>)>) -> Result<BTreeMap<Name, MemFile>, AllocError>
     requires { IsTrue (all_differ (keys_of files.items)) }
-    ensures { IfOk result (λ made. (name : List ℕ) → stored made name ≡ lookup (is_at (slice_cmp nat_cmp name)) (given_files files.items)) }
+    ensures { IfOk result (λ made. (name : List ℕ)
+        → stored made name ≡ lookup (is_at (slice_cmp nat_cmp name)) (given_files files.items)) }
 {
     let mut made = BTreeMap::new(alloc);
     for (name, bytes) in files {
@@ -97,9 +95,11 @@ fn add(
     name: &Name,
     piece: &[u8],
 ) -> Result<(), AllocError>
-    ensures ok { OnOk result (stored files.new name.now ≡ Some (with_piece (stored files.old name.now) piece.now)) }
+    ensures ok { OnOk result (stored files.new name.now
+        ≡ Some (with_piece (stored files.old name.now) piece.now)) }
     ensures err { OnErr result (stored files.new name.now ≡ stored files.old name.now) }
-    ensures others { (other : List ℕ) → other ≢ name.now → stored files.new other ≡ stored files.old other }
+    ensures others { (other : List ℕ) → other ≢ name.now
+        → stored files.new other ≡ stored files.old other }
 {
     match files.get_mut(name) {
         Some(file) => file.append(piece)?,
@@ -113,15 +113,15 @@ fn add(
 
 impl Desk for MemDesk {
     ghost use Rattle.std.specs.Prelude.{Some};
-    ghost use Rattle.gl_desk.specs.MemDesk.{files_in, outputs_in, files_of, outputs_of, said_to, CountsCall, FailsWhenDue, Appends, IsSameUnder};
+    ghost use Rattle.gl_desk.specs.MemDesk.{files_of, outputs_of, said_to, faults_of, CountsCall, FailsWhenDue, Appends, IsSameUnder};
 
-    ghost folder = { λ desk. Some (files_in desk.files) };
+    ghost folder = { λ desk. Some (files_of desk) };
 
-    ghost said = { λ desk. Some desk.said.items };
+    ghost said = { λ desk. Some (said_to desk) };
 
-    ghost outputs = { λ desk. Some (outputs_in desk.files) };
+    ghost outputs = { λ desk. Some (outputs_of desk) };
 
-    ghost faults = { λ desk. desk.calls.failed };
+    ghost faults = { faults_of };
 
     fn names(&mut self, alloc: Global) -> Result<Vec<Name>, DeskError>
         ensures listed { IfOk result (λ names. ListsNames (Some (files_of self.old)) names.items) }
@@ -146,7 +146,8 @@ impl Desk for MemDesk {
     ) -> Result<usize, DeskError>
         requires { IsSome (files_of self.old name.now) }
         ensures within { IfOk result (λ n. n ≤ length into.new) }
-        ensures bytes { IfOk result (λ n. IfSome (files_of self.old name.now) (λ file. ReadsFrom file at into.new n)) }
+        ensures bytes { IfOk result (λ n.
+            IfSome (files_of self.old name.now) (λ file. ReadsFrom file at into.new n)) }
         ensures due { FailsWhenDue result self.old self.new }
         ensures counted { CountsCall self.old self.new }
         ensures same_files { files_of self.new ≡ files_of self.old }
@@ -162,7 +163,8 @@ impl Desk for MemDesk {
 
     fn append(&mut self, alloc: Global, name: &Name, piece: &[u8]) -> Result<(), DeskError>
         ensures appended { OnOk result (Appends self.old self.new name.now piece.now) }
-        ensures half { OnFailed result (Appends self.old self.new name.now (take (length piece.now / 2) piece.now)) }
+        ensures half { OnFailed result
+            (Appends self.old self.new name.now (take (length piece.now / 2) piece.now)) }
         ensures nothing { OnMemory result (IsSameUnder self.old self.new name.now) }
         ensures others { (other : List ℕ) → other ≢ name.now → IsSameUnder self.old self.new other }
         ensures due { FailsWhenDue result self.old self.new }
@@ -178,7 +180,8 @@ impl Desk for MemDesk {
 
     fn say(&mut self, _alloc: Global, piece: &[u8]) -> Result<(), DeskError>
         ensures said { OnOk result (said_to self.new ≡ said_to self.old ++ piece.now) }
-        ensures half { OnFailed result (said_to self.new ≡ said_to self.old ++ take (length piece.now / 2) piece.now) }
+        ensures half { OnFailed result
+            (said_to self.new ≡ said_to self.old ++ take (length piece.now / 2) piece.now) }
         ensures nothing { OnMemory result (said_to self.new ≡ said_to self.old) }
         ensures due { FailsWhenDue result self.old self.new }
         ensures counted { CountsCall self.old self.new }
@@ -198,15 +201,64 @@ mod tests {
     use super::*;
     use std::test::Fail;
 
+    /// What a run of four calls answered, and how many of them failed.
+    #[derive(Debug, Drop, PartialEq)]
+    struct Run {
+        listed: Result<usize, DeskError>,
+        read: Result<usize, DeskError>,
+        appended: Result<(), DeskError>,
+        said: Result<(), DeskError>,
+        faults: u64,
+    }
+
+    fn four_calls(alloc: Global, desk: &mut MemDesk, given: &Name, made: &Name) -> Run
+        requires { IsSome (files_of desk.old given.now) }
+    {
+        let mut into = [0; 8];
+        Run {
+            listed: desk.names(alloc).map(|names| names.len()),
+            read: desk.read_at(alloc, given, 1, &mut into),
+            appended: desk.append(alloc, made, b"hello"),
+            said: desk.say(alloc, b"world"),
+            faults: desk.calls.failed,
+        }
+    }
+
+    fn fails_if<T: Drop>(fails: bool, value: T) -> Result<T, DeskError> {
+        if fails {
+            Err(DeskError::Failed)
+        } else {
+            Ok(value)
+        }
+    }
+
     #[test]
-    fn fails_where_told(rt: HostRuntime) -> Result<(), Fail> {
+    fn fails_at_the_call_that_is_named(rt: HostRuntime) -> Result<(), Fail> {
         let alloc = rt.alloc();
-        let a = Name::from_text(alloc, "A.IGC")?;
-        let b = Name::from_text(alloc, "B.IGC")?;
-        let c = Name::from_text(alloc, "DAY.TOML")?;
-        let files = vec![in alloc; (a, Vec::new(alloc)), (b, Vec::new(alloc)), (c, Vec::new(alloc))]?;
-        let mut desk = MemDesk::new(alloc, files, Vec::new(alloc))?;
-        assert_eq!(rt; desk.names(alloc)?.len(), 3);
+        let cases = [
+            (0, "hello", "world"),
+            (1, "hello", "world"),
+            (2, "hello", "world"),
+            (3, "he", "world"),
+            (4, "hello", "wo"),
+        ];
+        for (number, file, said) in cases {
+            let given = Name::from_text(alloc, "A.IGC")?;
+            let made = Name::from_text(alloc, "P.TXT")?;
+            let files = vec![in alloc; (given.clone()?, Vec::from_slice(alloc, b"abc")?)]?;
+            let mut desk = MemDesk::new(alloc, files, vec![in alloc; number]?)?;
+            assert!(rt; desk.file(&given).is_some());
+            let expected = Run {
+                listed: fails_if(number == 1, 1),
+                read: fails_if(number == 2, 2),
+                appended: fails_if(number == 3, ()),
+                said: fails_if(number == 4, ()),
+                faults: u64::from(number != 0),
+            };
+            assert_eq!(rt; four_calls(alloc, &mut desk, &given, &made), expected);
+            assert_eq!(rt; desk.file(&made), Some(file.as_bytes()));
+            assert_eq!(rt; desk.printed(), said.as_bytes());
+        }
         Ok(())
     }
 }

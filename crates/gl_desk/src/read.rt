@@ -18,6 +18,9 @@ fn buffer(alloc: Global, length: usize) -> Result<Vec<u8>, AllocError>
 }
 
 /// The whole file, where it has at most `limit` bytes.
+///
+/// It holds no more memory than the bytes read so far and one piece of 65,536 bytes, and ends after
+/// at most `limit + 1` reads, since each but the last takes at least one byte.
 pub fn read_all<D: Desk>(
     alloc: Global,
     desk: &mut D,
@@ -25,9 +28,11 @@ pub fn read_all<D: Desk>(
     limit: u64,
 ) -> Result<Vec<u8>, ReadError>
     requires { HasFile (D.folder desk.old) name.now }
-    ensures bytes { IfOk result (λ bytes. OnFile (D.folder desk.old) name.now (λ file. bytes.items ≡ file)) }
+    ensures bytes { IfOk result (λ bytes.
+        OnFile (D.folder desk.old) name.now (λ file. bytes.items ≡ file)) }
     ensures fits { IfOk result (λ bytes. vec_len bytes ≤ limit) }
-    ensures too_large { OnWholeRead result (OnFile (D.folder desk.old) name.now (λ file. IsErrOf result ReadError.TooLarge ↔ (limit < length file))) }
+    ensures too_large { OnWholeRead result (OnFile (D.folder desk.old) name.now
+        (λ file. IsErrOf result ReadError.TooLarge ↔ (limit < length file))) }
 
     ensures fault { OnFault result (Rose (D.faults desk.old) (D.faults desk.new)) }
     ensures no_fault { UnlessFault result (D.faults desk.new ≡ D.faults desk.old) }
@@ -46,6 +51,30 @@ pub fn read_all<D: Desk>(
         if read as u64 > limit - bytes.len() as u64 {
             return Err(ReadError::TooLarge);
         }
+        bytes.reserve_exact(read)?;
         bytes.extend_from_slice(&piece[..read])?;
+    }
+}
+
+#[cfg(test)]
+mod tests {
+    use super::*;
+    use crate::mem::MemDesk;
+    use std::test::Fail;
+
+    #[test]
+    fn reads_no_more_than_the_limit(rt: HostRuntime) -> Result<(), Fail> {
+        let alloc = rt.alloc();
+        let name = Name::from_text(alloc, "FIVE.TXT")?;
+        let files = vec![in alloc; (name.clone()?, Vec::from_slice(alloc, b"abcde")?)]?;
+        let mut desk = MemDesk::new(alloc, files, Vec::new(alloc))?;
+        assert!(rt; desk.file(&name).is_some());
+        let whole = read_all(alloc, &mut desk, &name, 5)?;
+        assert_eq!(rt; whole.as_slice(), b"abcde".as_slice());
+        assert_eq!(rt;
+            read_all(alloc, &mut desk, &name, 4),
+            Err(ReadError::TooLarge)
+        );
+        Ok(())
     }
 }

@@ -1,4 +1,4 @@
-use Rattle.std.proofs.Common.{◌≡◌, ◌+◌, ◌++◌, take, length, vec_len, rules, arith}
+use Rattle.std.proofs.Common.{◌≡◌, ◌+◌, ◌++◌, take, vec_len, rules, arith}
 use Rattle.std.proofs.lemmas.Grind.{common_steps}
 use Rattle.gl_desk.proofs.Pieces.{first_part_grows}
 use Rattle.gl_desk.proofs.read.read_all.Goals as goal

@@ -1,4 +1,4 @@
-use Rattle.std.proofs.Common.{◌≡◌, ℕ, ◌+◌, ◌-◌, ◌≤◌, length, take, vec_len}
+use Rattle.std.proofs.Common.{◌≡◌, ◌+◌, ◌-◌, ◌≤◌, length, take, vec_len}
 use Rattle.gl_desk.specs.Desk.{OnFile}
 use Rattle.gl_desk.specs.declared.read.TheConstants.{PIECE}
 use Rattle.gl_desk.proofs.read.read_all.Given as goal

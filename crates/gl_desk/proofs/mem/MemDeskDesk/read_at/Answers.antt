@@ -1,4 +1,4 @@
-use Rattle.std.proofs.Common.{rules, arith}
+use Rattle.std.proofs.Common.{arith}
 use Rattle.std.proofs.lemmas.Grind.{common_steps}
 use Rattle.gl_desk.specs.MemDesk.{files_in}
 use Rattle.gl_desk.proofs.mem.MemDeskDesk.read_at.Goals as goal
