@@ -1,1 +1,2 @@
 pub mod FreeTexts
+pub mod LineTexts

@@ -1,5 +1,5 @@
 -- The right answer of the free distance of a file.
-use Rattle.std.specs.Prelude.{◌≡◌, ℕ, ◌-◌, List, length, map, Option, None, Some, pos, nat_lt, MatchBool}
+use Rattle.std.specs.Prelude.{◌≡◌, ℕ, ◌-◌, ◌≤◌, List, length, map, Option, None, Some, IsSome, pos, nat_lt, MatchBool}
 use Rattle.gl_igc.specs.declared.fix.Fix.{Fix}
 use Rattle.gl_igc.specs.Plain.{Reading, plain_recording}
 use Rattle.gl_igc.specs.Recording.{sighting_of}
@@ -43,3 +43,8 @@ abbrev pub IsFree : Option (List ℕ) → List ℕ → Status → List ℕ → T
 IsFree None name status said = IsRefused NotListed name status said
 IsFree (Some bytes) name status said =
     MatchBool (nat_lt most_bytes (length bytes)) (IsRefused TooLarge name status said) (IsFreeOfReading (plain_recording bytes) name status said)
+
+-- a file that passes these tests: it is there, it isn't too large, and it is a plain recording
+abbrev pub IsFreeFile : Option (List ℕ) → Type 0
+IsFreeFile None = ⊥
+IsFreeFile (Some bytes) = (length bytes ≤ most_bytes) × IsSome (plain_recording bytes)

@@ -1,10 +1,16 @@
 -- The lines that a run says.
-use Rattle.std.specs.Prelude.{ℕ, List, [], ◌∷◌, ◌++◌, codes}
+use Rattle.std.specs.Prelude.{◌≡◌, ℕ, List, [], ◌∷◌, ◌++◌, Contains, codes}
 use Rattle.std.specs.List.{flat_map}
 use Rattle.std.specs.Fmt.{decimal}
 use Rattle.gl_text.specs.Numbers.{fixed}
 use Rattle.gl_app.specs.declared.refusal.Refusal.{Refusal}
 use Rattle.gl_app.specs.declared.refusal.Refusal.TheVariants.{NotListed, TooLarge, NotPlain}
+
+-- one line: an LF, the byte 10, ends it, and no other stands in it
+pub record IsLine (text : List ℕ) : Type 0 where
+  pub line : List ℕ
+  pub unbroken : ¬ Contains line 10
+  pub ended : text ≡ line ++ 10 ∷ []
 
 -- the line for words that are of no form
 abbrev pub usage_line : List ℕ

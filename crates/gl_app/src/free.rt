@@ -1,8 +1,8 @@
-ghost use Rattle.std.specs.Prelude.{◌≡◌, ◌≤◌, [], length, None, Some, IfOk};
+ghost use Rattle.std.specs.Prelude.{◌≡◌, ◌≤◌, length, None, Some, IfOk, IsSomeAnd};
 ghost use Rattle.gl_desk.specs.Desk.{Rose};
 ghost use Rattle.gl_igc.specs.Plain.{plain_recording};
 ghost use Rattle.gl_igc.specs.Recording.{reading_of};
-ghost use Rattle.gl_app.specs.Free.{IsFree, IsFreeOfReading, IsFreeText, most_bytes};
+ghost use Rattle.gl_app.specs.Free.{IsFree, IsFreeText, most_bytes};
 ghost use Rattle.gl_app.specs.Halt.{IfRefused, OnDesk, OnFolder, UnlessDesk};
 ghost use Rattle.gl_app.specs.Texts.{refusal_line};
 ghost use Rattle.gl_app.specs.declared.refusal.Refusal.TheVariants.{NotPlain};
@@ -26,12 +26,13 @@ const MOST_LOSS: i32 = 1_000;
 fn free_of_recording(alloc: Global, recording: &Recording) -> Result<Vec<u8>, AllocError>
     ensures { IfOk result (λ text. IsFreeText (reading_of recording.now) text.items) }
 {
-    let last = recording.fixes.len() - 1;
-    let goal = FreeGoal::new(alloc, &recording.fixes, 0, last as u32, MOST_LOSS)?;
+    let fixes = recording.fixes.as_slice();
+    let last = fixes.len() - 1;
+    let goal = FreeGoal::new(alloc, fixes, 0, last as u32, MOST_LOSS)?;
     match search_all(alloc, &goal)? {
         Some(best) => {
-            let fixes = fix_numbers(alloc, &goal, &best.tuple)?;
-            free_lines(alloc, best.total, &fixes)
+            let numbers = fix_numbers(alloc, &goal, &best.tuple)?;
+            free_lines(alloc, best.total, &numbers)
         }
         None => unreachable!(),
     }
@@ -39,7 +40,7 @@ fn free_of_recording(alloc: Global, recording: &Recording) -> Result<Vec<u8>, Al
 
 /// The two lines of the best free distance of a recording's text; refused where it isn't a plain recording.
 fn free_of_text(alloc: Global, text: &[u8]) -> Result<Vec<u8>, Halt>
-    ensures done { IfOk result (λ said. IsFreeOfReading (plain_recording text.now) [] Done said.items) }
+    ensures done { IfOk result (λ said. IsSomeAnd (plain_recording text.now) (λ reading. IsFreeText reading said.items)) }
     ensures refused { IfRefused result (λ refusal. (refusal ≡ NotPlain) × (plain_recording text.now ≡ None)) }
     ensures no_fault { OnDesk result ⊥ }
 {

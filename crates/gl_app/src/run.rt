@@ -1,10 +1,10 @@
-ghost use Rattle.std.specs.Prelude.{◌≡◌, ◌≢◌, ◌↔◌, None, IfOk};
+ghost use Rattle.std.specs.Prelude.{◌≡◌, IfOk, Some};
 ghost use Rattle.gl_desk.specs.Desk.{Rose};
 ghost use Rattle.gl_app.specs.Halt.{IfRefused, OnDesk, OnFolder, UnlessDesk};
-ghost use Rattle.gl_app.specs.Run.{AgreesWithWords, IsRight, IsRightFor, IsRun, IsSaidWith, OnDeskElse, SaysWith};
+ghost use Rattle.gl_app.specs.Run.{AgreesWithWords, EndsWith, IsAnswer, IsRight, IsRightFor, OnDeskElse, PassTests, SaidLineAt, UnlessStopped};
 ghost use Rattle.gl_app.specs.Command.{seen};
 ghost use Rattle.gl_app.specs.Words.{command_of};
-ghost use Rattle.gl_app.specs.declared.status.Status.TheVariants.{Words};
+ghost use Rattle.gl_app.specs.declared.status.Status.TheVariants.{Done};
 
 use crate::command::{Command, read_words};
 use crate::free::free;
@@ -28,8 +28,7 @@ fn reply_to_command<D: Desk>(
     command: Command<'_>,
 ) -> Result<Reply, Halt>
     ensures right { IfOk result (λ reply. OnFolder (D.folder desk.old) (λ files. IsRightFor (seen command.entry) files reply.status reply.text.items)) }
-    ensures words { IfOk result (λ reply. reply.status ≢ Words) }
-    ensures line { IfOk result (λ reply. IsSaidWith reply.status reply.text.items) }
+    ensures answer { IfOk result (λ reply. IsAnswer (Some (seen command.entry)) reply.status reply.text.items) }
     ensures not_refused { IfRefused result (λ _. ⊥) }
 
     ensures failed { OnDesk result (Rose (D.faults desk.old) (D.faults desk.new)) }
@@ -54,9 +53,8 @@ fn reply_to_command<D: Desk>(
 
 /// The reply to the words.
 fn reply_to_words<D: Desk>(alloc: Global, words: &[Name], desk: &mut D) -> Result<Reply, Halt>
-    ensures right { IfOk result (λ reply. OnFolder (D.folder desk.old) (λ files. IsRight words.now files reply.status reply.text.items)) }
-    ensures words { IfOk result (λ reply. reply.status ≡ Words ↔ (command_of words.now ≡ None)) }
-    ensures line { IfOk result (λ reply. IsSaidWith reply.status reply.text.items) }
+    ensures right { IfOk result (λ reply. OnFolder (D.folder desk.old) (λ files. IsRight (command_of words.now) files reply.status reply.text.items)) }
+    ensures answer { IfOk result (λ reply. IsAnswer (command_of words.now) reply.status reply.text.items) }
     ensures not_refused { IfRefused result (λ _. ⊥) }
 
     ensures failed { OnDesk result (Rose (D.faults desk.old) (D.faults desk.new)) }
@@ -78,13 +76,18 @@ fn reply_to_words<D: Desk>(alloc: Global, words: &[Name], desk: &mut D) -> Resul
 ///
 /// The words are those after the program's own name. One piece is said at the end, or nothing where a call of the desk
 /// failed or memory was wanting before; nothing is said after that.
+#[tactic(auto, using(crate::proofs::LineTexts::said_line))]
 pub fn run_single<D: Desk>(alloc: Global, words: &[Name], desk: &mut D) -> Status
-    // In a folder that the desk tells: the status and the text are right for the words.
-    ensures right { OnFolder (D.folder desk.old) (λ files. IsRun words.now files result (D.said desk.old) (D.said desk.new)) }
+    // In a folder that the desk tells: the status and the text are right for the words. Where the files pass every
+    // test, only a failed call or want of memory keeps the run from its result.
+    ensures right { OnFolder (D.folder desk.old) (λ files. EndsWith (IsRight (command_of words.now) files) result (D.said desk.old) (D.said desk.new)) }
+    ensures complete { OnFolder (D.folder desk.old) (λ files. PassTests (command_of words.now) files → UnlessStopped result (result ≡ Done)) }
 
-    // On any desk: `Words` exactly where the words are of no form. After `Words` and `Refused` one line was said.
+    // On any desk: `Words` exactly where the words are of no form, with the usage line; `Refused` with a refusal of a
+    // file of the command. After either one line was said.
     ensures words { AgreesWithWords (command_of words.now) result }
-    ensures line { SaysWith result (D.said desk.old) (D.said desk.new) }
+    ensures answer { EndsWith (IsAnswer (command_of words.now)) result (D.said desk.old) (D.said desk.new) }
+    ensures line { SaidLineAt result (D.said desk.old) (D.said desk.new) }
 
     // `Desk` only where a call of the desk failed; at every other status none did.
     ensures faults { OnDeskElse result (Rose (D.faults desk.old) (D.faults desk.new)) (D.faults desk.new ≡ D.faults desk.old) }

@@ -5,3 +5,5 @@
 mod free;
 #[cfg(test)]
 mod setting;
+#[cfg(test)]
+mod shared;

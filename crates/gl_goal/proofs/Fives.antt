@@ -1,19 +1,11 @@
 -- Tuples of five places of one axis that has consecutive fix numbers.
 use Rattle.std.proofs.Common.{◌≡◌, ◌∙◌, sym, ap, ℕ, zero, suc, ◌+◌, ◌-◌, ◌<◌, ◌≤◌, List, [], ◌∷◌, length, get_or, refl, arith}
-use Rattle.gl_goal.specs.Rule.{IsTuple, IsLegal, chosen}
+use Rattle.gl_goal.specs.Rule.{IsLegal, IsTuple, chosen}
 use Rattle.std.specs.Prelude.{◌-ℤ◌, ◌≤ℤ◌, ℤ, pos, int_le, IsTrue, slice_get}
 use Rattle.std.proofs.lemmas.Int.{ints}
 use Rattle.gl_igc.specs.declared.fix.Fix.{Fix}
 use Rattle.gl_goal.specs.Free.{free_goal, numbers_from, loss_over, altitude}
-
-pub length-numbers_from : (first count : ℕ) → length (numbers_from first count) ≡ count
-length-numbers_from first zero = refl
-length-numbers_from first (suc count) = ap suc (length-numbers_from (suc first) count)
-
-pub get_or-numbers_from : (first count place : ℕ) → place < count → get_or (numbers_from first count) place 0 ≡ first + place
-get_or-numbers_from first zero place below = absurd (omega arith)
-get_or-numbers_from first (suc count) zero below = omega arith
-get_or-numbers_from first (suc count) (suc place) below = get_or-numbers_from (suc first) count place (omega arith) ∙ omega arith
+use Rattle.gl_goal.specs.Laws.{length-numbers_from, get_or-numbers_from}
 
 -- five times one axis
 abbrev pub five_axes : List ℕ → List (List ℕ)

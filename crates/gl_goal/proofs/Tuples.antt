@@ -1,5 +1,5 @@
 -- Tuples that begin with the same places, and numbers in time order.
-use Rattle.std.proofs.Common.{◌≡◌, ◌∙◌, sym, ℕ, zero, suc, ◌+◌, ◌-◌, ◌≤◌, ◌<◌, List, [], ◌∷◌, ◌++◌, length, take, drop, get_or, refl, ap, subst, Option, Some, None, arith, length-append, below_more}
+use Rattle.std.proofs.Common.{◌≡◌, ◌∙◌, sym, ℕ, zero, suc, ◌+◌, ◌-◌, ◌≤◌, ◌<◌, List, [], ◌∷◌, ◌++◌, length, take, drop, get_or, refl, ap, subst, Option, Some, None, arith, length-append, append_assoc, below_more, add-one}
 use Rattle.std.proofs.Math.Seq.{take-append_seam}
 use Rattle.gl_goal.specs.Rule.{Rule, IsTuple, IsInTimeOrder, IsLegal, IsOptimum, chosen, value}
 use Rattle.gl_goal.specs.declared.plain.Best.{Best}
@@ -85,17 +85,45 @@ at_least_along rule found t u same = let P : List ℕ → Type 0 = λ tuple. IsA
 pub legal_along : (rule : Rule) (t u : List ℕ) → t ≡ u → IsLegal rule t → IsLegal rule u
 legal_along rule t u same = let P : List ℕ → Type 0 = λ tuple. IsLegal rule tuple in subst P same
 
+-- a tuple on all axes covers what goes on from it
+pub full_covered : (rule : Rule) (found : Option Best) (tuple asked : List ℕ) → asked ≡ tuple → length tuple ≡ length rule.axes → (IsLegal rule asked → IsAtLeast (value rule asked) found) → (rest : List ℕ) → IsLegal rule (tuple ++ rest) → IsAtLeast (value rule (tuple ++ rest)) found
+full_covered rule found tuple asked is full covered rest legal =
+    let same = is ∙ sym (no_rest rule.axes tuple rest legal.is_tuple full) in
+    at_least_along rule found asked (tuple ++ rest) same (covered (legal_along rule (tuple ++ rest) asked (sym same) legal))
+
+-- what is read of an axis and pushed on a tuple, whichever equal number or list it is named by
+pub size_along : (axes : List (List ℕ)) (n m size : ℕ) → size ≡ length (get_or axes n []) → n ≡ m → size ≡ length (get_or axes m [])
+size_along axes n m size is same = is ∙ ap (λ (k : ℕ). length (get_or axes k [])) same
+
+pub fix_along : (axes : List (List ℕ)) (n m place fix : ℕ) → fix ≡ get_or (get_or axes n []) place 0 → n ≡ m → fix ≡ get_or (get_or axes m []) place 0
+fix_along axes n m place fix is same = is ∙ ap (λ (k : ℕ). get_or (get_or axes k []) place 0) same
+
+pub push_along : (xs ys pushed : List ℕ) (x : ℕ) → pushed ≡ ys ++ x ∷ [] → ys ≡ xs → pushed ≡ xs ++ x ∷ []
+push_along xs ys pushed x is same = is ∙ ap (λ (items : List ℕ). items ++ x ∷ []) same
+
 -- after a push and a pop the list is as it was
-pub take_pushed : (xs ys : List ℕ) (x n : ℕ) → ys ≡ xs ++ x ∷ [] → n ≡ length ys → take (n - 1) ys ≡ xs
-take_pushed xs ys x n pushed is =
-    let short : n - 1 ≡ length xs = omega (arith, is ∙ ap length pushed, length-append xs (x ∷ [])) in
-    rw (short, pushed) (take-append_seam xs (x ∷ []))
+pub pop_along : (xs pushed kept popped : List ℕ) (x n : ℕ) → popped ≡ take (n - 1) kept → kept ≡ pushed → pushed ≡ xs ++ x ∷ [] → n ≡ length kept → popped ≡ xs
+pop_along xs pushed kept popped x n rest same longer is =
+    let whole : kept ≡ xs ++ x ∷ [] = same ∙ longer in
+    let short : n - 1 ≡ length xs = omega (arith, is ∙ ap length whole, length-append xs (x ∷ [])) in
+    rest ∙ rw (short, whole) (take-append_seam xs (x ∷ []))
+
+pub append_along : (xs pushed rest : List ℕ) (x : ℕ) → pushed ≡ xs ++ x ∷ [] → pushed ++ rest ≡ xs ++ x ∷ rest
+append_along xs pushed rest x longer = ap (λ (items : List ℕ). items ++ rest) longer ∙ append_assoc xs (x ∷ []) rest
 
 -- what holds of each earlier place, and of this one, holds of each place up to it
 pub tried_more : (rule : Rule) (tuple : List ℕ) (place : ℕ) (found : Option Best) → ((earlier : ℕ) (rest : List ℕ) → earlier < place → IsLegal rule (tuple ++ earlier ∷ rest) → IsAtLeast (value rule (tuple ++ earlier ∷ rest)) found) → ((rest : List ℕ) → IsLegal rule (tuple ++ place ∷ rest) → IsAtLeast (value rule (tuple ++ place ∷ rest)) found) → (any : ℕ) (rest : List ℕ) → any < place + 1 → IsLegal rule (tuple ++ any ∷ rest) → IsAtLeast (value rule (tuple ++ any ∷ rest)) found
 tried_more rule tuple place found before here any rest below =
     let P : ℕ → Type 0 = λ at. IsLegal rule (tuple ++ at ∷ rest) → IsAtLeast (value rule (tuple ++ at ∷ rest)) found in
     below_more P place (λ earlier less. before earlier rest less) (here rest) any below
+
+-- where each place on the next axis was tried, so was each tuple that goes on
+pub rest_covered : (rule : Rule) (found : Option Best) (tuple rest : List ℕ) (tried size : ℕ) → length tuple < length rule.axes → size ≡ length (get_or rule.axes (length tuple) []) → size ≤ tried → ((place : ℕ) (more : List ℕ) → place < tried → IsLegal rule (tuple ++ place ∷ more) → IsAtLeast (value rule (tuple ++ place ∷ more)) found) → IsLegal rule (tuple ++ rest) → IsAtLeast (value rule (tuple ++ rest)) found
+rest_covered rule found tuple rest tried size room is all covered legal =
+    let next = next_place rule.axes tuple rest legal.is_tuple room in
+    let same : tuple ++ rest ≡ tuple ++ next.0 ∷ next.1 = ap (λ (more : List ℕ). tuple ++ more) next.2 in
+    let before : next.0 < tried = omega (arith, next.3, is, all) in
+    at_least_along rule found _ _ (sym same) (covered next.0 next.1 before (legal_along rule _ _ same legal))
 
 pub begun_nothing : (rule : Rule) → IsBegun rule [] 0
 begun_nothing rule =
@@ -131,3 +159,9 @@ chosen-take [] (place ∷ tuple) axis fits inside = absurd fits
 chosen-take (first ∷ axes) [] axis fits inside = absurd fits
 chosen-take (first ∷ axes) (place ∷ tuple) zero fits inside = ap (λ numbers. get_or first place 0 ∷ numbers) (chosen-nothing axes)
 chosen-take (first ∷ axes) (place ∷ tuple) (suc axis) fits inside = ap (λ numbers. get_or first place 0 ∷ numbers) (chosen-take axes tuple axis fits.1 (omega arith))
+
+-- the numbers so far and the next one
+pub numbers_more : (axes : List (List ℕ)) (tuple numbers pushed : List ℕ) (axis fix : ℕ) → IsTuple axes tuple → axis < length tuple → numbers ≡ chosen axes (take axis tuple) → fix ≡ get_or (get_or axes axis []) (get_or tuple axis 0) 0 → pushed ≡ numbers ++ fix ∷ [] → pushed ≡ chosen axes (take (axis + 1) tuple)
+numbers_more axes tuple numbers pushed axis fix fits inside so_far is_fix is_pushed =
+    is_pushed ∙ ap (λ (front : List ℕ). front ++ fix ∷ []) so_far ∙ ap (λ (n : ℕ). chosen axes (take axis tuple) ++ n ∷ []) is_fix
+    ∙ sym (chosen-take axes tuple axis fits inside) ∙ ap (λ (n : ℕ). chosen axes (take n tuple)) (sym (add-one axis))

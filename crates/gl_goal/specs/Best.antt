@@ -1,5 +1,5 @@
 -- What a search has found so far, against the definition of a goal.
-use Rattle.std.specs.Prelude.{◌≡◌, ℕ, ◌≤◌, List, [], ◌∷◌, length, Option, None, Some, option_map, take}
+use Rattle.std.specs.Prelude.{◌≡◌, ℕ, ◌≤◌, List, [], ◌∷◌, length, Option, None, Some, take}
 use Rattle.gl_goal.specs.declared.plain.Best.{Best}
 use Rattle.gl_goal.specs.Rule.{Rule, IsTuple, IsInTimeOrder, IsReached, chosen}
 

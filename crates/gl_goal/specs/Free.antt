@@ -1,5 +1,5 @@
 -- The free distance: five fixes in time order, of which the last isn't much lower than the first, worth the four legs between them.
-use Rattle.std.specs.Prelude.{ℕ, zero, suc, ◌+◌, ◌-◌, List, [], ◌∷◌, Bool, Option, None, Some, slice_get, slice_index, length, ℤ, pos, ◌-ℤ◌, int_le}
+use Rattle.std.specs.Prelude.{ℕ, zero, suc, ◌+◌, ◌-◌, List, [], ◌∷◌, Option, None, Some, slice_get, slice_index, length, ℤ, pos, ◌-ℤ◌, int_le}
 use Rattle.gl_sphere.specs.declared.place.Vec3.{Vec3}
 use Rattle.gl_sphere.specs.Distance.{squared_chord, written_distance}
 use Rattle.gl_igc.specs.declared.fix.Fix.{Fix}

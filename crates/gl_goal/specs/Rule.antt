@@ -1,5 +1,5 @@
 -- What is maximised, as the rules of a contest say it: no search, no order of work.
-use Rattle.std.specs.Prelude.{◌≡◌, ℕ, ◌+◌, ◌<◌, ◌≤◌, Bool, IsTrue, List, [], ◌∷◌, length, slice_index, Option, None, Some, All}
+use Rattle.std.specs.Prelude.{◌≡◌, ℕ, ◌<◌, ◌≤◌, Bool, IsTrue, List, [], ◌∷◌, length, slice_index, Option, None, Some, All}
 use Rattle.std.specs.List.Sorted.{IsStrictlyIncreasing}
 
 -- A goal: on each axis the numbers of the fixes that may be chosen there; which chosen fixes are allowed

@@ -1,4 +1,4 @@
-ghost use Rattle.std.specs.Prelude.{◌<◌, ◌≤◌, vec_len};
+ghost use Rattle.std.specs.Prelude.{◌<◌, ◌≤◌, ◌≤ℤ◌, pos, vec_len};
 
 use gl_igc::Fix;
 
@@ -13,4 +13,5 @@ pub struct FreeGoal {
     pub ghost in_order: { first ≤ last },
     pub ghost within: { last < vec_len fixes },
     pub ghost at_most_90000: { vec_len fixes ≤ 90_000 },
+    pub ghost loss_from_zero: { pos 0 ≤ℤ loss },
 }

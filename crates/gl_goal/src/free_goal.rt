@@ -1,7 +1,8 @@
-ghost use Rattle.std.specs.Prelude.{◌≡◌, ◌+◌, ◌^◌, ◌≤◌, ◌<◌, ◌≤ℤ◌, ◌-ℤ◌, pos, [], ◌∷◌, length, IfOk, Some, All, slice_get};
+ghost use Rattle.std.specs.Prelude.{◌≡◌, ◌^◌, ◌≤◌, ◌<◌, ◌≤ℤ◌, ◌-ℤ◌, pos, [], ◌∷◌, length, IfOk, Some, All, slice_get};
 ghost use Rattle.gl_goal.specs.Free.{altitude, free_goal, leg};
-ghost use Rattle.gl_goal.specs.Rule.{IsLegal, IsTuple, chosen};
+ghost use Rattle.gl_goal.specs.Rule.{IsGoal, IsLegal, IsTuple, chosen};
 ghost use Rattle.gl_goal.specs.FreeGoal.{rule_of};
+ghost use Rattle.gl_goal.specs.Laws.{free_goal-is_goal};
 
 use crate::free::FreeGoal;
 use crate::goal::Goal;
@@ -26,8 +27,9 @@ impl FreeGoal {
         requires within { last < length fixes.now }
         requires most { length fixes.now ≤ 90_000 }
         requires loss { pos 0 ≤ℤ loss }
-        ensures goal { IfOk result (λ goal. rule_of goal ≡ free_goal fixes.now first last loss) }
-        // Staying at the first fix is always allowed.
+        ensures rule { IfOk result (λ goal. rule_of goal ≡ free_goal fixes.now first last loss) }
+        ensures well_formed { IfOk result (λ goal. IsGoal (rule_of goal)) }
+        // Staying at the first fix is always legal.
         ensures legal { IfOk result (λ goal. IsLegal (rule_of goal) (0 ∷ 0 ∷ 0 ∷ 0 ∷ 0 ∷ [])) }
     {
         Ok(FreeGoal {
@@ -87,6 +89,8 @@ impl FreeGoal {
 #[tactic(auto, unfolding(crate::specs::Free::free_goal))]
 impl Goal for FreeGoal {
     ghost rule = { rule_of };
+
+    ghost well_formed = { λ g. free_goal-is_goal g.fixes.items g.first g.last g.loss };
 
     fn axes(&self) -> usize {
         FREE_FIXES

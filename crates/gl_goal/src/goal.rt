@@ -1,5 +1,5 @@
-ghost use Rattle.std.specs.Prelude.{◌≡◌, ◌<◌, ◌↔◌, ℕ, List, IsTrue, length, slice_index, slice_index_or, []};
-ghost use Rattle.gl_goal.specs.Rule.{Rule, IsTuple, IsLegal, value, chosen, IsInTimeOrder};
+ghost use Rattle.std.specs.Prelude.{◌≡◌, ◌<◌, ◌^◌, ◌↔◌, IsTrue, length, slice_index, slice_index_or, []};
+ghost use Rattle.gl_goal.specs.Rule.{Rule, IsGoal, IsTuple, value, chosen};
 
 /// A maximum to be found: on each axis a list of fix numbers, of which a tuple chooses one place each.
 /// No call takes memory.
@@ -30,5 +30,9 @@ pub trait Goal {
     /// What a tuple is worth, in centimetres.
     fn value(&self, tuple: &[u32]) -> u64
         requires { IsTuple (rule self.now).axes tuple.now }
-        ensures { result ≡ value (rule self.now) tuple.now };
+        ensures value { result ≡ value (rule self.now) tuple.now }
+        ensures bound { result < 2 ^ 63 };
+
+    /// There are 1 to 10 axes, and the list of each has a fix and rises strictly.
+    ghost well_formed: { (goal : Self) → IsGoal (rule goal) };
 }

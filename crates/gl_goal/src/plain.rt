@@ -1,5 +1,5 @@
-ghost use Rattle.std.specs.Prelude.{◌≡◌, ℕ, ◌≤◌, ◌<◌, List, [], ◌∷◌, ◌++◌, Option, None, Some, length, IfOk, OnOk, IfSome};
-ghost use Rattle.gl_goal.specs.Rule.{Rule, IsTuple, IsInTimeOrder, IsLegal, IsReached, IsOptimum, value, chosen};
+ghost use Rattle.std.specs.Prelude.{◌≡◌, ℕ, List, ◌++◌, IfOk, OnOk};
+ghost use Rattle.gl_goal.specs.Rule.{IsTuple, IsInTimeOrder, IsLegal, IsOptimum, value, chosen};
 ghost use Rattle.gl_goal.specs.Best.{IsAtLeast, IsBegun, IsSound, total_of};
 
 use crate::goal::Goal;

@@ -1,5 +1,5 @@
 -- The calendar's test of a day against the library's.
-use Rattle.std.proofs.Common.{◌≡◌, ◌∙◌, sym, subst, ℕ, ◌+◌, ◌<◌, ◌≤◌, Bool, true, false, cond, Option, None, Some, ℤ, pos, arith, refl, Decides, leb}
+use Rattle.std.proofs.Common.{◌≡◌, sym, ℕ, ◌<◌, ◌≤◌, Bool, true, false, cond, Option, None, Some, ℤ, pos, arith, refl, Decides, leb}
 use Rattle.std.specs.Option.{IsNone}
 use Rattle.std.proofs.lemmas.Int.{ints}
 use Rattle.std.proofs.lemmas.Bool.{false≢true}

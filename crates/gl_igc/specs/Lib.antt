@@ -1,5 +1,6 @@
 pub mod Columns
 pub mod Dates
-pub mod Fix
 pub mod Plain
 pub mod Recording
+pub mod Refusals
+pub mod Seconds

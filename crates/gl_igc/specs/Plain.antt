@@ -1,9 +1,10 @@
 -- A plain recording, read by its lines: a line that begins with A, a date line, and 1 to 40 B lines.
-use Rattle.std.specs.Prelude.{ℕ, nat_eq, nat_le, ◌==◌, ◌&&◌, if◌then◌else◌, List, [], ◌∷◌, length, map, Option, None, Some, slice_get, Bool, true, ℤ, pos, int_lt, int_le, codes}
+use Rattle.std.specs.Prelude.{ℕ, nat_eq, nat_le, ◌==◌, ◌&&◌, if◌then◌else◌, List, [], ◌∷◌, length, map, Option, None, Some, Bool, ℤ, pos, int_le, codes}
 use Rattle.std.specs.List.{starts_with}
 use Rattle.gl_text.specs.Lines.{lines_of}
 use Rattle.gl_igc.specs.Columns.{columns, time_of_day, latitude_of, longitude_of, altitude_of, ◌>>=◌}
 use Rattle.gl_igc.specs.Dates.{plain_date}
+use Rattle.gl_igc.specs.Seconds.{is_rising}
 
 -- what a fix says: its second, its place in 1/100,000 minute, its altitude in metres and its engine noise
 pub record Sighting : Type 0 where
@@ -42,12 +43,6 @@ plain_fixes (line ∷ lines) = do
   fix ← plain_fix line
   fixes ← plain_fixes lines
   Some (fix ∷ fixes)
-
--- each second is above the one before
-abbrev pub is_rising : List ℤ → Bool
-is_rising [] = true
-is_rising (second ∷ []) = true
-is_rising (second ∷ next ∷ seconds) = int_lt second next && is_rising (next ∷ seconds)
 
 -- there are 1 to 40 fixes, and their seconds rise
 unfoldable pub are_plain : List Sighting → Bool

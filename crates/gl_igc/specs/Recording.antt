@@ -1,5 +1,5 @@
 -- What the types of the code say, as plain data.
-use Rattle.std.specs.Prelude.{ℕ, List, map, Option, None, Some, option_map, ℤ}
+use Rattle.std.specs.Prelude.{List, map, Option, None, Some, ℤ}
 use Rattle.gl_igc.specs.declared.fix.Fix.{Fix}
 use Rattle.gl_igc.specs.declared.recording.Recording.{Recording}
 use Rattle.gl_igc.specs.declared.recording.Declared.{Declared}
@@ -17,14 +17,14 @@ place_of grid = (grid.lat, grid.lon)
 -- the declared places
 abbrev pub declared_of : Option Declared → Option (List (ℤ × ℤ))
 declared_of None = None
-declared_of (Some declared) = Some (map place_of declared.points.items)
+declared_of (Some declared) = Some (map place_of declared.points)
 
 -- what a recording says
 abbrev pub reading_of : Recording → Reading
 reading_of r = record {
   date = r.date;
-  fixes = map sighting_of r.fixes.items;
-  events = r.events.items;
+  fixes = map sighting_of r.fixes;
+  events = r.events;
   declared = declared_of r.declared;
   skipped = r.skipped;
 }

@@ -1,4 +1,4 @@
-ghost use Rattle.std.specs.Prelude.{◌≡◌, ℕ, ◌^◌, ◌<◌, ◌≤◌, length, IfSome, slice_get, pos, neg_ℤ, ◌≤ℤ◌, Some};
+ghost use Rattle.std.specs.Prelude.{◌≡◌, ◌^◌, ◌<◌, ◌≤◌, length, IfSome, pos, neg_ℤ, ◌≤ℤ◌, Some};
 ghost use Rattle.gl_sphere.specs.Range.{IsWithin};
 ghost use Rattle.gl_igc.specs.Columns.{number_of, time_of_day, angle_of, signed_by, latitude_of, longitude_of, altitude_of};
 

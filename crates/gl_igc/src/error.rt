@@ -16,8 +16,12 @@ pub enum IgcError {
 }
 
 impl IgcError {
+    ghost use Rattle.gl_igc.specs.Refusals.{refusal_number};
+
     /// The number that a refusal prints; want of memory has none.
-    pub fn number(&self) -> Option<u32> {
+    pub fn number(&self) -> Option<u32>
+        ensures { result ≡ refusal_number self.now }
+    {
         match self {
             IgcError::Unbuilt => Some(9),
             IgcError::Memory => None,

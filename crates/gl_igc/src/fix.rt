@@ -1,5 +1,6 @@
-ghost use Rattle.std.specs.Prelude.{pos, neg_ℤ, ◌≤ℤ◌};
-ghost use Rattle.gl_igc.specs.Fix.{IsPointOf};
+ghost use Rattle.std.specs.Prelude.{◌≡◌, pos, neg_ℤ, ◌≤ℤ◌};
+ghost use Rattle.std.specs.Coded.{Coded-set};
+ghost use Rattle.gl_sphere.specs.Place.{written_vector};
 
 use gl_sphere::{Grid, Vec3};
 
@@ -16,7 +17,7 @@ pub struct Fix {
     pub alt: i32,
     /// The engine noise that the recorder measured, from 0 to 999.
     pub enl: Option<u16>,
-    pub ghost placed: { IsPointOf grid at },
+    pub ghost placed: { at ≡ written_vector grid } by { Coded-set at-code at (written_vector grid) },
     pub ghost above: { neg_ℤ (pos 9_999) ≤ℤ alt },
     pub ghost below: { alt ≤ℤ pos 32_767 },
 }

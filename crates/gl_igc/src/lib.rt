@@ -6,11 +6,13 @@ mod columns;
 mod date;
 mod error;
 mod fix;
+mod items;
 mod line;
 mod plain;
 mod recording;
 
 pub use error::IgcError;
 pub use fix::Fix;
+pub use items::Items;
 pub use plain::read_igc;
 pub use recording::{Declared, Recording};

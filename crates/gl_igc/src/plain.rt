@@ -1,12 +1,14 @@
 ghost use Rattle.std.specs.Prelude.{◌≡◌, ◌≤◌, length, drop, map, Some, None, Err, IfOk, MatchOption, option_map};
 ghost use Rattle.gl_text.specs.Lines.{lines_of};
-ghost use Rattle.gl_igc.specs.Plain.{is_rising, are_plain, plain_fixes, plain_recording, recording_of, recording_with};
+ghost use Rattle.gl_igc.specs.Plain.{are_plain, plain_fixes, plain_recording, recording_of, recording_with};
 ghost use Rattle.gl_igc.specs.Recording.{sighting_of, reading_of};
+ghost use Rattle.gl_igc.specs.Seconds.{is_rising};
 ghost use Rattle.gl_igc.specs.declared.error.IgcError.TheVariants.{Unbuilt};
 
 use crate::date::plain_day;
 use crate::error::IgcError;
 use crate::fix::Fix;
+use crate::items::Items;
 use crate::line::plain_fix;
 use crate::recording::Recording;
 use gl_text::next_line;
@@ -17,7 +19,7 @@ const MOST_PLAIN_FIXES: usize = 40;
 
 /// Whether each fix is later than the one before.
 fn rise(fixes: &[Fix]) -> bool
-    ensures { result ≡ is_rising (map (λ fix. fix.second) (map sighting_of fixes.now)) }
+    ensures { result ≡ is_rising (map (λ fix. fix.second) fixes.now) }
 {
     for next in 1..fixes.len() {
         if fixes[next].second <= fixes[next - 1].second {
@@ -76,8 +78,8 @@ fn recording(alloc: Global, date: i32, fixes: Vec<Fix>) -> Option<Recording>
     if are_plain(&fixes) {
         Some(Recording {
             date,
-            fixes,
-            events: Vec::new(alloc),
+            fixes: Items::from_vec(fixes),
+            events: Items::from_vec(Vec::new(alloc)),
             declared: None,
             skipped: 0,
         })

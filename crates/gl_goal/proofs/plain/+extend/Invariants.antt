@@ -1,6 +1,6 @@
-use Rattle.std.proofs.Common.{◌≡◌, ℕ, ◌≤◌, ◌<◌, List, [], ◌∷◌, ◌++◌, length, ◌-◌}
-use Rattle.gl_goal.specs.Rule.{Rule, IsLegal, value}
-use Rattle.gl_goal.specs.Best.{IsAtLeast, IsBegun, IsSound}
+use Rattle.std.proofs.Common.{◌≡◌, ℕ, ◌<◌, List, ◌∷◌, ◌++◌, length, ◌-◌}
+use Rattle.gl_goal.specs.Rule.{IsLegal, value}
+use Rattle.gl_goal.specs.Best.{IsAtLeast, IsSound}
 use Rattle.gl_goal.proofs.plain.+extend.Given as goal
 
 -- each level chooses a place on one more axis

@@ -1,7 +1,5 @@
-use Rattle.std.proofs.Common.{rules, ◌≡◌, ℕ, ◌≤◌, ◌<◌, List, [], ◌∷◌, ◌++◌, Option, None, Some, length, take, arith, refl, subst, sym}
-use Rattle.gl_goal.specs.declared.plain.Best.{Best}
-use Rattle.gl_goal.specs.Rule.{Rule, IsTuple, IsLegal, IsOptimum, IsReached, chosen, value}
-use Rattle.gl_goal.specs.Best.{IsAtLeast, IsBegun, IsSound, last_of, total_of}
+use Rattle.std.proofs.Common.{ℕ, List, subst, sym}
+use Rattle.gl_goal.specs.Best.{IsBegun}
 use Rattle.gl_goal.proofs.Tuples.{begun_nothing, optimum_from}
 use Rattle.gl_goal.proofs.plain.search_all.Goals as goal
 

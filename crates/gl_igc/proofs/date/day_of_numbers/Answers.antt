@@ -1,4 +1,4 @@
-use Rattle.std.proofs.Common.{rules, ◌≡◌, ℕ, arith, w8, w16, to_z, pos}
+use Rattle.std.proofs.Common.{◌≡◌, arith, w8, w16, to_z, pos}
 use Rattle.std.proofs.lemmas.Int.{to_z_pos}
 use Rattle.gl_igc.proofs.Calendar.{day_number_is}
 use Rattle.gl_igc.proofs.date.day_of_numbers.Goals as goal

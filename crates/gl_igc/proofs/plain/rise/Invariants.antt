@@ -1,5 +1,5 @@
 use Rattle.std.proofs.Common.{◌≡◌, ◌-◌, drop}
-use Rattle.gl_igc.specs.Plain.{is_rising}
+use Rattle.gl_igc.specs.Seconds.{is_rising}
 use Rattle.gl_igc.proofs.PlainFixes.{seconds_of}
 use Rattle.gl_igc.proofs.plain.rise.Given as goal
 

@@ -1,7 +1,7 @@
-use Rattle.std.proofs.Common.{◌≡◌, ℕ, zero, suc, ◌+◌, ◌<◌, ◌≤◌, List, [], ◌∷◌, length, get_or, sym, arith, rules}
+use Rattle.std.proofs.Common.{ℕ, zero, suc, ◌<◌, ◌≤◌, [], ◌∷◌, get_or, sym, arith}
 use Rattle.std.proofs.lemmas.Bool.Decides.{nat_tests}
 use Rattle.gl_goal.specs.Free.{free_goal}
-use Rattle.gl_goal.proofs.Fives.{AreFive, five_places}
+use Rattle.gl_goal.proofs.Fives.{five_places}
 use Rattle.gl_goal.proofs.free.FreeGoal.numbers.Goals as goal
 use Rattle.gl_goal.proofs.free.FreeGoal.numbers.Goals.{in_default-via-then-tuple-lt5, in_default-via-else-tuple-lt5+else-tuple-lt6}
 

@@ -1,5 +1,5 @@
-use Rattle.std.proofs.Common.{◌≡◌, ◌∙◌, ℕ, suc, ◌+◌, ◌-◌, List, length, ap, sym, arith, subst, ℤ, w32, to_z, of_z, rules}
-use Rattle.std.specs.Prelude.{FitsSigned, IsTrue, int_le}
+use Rattle.std.proofs.Common.{◌∙◌, suc, ◌-◌, ap, sym, ℤ, w32, to_z, of_z, rules}
+use Rattle.std.specs.Prelude.{FitsSigned, int_le}
 use Rattle.std.proofs.lemmas.Int.{to_z-of_z}
 use Rattle.gl_goal.specs.Rule.{chosen}
 use Rattle.gl_goal.specs.Free.{free_goal, numbers_from, loss_over}

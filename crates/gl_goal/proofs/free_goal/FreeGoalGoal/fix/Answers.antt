@@ -1,6 +1,7 @@
-use Rattle.std.proofs.Common.{◌≡◌, ◌∙◌, ℕ, suc, ◌+◌, ◌-◌, ◌<◌, ◌≤◌, List, length, get_or, ap, sym, arith}
+use Rattle.std.proofs.Common.{◌∙◌, ℕ, suc, ◌-◌, ◌<◌, List, length, get_or, ap, sym, arith}
 use Rattle.gl_goal.specs.Free.{free_goal, numbers_from}
-use Rattle.gl_goal.proofs.Fives.{five_axis, get_or-numbers_from, length-numbers_from}
+use Rattle.gl_goal.proofs.Fives.{five_axis}
+use Rattle.gl_goal.specs.Laws.{get_or-numbers_from, length-numbers_from}
 use Rattle.gl_goal.proofs.free_goal.FreeGoalGoal.fix.Goals as goal
 
 pub overflow_add-result : goal.overflow_add-result

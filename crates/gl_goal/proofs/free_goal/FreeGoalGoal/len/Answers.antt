@@ -1,6 +1,7 @@
-use Rattle.std.proofs.Common.{◌≡◌, ◌∙◌, ℕ, suc, ◌+◌, ◌-◌, List, length, ap, sym, arith}
+use Rattle.std.proofs.Common.{◌∙◌, suc, ◌-◌, length, ap, arith}
 use Rattle.gl_goal.specs.Free.{free_goal, numbers_from}
-use Rattle.gl_goal.proofs.Fives.{five_axis, length-numbers_from}
+use Rattle.gl_goal.proofs.Fives.{five_axis}
+use Rattle.gl_goal.specs.Laws.{length-numbers_from}
 use Rattle.gl_goal.proofs.free_goal.FreeGoalGoal.len.Goals as goal
 
 pub returns : goal.returns
