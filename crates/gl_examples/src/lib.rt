@@ -7,3 +7,5 @@ mod free;
 mod setting;
 #[cfg(test)]
 mod shared;
+#[cfg(test)]
+mod status;

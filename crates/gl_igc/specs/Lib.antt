@@ -4,3 +4,6 @@ pub mod Plain
 pub mod Recording
 pub mod Refusals
 pub mod Seconds
+pub use Rattle.gl_sphere.specs.Place
+pub use Rattle.gl_sphere.specs.Range
+pub use Rattle.gl_text.specs.Lines
