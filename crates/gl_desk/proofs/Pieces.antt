@@ -1,6 +1,7 @@
-use Rattle.std.proofs.Common.{◌≡◌, ℕ, ◌+◌, ◌≤◌, List, ◌++◌, length, take, Option, None, Some, sym, ap, ◌∙◌, arith}
+use Rattle.std.proofs.Common.{◌≡◌, ℕ, ◌+◌, ◌≤◌, List, ◌++◌, length, take, drop, Option, None, Some, append_assoc, sym, ap, ◌∙◌, arith}
 use Rattle.std.proofs.Math.Seq.{take-add}
 use Rattle.std.specs.Prelude.{IfSome}
+use Rattle.std.specs.Io.KnownBytes.{Appends}
 use Rattle.gl_desk.specs.Desk.{FilesByName, OnFile, ReadsFrom}
 
 -- the text has this length and is the file's first part
@@ -24,3 +25,14 @@ pub first_part_grows : (told : Option FilesByName) (name text grown buffer : Lis
 first_part_grows None name text grown buffer at n m more longer first reads = tt
 first_part_grows (Some files) name text grown buffer at n m more longer first reads =
     of_file (files name) text grown buffer at n m more longer first reads
+
+-- a first part of the piece that was written, and what was taken of the rest, are a first part again
+pub written_part_grows : (before now after : Option (List ℕ)) (piece : List ℕ) (at n : ℕ)
+    → Appends before now (take at piece) → Appends now after (take n (drop at piece))
+    → Appends before after (take (at + n) piece)
+written_part_grows None now after piece at n first taken = tt
+written_part_grows (Some xs) None after piece at n first taken = absurd first
+written_part_grows (Some xs) (Some ys) None piece at n first taken = absurd taken
+written_part_grows (Some xs) (Some ys) (Some zs) piece at n first taken =
+    taken ∙ ap (λ (t : List ℕ). t ++ take n (drop at piece)) first ∙ append_assoc xs (take at piece) (take n (drop at piece))
+    ∙ ap (λ (t : List ℕ). xs ++ t) (sym (take-add at n piece))

@@ -2,3 +2,4 @@ pub mod Answers
 pub mod Desk
 pub mod HostDesk
 pub mod MemDesk
+pub mod Outcome

@@ -1,6 +1,9 @@
-ghost use Rattle.std.specs.Prelude.{◌≡◌, ◌≤◌, length, IfOk, IsErr, MatchResult};
+ghost use Rattle.std.specs.Prelude.{◌≡◌, ◌≤◌, ◌↔◌, length, vec_len, IsTrue, IfOk, IfErr, IfSome, OnOk, OnErr};
+ghost use Rattle.std.specs.Fs.{dir_entry_name};
+ghost use Rattle.std.specs.Io.KnownBytes.{Appends};
 ghost use Rattle.gl_desk.specs.Answers.{OnFailed, UnlessFailed};
-ghost use Rattle.gl_desk.specs.Desk.{Rose};
+ghost use Rattle.gl_desk.specs.Desk.{Rose, TakesPrefix};
+ghost use Rattle.gl_desk.specs.Outcome.{IsWantOfMemory, IsUnnamed, Settles};
 
 use crate::desk::Desk;
 use crate::error::DeskError;
@@ -36,7 +39,7 @@ impl<Rt: Files + Print> HostDesk<Rt> {
 impl<Rt> HostDesk<Rt> {
     /// Counts an error of the system, and turns it into the answer of a desk.
     fn settle<T>(&mut self, outcome: io::Result<T>) -> Result<T, DeskError>
-        ensures value { MatchResult outcome (λ value. result ≡ Ok value) (λ _. IsErr result) }
+        ensures settled { Settles outcome result self.old.faults self.new.faults }
         ensures failed { OnFailed result (Rose self.old.faults self.new.faults) }
         ensures not_failed { UnlessFailed result (self.new.faults ≡ self.old.faults) }
         ensures never_falls { self.old.faults ≤ self.new.faults }
@@ -53,12 +56,16 @@ impl<Rt> HostDesk<Rt> {
 }
 
 /// Whether an allocation of our own failed, and not the system.
-fn is_want_of_memory(error: &io::Error) -> bool {
+fn is_want_of_memory(error: &io::Error) -> bool
+    ensures { IsTrue result ↔ IsWantOfMemory error.now }
+{
     error.kind() == ErrorKind::OutOfMemory && error.raw_os_error().is_none()
 }
 
 /// Whether the listing came upon an entry whose name isn't UTF-8, which it gives without a name.
-fn is_unnamed(error: &io::Error) -> bool {
+fn is_unnamed(error: &io::Error) -> bool
+    ensures { IsTrue result ↔ IsUnnamed error.now }
+{
     error.kind() == ErrorKind::InvalidFilename && error.raw_os_error().is_none()
 }
 
@@ -66,7 +73,12 @@ fn is_unnamed(error: &io::Error) -> bool {
 fn plain_name<Rt: Files + Drop>(
     alloc: Global,
     entry: io::Result<DirEntry<Rt>>,
-) -> io::Result<Option<Name>> {
+) -> io::Result<Option<Name>>
+    ensures name { IfOk entry (λ entry. IfOk result (λ found.
+        IfSome found (λ name. name ≡ dir_entry_name entry))) }
+    ensures passed_over { IfErr entry (λ error. IsUnnamed error → result ≡ Ok None) }
+    ensures handed_on { IfErr entry (λ error. ¬ IsUnnamed error → result ≡ Err error) }
+{
     match entry {
         Ok(entry) => {
             if entry.file_type()?.is_file() {
@@ -80,8 +92,11 @@ fn plain_name<Rt: Files + Drop>(
     }
 }
 
-/// The names of the plain files in the current folder.
-fn plain_names<Rt: Files>(rt: &Rt, alloc: Global) -> io::Result<Vec<Name>> {
+/// The names of the plain files in the current folder, which has at most [`MOST_ENTRIES`] entries of
+/// any kind; more are an error.
+fn plain_names<Rt: Files>(rt: &Rt, alloc: Global) -> io::Result<Vec<Name>>
+    ensures { IfOk result (λ names. vec_len names ≤ MOST_ENTRIES) }
+{
     let mut names = Vec::new(alloc);
     let mut entries = 0;
     for entry in fs::read_dir(&(rt, alloc), ".")? {
@@ -105,8 +120,13 @@ fn read_file<Rt: Files>(rt: &Rt, name: &str, at: u64, into: &mut [u8]) -> io::Re
     file.read(into)
 }
 
-/// Writes all of `piece`. A write that takes nothing of what is left is an error.
-fn write_whole<W: Write>(to: &mut W, piece: &[u8]) -> io::Result<()> {
+/// Writes all of `piece`, by as many writes as it takes. A write that takes nothing of what is left is
+/// an error. After an error a prefix of `piece` was written, perhaps an empty one.
+fn write_whole<W: Write>(to: &mut W, piece: &[u8]) -> io::Result<()>
+    ensures whole { OnOk result (Appends (W.contents to.old) (W.contents to.new) piece.now) }
+    ensures prefix { OnErr result
+        (TakesPrefix piece.now (Appends (W.contents to.old) (W.contents to.new))) }
+{
     let mut at = 0;
     'parts: while at < piece.len() {
         let taken = to.write(&piece[at..])?;
@@ -160,69 +180,5 @@ impl<Rt: Files + Print> Desk for HostDesk<Rt> {
     fn say(&mut self, _alloc: Global, piece: &[u8]) -> Result<(), DeskError> {
         let written = write_whole(&mut io::writer(&self.rt), piece);
         self.settle(written)
-    }
-}
-
-#[cfg(test)]
-mod tests {
-    use super::*;
-    use crate::error::ReadError;
-    use crate::read::read_all;
-    use std::os::unix::fs::symlink;
-    use std::test::Fail;
-
-    /// Appends `length` bytes to a file that isn't there before, and reads it again.
-    fn written_and_read(
-        alloc: Global,
-        desk: &mut HostDesk<&HostRuntime>,
-        name: &Name,
-        length: usize,
-    ) -> Result<bool, Fail> {
-        let bytes = vec![in alloc; 7u8; length]?;
-        let _ = fs::remove_file(desk.rt, name.as_str());
-        desk.append(alloc, name, &bytes)?;
-        let read = read_all(alloc, desk, name, 1_000_000)?;
-        fs::remove_file(desk.rt, name.as_str())?;
-        Ok(read == bytes)
-    }
-
-    #[test]
-    fn reads_what_it_appends(rt: HostRuntime) -> Result<(), Fail> {
-        let alloc = rt.alloc();
-        let mut desk = HostDesk::new(&rt);
-        for (text, length) in [("NONE.BIN", 0), ("ONE.BIN", 1), ("LONG.BIN", 100_000)] {
-            let name = Name::from_text(alloc, text)?;
-            assert!(rt; written_and_read(alloc, &mut desk, &name, length)?);
-        }
-        assert_eq!(rt; desk.faults, 0);
-        let missing = Name::from_text(alloc, "MISSING.BIN")?;
-        assert_eq!(rt;
-            read_all(alloc, &mut desk, &missing, 9),
-            Err(ReadError::Fault)
-        );
-        assert_eq!(rt; desk.faults, 1);
-        Ok(())
-    }
-
-    #[test]
-    fn lists_plain_files_alone(rt: HostRuntime) -> Result<(), Fail> {
-        let alloc = rt.alloc();
-        let mut desk = HostDesk::new(&rt);
-        let plain = Name::from_text(alloc, "PLAIN.BIN")?;
-        let _ = fs::remove_dir(&rt, "SUB.DIR");
-        let _ = fs::remove_file(&rt, "LINK.BIN");
-        desk.append(alloc, &plain, b"x")?;
-        fs::create_dir(&rt, "SUB.DIR")?;
-        symlink(&rt, "PLAIN.BIN", "LINK.BIN")?;
-        let names = desk.names(alloc)?;
-        fs::remove_dir(&rt, "SUB.DIR")?;
-        fs::remove_file(&rt, "LINK.BIN")?;
-        fs::remove_file(&rt, "PLAIN.BIN")?;
-        assert!(rt; names.contains(&plain));
-        assert!(rt; !names.contains(&Name::from_text(alloc, "SUB.DIR")?));
-        assert!(rt; !names.contains(&Name::from_text(alloc, "LINK.BIN")?));
-        desk.say(alloc, b"said\n")?;
-        assert_eq!(rt; desk.faults, 0);
-        Ok(())
     }
 }

@@ -55,26 +55,3 @@ pub fn read_all<D: Desk>(
         bytes.extend_from_slice(&piece[..read])?;
     }
 }
-
-#[cfg(test)]
-mod tests {
-    use super::*;
-    use crate::mem::MemDesk;
-    use std::test::Fail;
-
-    #[test]
-    fn reads_no_more_than_the_limit(rt: HostRuntime) -> Result<(), Fail> {
-        let alloc = rt.alloc();
-        let name = Name::from_text(alloc, "FIVE.TXT")?;
-        let files = vec![in alloc; (name.clone()?, Vec::from_slice(alloc, b"abcde")?)]?;
-        let mut desk = MemDesk::new(alloc, files, Vec::new(alloc))?;
-        assert!(rt; desk.file(&name).is_some());
-        let whole = read_all(alloc, &mut desk, &name, 5)?;
-        assert_eq!(rt; whole.as_slice(), b"abcde".as_slice());
-        assert_eq!(rt;
-            read_all(alloc, &mut desk, &name, 4),
-            Err(ReadError::TooLarge)
-        );
-        Ok(())
-    }
-}

@@ -1,6 +1,9 @@
-//! Worked examples: whole runs of the commands over folders in memory, with the answers that were computed by hand.
+//! Worked examples: whole runs of the commands over folders in memory, with the answers that were computed by hand, and
+//! runs of the desks.
 #![tactic(auto)]
 
+#[cfg(test)]
+mod desk;
 #[cfg(test)]
 mod free;
 #[cfg(test)]
@@ -9,3 +12,5 @@ mod setting;
 mod shared;
 #[cfg(test)]
 mod status;
+#[cfg(test)]
+mod system;

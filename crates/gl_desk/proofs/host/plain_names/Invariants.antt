@@ -1,6 +1,10 @@
-use Rattle.std.proofs.Common.{◌≤◌}
+use Rattle.std.proofs.Common.{◌≤◌, vec_len}
 use Rattle.gl_desk.specs.declared.host.TheConstants.{MOST_ENTRIES}
 use Rattle.gl_desk.proofs.host.plain_names.Given as goal
 
+-- each name was an entry
 abbrev pub invariant-loop-entry : goal.invariant-loop-entry
-invariant-loop-entry g l = l.entries ≤ MOST_ENTRIES
+invariant-loop-entry g l = record {
+  most : l.entries ≤ MOST_ENTRIES;
+  names : vec_len l.names ≤ l.entries;
+}
