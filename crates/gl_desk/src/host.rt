@@ -1,21 +1,18 @@
-ghost use Rattle.std.specs.Prelude.{◌≡◌, ◌≤◌, ◌↔◌, length, vec_len, IsTrue, IfOk, IfErr, IfSome, OnOk, OnErr};
-ghost use Rattle.std.specs.Fs.{dir_entry_name};
+ghost use Rattle.std.specs.Prelude.{◌≡◌, ◌≤◌, ◌↔◌, length, IsTrue, IfOk, OnOk, OnErr};
 ghost use Rattle.std.specs.Io.KnownBytes.{Appends};
 ghost use Rattle.gl_desk.specs.Answers.{OnFailed, UnlessFailed};
 ghost use Rattle.gl_desk.specs.Desk.{Rose, TakesPrefix};
-ghost use Rattle.gl_desk.specs.Outcome.{IsWantOfMemory, IsUnnamed, Settles};
+ghost use Rattle.gl_desk.specs.Outcome.{IsWantOfMemory, Settles};
 
 use crate::desk::Desk;
 use crate::error::DeskError;
+use crate::listing::plain_names;
 use crate::name::Name;
 use std::alloc::Global;
-use std::fs::{DirEntry, File, OpenOptions};
+use std::fs::{File, OpenOptions};
+use std::io;
 use std::io::{ErrorKind, Read, Seek, SeekFrom, Write};
 use std::rt::Files;
-use std::{fs, io};
-
-/// How many entries a folder may have that is listed.
-const MOST_ENTRIES: u64 = 1_000_000;
 
 /// The current folder and the standard output. It tells nothing of what they hold.
 ///
@@ -60,55 +57,6 @@ fn is_want_of_memory(error: &io::Error) -> bool
     ensures { IsTrue result ↔ IsWantOfMemory error.now }
 {
     error.kind() == ErrorKind::OutOfMemory && error.raw_os_error().is_none()
-}
-
-/// Whether the listing came upon an entry whose name isn't UTF-8, which it gives without a name.
-fn is_unnamed(error: &io::Error) -> bool
-    ensures { IsTrue result ↔ IsUnnamed error.now }
-{
-    error.kind() == ErrorKind::InvalidFilename && error.raw_os_error().is_none()
-}
-
-/// The name of an entry that is a plain file. A symbolic link is none.
-fn plain_name<Rt: Files + Drop>(
-    alloc: Global,
-    entry: io::Result<DirEntry<Rt>>,
-) -> io::Result<Option<Name>>
-    ensures name { IfOk entry (λ entry. IfOk result (λ found.
-        IfSome found (λ name. name ≡ dir_entry_name entry))) }
-    ensures passed_over { IfErr entry (λ error. IsUnnamed error → result ≡ Ok None) }
-    ensures handed_on { IfErr entry (λ error. ¬ IsUnnamed error → result ≡ Err error) }
-{
-    match entry {
-        Ok(entry) => {
-            if entry.file_type()?.is_file() {
-                Ok(Some(Name::from_text(alloc, entry.file_name())?))
-            } else {
-                Ok(None)
-            }
-        }
-        Err(error) if is_unnamed(&error) => Ok(None),
-        Err(error) => Err(error),
-    }
-}
-
-/// The names of the plain files in the current folder, which has at most [`MOST_ENTRIES`] entries of
-/// any kind; more are an error.
-fn plain_names<Rt: Files>(rt: &Rt, alloc: Global) -> io::Result<Vec<Name>>
-    ensures { IfOk result (λ names. vec_len names ≤ MOST_ENTRIES) }
-{
-    let mut names = Vec::new(alloc);
-    let mut entries = 0;
-    for entry in fs::read_dir(&(rt, alloc), ".")? {
-        if entries == MOST_ENTRIES {
-            return Err(io::Error::new(ErrorKind::Other, "too many entries"));
-        }
-        entries += 1;
-        if let Some(name) = plain_name(alloc, entry)? {
-            names.push(name)?;
-        }
-    }
-    Ok(names)
 }
 
 /// Reads from place `at` of a file, and answers how many bytes it put into the front of `into`.

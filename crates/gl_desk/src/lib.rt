@@ -5,6 +5,7 @@ mod calls;
 pub mod desk;
 pub mod error;
 pub mod host;
+mod listing;
 pub mod mem;
 mod mem_file;
 pub mod name;

@@ -1,0 +1,105 @@
+ghost use Rattle.std.specs.Prelude.{◌≡◌, ◌+◌, ◌≤◌, ◌++◌, ◌↔◌, ◌⊎◌, [], vec_len, IsTrue, IsSome, IfOk, IfErr, IfSome, OnOk};
+ghost use Rattle.std.specs.Option.{option_to_list};
+ghost use Rattle.std.specs.Fs.{dir_entry_name, IsFile};
+ghost use Rattle.std.specs.IoError.{error_kind};
+ghost use Rattle.gl_desk.specs.declared.listing.TheConstants.{MOST_ENTRIES};
+ghost use Rattle.gl_desk.specs.Outcome.{IsUnnamed};
+
+use crate::name::Name;
+use std::alloc::{AllocError, Global};
+use std::fs::{DirEntry, FileType};
+use std::io::ErrorKind;
+use std::rt::Files;
+use std::{fs, io};
+
+/// How many entries a folder may have that is listed.
+const MOST_ENTRIES: u64 = 1_000_000;
+
+/// How many entries of a folder were seen, and the names that were listed of them.
+#[derive(Drop)]
+struct Listing {
+    entries: u64,
+    names: Vec<Name>,
+    ghost most: { entries ≤ MOST_ENTRIES },
+    ghost seen: { vec_len names ≤ entries },
+}
+
+impl Listing {
+    /// Before the first entry.
+    fn new(alloc: Global) -> Listing
+        ensures entries { result.entries ≡ 0 }
+        ensures names { result.names.items ≡ [] }
+    {
+        Listing {
+            entries: 0,
+            names: Vec::new(alloc),
+        }
+    }
+
+    /// Counts an entry, and lists its name where it has one to be listed. Beside want of memory the
+    /// one error is an entry after the [`MOST_ENTRIES`] that a folder may have.
+    fn add(&mut self, name: Option<Name>) -> io::Result<()>
+        ensures counted { OnOk result (self.new.entries ≡ self.old.entries + 1) }
+        ensures listed { OnOk result
+            (self.new.names.items ≡ self.old.names.items ++ option_to_list name) }
+        ensures refused { IfErr result (λ error. (self.old.entries ≡ MOST_ENTRIES)
+            ⊎ (error_kind error ≡ ErrorKind.OutOfMemory)) }
+    {
+        if self.entries == MOST_ENTRIES {
+            return Err(io::Error::new(ErrorKind::Other, "too many entries"));
+        }
+        self.entries += 1;
+        if let Some(name) = name {
+            self.names.push(name)?;
+        }
+        Ok(())
+    }
+}
+
+/// Whether the listing came upon an entry whose name isn't UTF-8, which it gives without a name.
+fn is_unnamed(error: &io::Error) -> bool
+    ensures { IsTrue result ↔ IsUnnamed error.now }
+{
+    error.kind() == ErrorKind::InvalidFilename && error.raw_os_error().is_none()
+}
+
+/// The name of an entry of this kind, where it is a plain file. A symbolic link is none.
+fn name_if_plain(alloc: Global, kind: FileType, name: &str) -> Result<Option<Name>, AllocError>
+    ensures plain { IfOk result (λ found. IsSome found ↔ IsFile kind) }
+    ensures name { IfOk result (λ found. IfSome found (λ found_name. found_name ≡ name.now)) }
+{
+    if kind.is_file() {
+        Ok(Some(Name::from_text(alloc, name)?))
+    } else {
+        Ok(None)
+    }
+}
+
+/// The name under which an entry is listed, if it is.
+fn listed_name<Rt: Files + Drop>(
+    alloc: Global,
+    entry: io::Result<DirEntry<Rt>>,
+) -> io::Result<Option<Name>>
+    ensures name { IfOk entry (λ entry. IfOk result (λ found.
+        IfSome found (λ name. name ≡ dir_entry_name entry))) }
+    ensures passed_over { IfErr entry (λ error. IsUnnamed error → result ≡ Ok None) }
+    ensures handed_on { IfErr entry (λ error. ¬ IsUnnamed error → result ≡ Err error) }
+{
+    match entry {
+        Ok(entry) => Ok(name_if_plain(alloc, entry.file_type()?, entry.file_name())?),
+        Err(error) if is_unnamed(&error) => Ok(None),
+        Err(error) => Err(error),
+    }
+}
+
+/// The names of the plain files in the current folder. More than [`MOST_ENTRIES`] entries of any kind
+/// are an error.
+pub fn plain_names<Rt: Files>(rt: &Rt, alloc: Global) -> io::Result<Vec<Name>>
+    ensures { IfOk result (λ names. vec_len names ≤ MOST_ENTRIES) }
+{
+    let mut listing = Listing::new(alloc);
+    for entry in fs::read_dir(&(rt, alloc), ".")? {
+        listing.add(listed_name(alloc, entry)?)?;
+    }
+    Ok(listing.names)
+}
