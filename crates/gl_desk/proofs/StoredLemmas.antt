@@ -13,7 +13,7 @@ use Rattle.gl_desk.specs.declared.error.DeskError.TheVariants.{Failed, Memory}
 use Rattle.gl_desk.specs.declared.mem.MemDesk.{MemDesk}
 use Rattle.gl_desk.specs.Answers.{OnMemory}
 use Rattle.gl_desk.specs.Desk.{ListsNames}
-use Rattle.gl_desk.specs.MemDesk.{StoredFile, StoredFiles, stored, bytes_of, appended_to, with_piece, files_in, outputs_in, IsSameUnder, Appends}
+use Rattle.gl_desk.specs.MemDesk.{StoredFile, StoredFiles, stored, bytes_of, appended_to, with_piece, files_in, outputs_in, IsSameUnder, AppendsUnder}
 
 -- the order of names ties two names exactly where they are one
 abbrev pub same_name : List ℕ → List ℕ → Bool
@@ -60,7 +60,7 @@ pub same_under : (old new : MemDesk) (name : List ℕ) → stored new.files name
 same_under old new name same =
     record { file = same_file old.files new.files name same; output = same_output old.files new.files name same }
 
-pub appends : (old new : MemDesk) (name part : List ℕ) → stored new.files name ≡ Some (with_piece (stored old.files name) part) → Appends old new name part
+pub appends : (old new : MemDesk) (name part : List ℕ) → stored new.files name ≡ Some (with_piece (stored old.files name) part) → AppendsUnder old new name part
 appends old new name part grown =
     record { file = grown_file old.files new.files name part grown; output = grown_output old.files new.files name part grown }
 

@@ -41,9 +41,9 @@ UnlessFault (Err Fault) P = ⊤
 UnlessFault (Err TooLarge) P = P
 UnlessFault (Err ReadMemory) P = P
 
--- the fact holds at `Ok` and at `TooLarge`
-abbrev pub OnWholeRead : {X : Type 0} → Result X read.ReadError → Type 0 → Type 0
-OnWholeRead (Ok x) P = P
-OnWholeRead (Err Fault) P = ⊤
-OnWholeRead (Err TooLarge) P = P
-OnWholeRead (Err ReadMemory) P = ⊤
+-- the fact holds where neither a fault nor want of memory stopped the reading
+abbrev pub UnlessStopped : {X : Type 0} → Result X read.ReadError → Type 0 → Type 0
+UnlessStopped (Ok x) P = P
+UnlessStopped (Err Fault) P = ⊤
+UnlessStopped (Err TooLarge) P = P
+UnlessStopped (Err ReadMemory) P = ⊤

@@ -95,7 +95,7 @@ FailsWhenDue (Err Failed) old new = IsDue old × (faults_of new ≡ faults_of ol
 FailsWhenDue (Err Memory) old new = faults_of new ≡ faults_of old
 
 -- the part was appended under the name; a file that isn't there is made
-pub record Appends (old new : MemDesk) (name part : List ℕ) : Type 0 where
+pub record AppendsUnder (old new : MemDesk) (name part : List ℕ) : Type 0 where
   pub file : files_of new name ≡ Some (unwrap_or (files_of old name) [] ++ part)
   pub output : outputs_of new name ≡ outputs_of old name ++ part
 

@@ -29,7 +29,7 @@ impl Calls {
 
     /// Counts a call, and tells whether it is one that fails. Once 2^64 - 1 calls were made, a
     /// call has no number and doesn't fail.
-    pub fn is_next_due(&mut self) -> bool
+    pub fn count_call(&mut self) -> bool
         ensures due { IsTrue result ↔ IsNextDue self.old }
         ensures made { self.new.made ≡ min (self.old.made + 1) (2 ^ 64 - 1) }
         ensures room { IsTrue result → self.new.failed < self.new.made }

@@ -6,13 +6,13 @@ ghost use Rattle.gl_desk.specs.declared.listing.TheConstants.{MOST_ENTRIES};
 ghost use Rattle.gl_desk.specs.Outcome.{IsUnnamed};
 
 use crate::name::Name;
-use std::alloc::{AllocError, Global};
+use std::alloc::Global;
 use std::fs::{DirEntry, FileType};
 use std::io::ErrorKind;
 use std::rt::Files;
 use std::{fs, io};
 
-/// How many entries a folder may have that is listed.
+/// The most entries of a folder that is listed.
 const MOST_ENTRIES: u64 = 1_000_000;
 
 /// How many entries of a folder were seen, and the names that were listed of them.
@@ -36,15 +36,18 @@ impl Listing {
         }
     }
 
-    /// Counts an entry, and lists its name where it has one to be listed. Beside want of memory the
-    /// one error is an entry after the [`MOST_ENTRIES`] that a folder may have.
-    fn add(&mut self, name: Option<Name>) -> io::Result<()>
+    /// Counts an entry, and lists its name where it has one to be listed. An error in its place is
+    /// handed on. Beside want of memory the one other error is an entry after the [`MOST_ENTRIES`]
+    /// that a folder may have.
+    fn add(&mut self, entry: io::Result<Option<Name>>) -> io::Result<()>
+        ensures handed_on { IfErr entry (λ error. result ≡ Err error) }
         ensures counted { OnOk result (self.new.entries ≡ self.old.entries + 1) }
-        ensures listed { OnOk result
-            (self.new.names.items ≡ self.old.names.items ++ option_to_list name) }
-        ensures refused { IfErr result (λ error. (self.old.entries ≡ MOST_ENTRIES)
-            ⊎ (error_kind error ≡ ErrorKind.OutOfMemory)) }
+        ensures listed { IfOk entry (λ name. OnOk result
+            (self.new.names.items ≡ self.old.names.items ++ option_to_list name)) }
+        ensures refused { OnOk entry (IfErr result (λ error. (self.old.entries ≡ MOST_ENTRIES)
+            ⊎ (error_kind error ≡ ErrorKind.OutOfMemory))) }
     {
+        let name = entry?;
         if self.entries == MOST_ENTRIES {
             return Err(io::Error::new(ErrorKind::Other, "too many entries"));
         }
@@ -64,11 +67,12 @@ fn is_unnamed(error: &io::Error) -> bool
 }
 
 /// The name of an entry of this kind, where it is a plain file. A symbolic link is none.
-fn name_if_plain(alloc: Global, kind: FileType, name: &str) -> Result<Option<Name>, AllocError>
-    ensures plain { IfOk result (λ found. IsSome found ↔ IsFile kind) }
+fn name_if_plain(alloc: Global, kind: io::Result<FileType>, name: &str) -> io::Result<Option<Name>>
+    ensures plain { IfOk kind (λ kind. IfOk result (λ found. IsSome found ↔ IsFile kind)) }
     ensures name { IfOk result (λ found. IfSome found (λ found_name. found_name ≡ name.now)) }
+    ensures handed_on { IfErr kind (λ error. result ≡ Err error) }
 {
-    if kind.is_file() {
+    if kind?.is_file() {
         Ok(Some(Name::from_text(alloc, name)?))
     } else {
         Ok(None)
@@ -86,7 +90,7 @@ fn listed_name<Rt: Files + Drop>(
     ensures handed_on { IfErr entry (λ error. ¬ IsUnnamed error → result ≡ Err error) }
 {
     match entry {
-        Ok(entry) => Ok(name_if_plain(alloc, entry.file_type()?, entry.file_name())?),
+        Ok(entry) => name_if_plain(alloc, entry.file_type(), entry.file_name()),
         Err(error) if is_unnamed(&error) => Ok(None),
         Err(error) => Err(error),
     }
@@ -99,7 +103,7 @@ pub fn plain_names<Rt: Files>(rt: &Rt, alloc: Global) -> io::Result<Vec<Name>>
 {
     let mut listing = Listing::new(alloc);
     for entry in fs::read_dir(&(rt, alloc), ".")? {
-        listing.add(listed_name(alloc, entry)?)?;
+        listing.add(listed_name(alloc, entry))?;
     }
     Ok(listing.names)
 }

@@ -88,7 +88,7 @@ fn listed(alloc: Global, files: &BTreeMap<Name, MemFile>) -> Result<Vec<Name>, A
     Ok(names)
 }
 
-/// Appends a piece to a file, which is made where it isn't there.
+/// AppendsUnder a piece to a file, which is made where it isn't there.
 fn add(
     alloc: Global,
     files: &mut BTreeMap<Name, MemFile>,
@@ -113,7 +113,7 @@ fn add(
 
 impl Desk for MemDesk {
     ghost use Rattle.std.specs.Prelude.{Some};
-    ghost use Rattle.gl_desk.specs.MemDesk.{files_of, outputs_of, said_to, faults_of, CountsCall, FailsWhenDue, Appends, IsSameUnder};
+    ghost use Rattle.gl_desk.specs.MemDesk.{files_of, outputs_of, said_to, faults_of, CountsCall, FailsWhenDue, AppendsUnder, IsSameUnder};
 
     ghost folder = { λ desk. Some (files_of desk) };
 
@@ -131,7 +131,7 @@ impl Desk for MemDesk {
         ensures same_said { said_to self.new ≡ said_to self.old }
         ensures same_outputs { outputs_of self.new ≡ outputs_of self.old }
     {
-        if self.calls.is_next_due() {
+        if self.calls.count_call() {
             return Err(self.calls.fail());
         }
         Ok(listed(alloc, &self.files)?)
@@ -154,7 +154,7 @@ impl Desk for MemDesk {
         ensures same_said { said_to self.new ≡ said_to self.old }
         ensures same_outputs { outputs_of self.new ≡ outputs_of self.old }
     {
-        if self.calls.is_next_due() {
+        if self.calls.count_call() {
             return Err(self.calls.fail());
         }
         let file = self.files.get(name).unwrap();
@@ -162,16 +162,16 @@ impl Desk for MemDesk {
     }
 
     fn append(&mut self, alloc: Global, name: &Name, piece: &[u8]) -> Result<(), DeskError>
-        ensures appended { OnOk result (Appends self.old self.new name.now piece.now) }
+        ensures appended { OnOk result (AppendsUnder self.old self.new name.now piece.now) }
         ensures half { OnFailed result
-            (Appends self.old self.new name.now (take (length piece.now / 2) piece.now)) }
+            (AppendsUnder self.old self.new name.now (take (length piece.now / 2) piece.now)) }
         ensures nothing { OnMemory result (IsSameUnder self.old self.new name.now) }
         ensures others { (other : List ℕ) → other ≢ name.now → IsSameUnder self.old self.new other }
         ensures due { FailsWhenDue result self.old self.new }
         ensures counted { CountsCall self.old self.new }
         ensures same_said { said_to self.new ≡ said_to self.old }
     {
-        if self.calls.is_next_due() {
+        if self.calls.count_call() {
             add(alloc, &mut self.files, name, &piece[..piece.len() / 2])?;
             return Err(self.calls.fail());
         }
@@ -188,7 +188,7 @@ impl Desk for MemDesk {
         ensures same_files { files_of self.new ≡ files_of self.old }
         ensures same_outputs { outputs_of self.new ≡ outputs_of self.old }
     {
-        if self.calls.is_next_due() {
+        if self.calls.count_call() {
             self.said.extend_from_slice(&piece[..piece.len() / 2])?;
             return Err(self.calls.fail());
         }

@@ -1,5 +1,5 @@
 ghost use Rattle.std.specs.Prelude.{◌≡◌, ◌↔◌, ◌<◌, ◌≤◌, length, vec_len, IfOk, IsErrOf};
-ghost use Rattle.gl_desk.specs.Answers.{OnFault, UnlessFault, OnWholeRead};
+ghost use Rattle.gl_desk.specs.Answers.{OnFault, UnlessFault, UnlessStopped};
 ghost use Rattle.gl_desk.specs.Desk.{Rose, HasFile, OnFile};
 
 use crate::desk::Desk;
@@ -31,7 +31,7 @@ pub fn read_all<D: Desk>(
     ensures bytes { IfOk result (λ bytes.
         OnFile (D.folder desk.old) name.now (λ file. bytes.items ≡ file)) }
     ensures fits { IfOk result (λ bytes. vec_len bytes ≤ limit) }
-    ensures too_large { OnWholeRead result (OnFile (D.folder desk.old) name.now
+    ensures too_large { UnlessStopped result (OnFile (D.folder desk.old) name.now
         (λ file. IsErrOf result ReadError.TooLarge ↔ (limit < length file))) }
 
     ensures fault { OnFault result (Rose (D.faults desk.old) (D.faults desk.new)) }

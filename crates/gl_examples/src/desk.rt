@@ -1,6 +1,6 @@
 ghost use Rattle.gl_desk.specs.Desk.{HasFile};
 
-use crate::system::OddSystem;
+use crate::system::{Broken, OddSystem};
 use gl_desk::{Desk, DeskError, HostDesk, MemDesk, Name, ReadError, read_all};
 use std::alloc::{AllocError, Global};
 use std::os::unix::fs::symlink;
@@ -87,28 +87,41 @@ fn a_file_is_read_up_to_the_limit_and_no_further(rt: HostRuntime) -> Result<(), 
     Ok(())
 }
 
+/// A piece of this length.
+fn piece(alloc: Global, length: usize) -> Result<Vec<u8>, AllocError> {
+    vec![in alloc; 7u8; length]
+}
+
+/// A file of 131,073 bytes is read in pieces of 65,536, 65,536, 1 and 0 bytes.
+#[test]
+fn a_file_is_read_in_large_pieces(rt: HostRuntime) -> Result<(), Fail> {
+    let alloc = rt.alloc();
+    let name = Name::from_text(alloc, "LONG.BIN")?;
+    let bytes = piece(alloc, 131_073)?;
+    for (failing, is_read) in [(4, false), (5, true)] {
+        let mut desk = folder(alloc, &name, &bytes, failing)?;
+        assert!(rt; desk.file(&name).is_some());
+        let read = read_all(alloc, &mut desk, &name, 1_000_000);
+        assert_eq!(rt; read.is_ok(), is_read, "where call {failing} fails");
+    }
+    Ok(())
+}
+
 /// How many entries the current folder has.
 fn entries<R: Files>(rt: &R, alloc: Global) -> io::Result<usize> {
     Ok(fs::read_dir(&(rt, alloc), ".")?.count())
 }
 
 /// The names that are listed where `unnamed` entries without a name come after those of the current folder.
-fn listed<R: Files + Print + Drop>(
-    real: R,
-    alloc: Global,
-    unnamed: usize,
-) -> Result<Vec<Name>, DeskError> {
-    let system = OddSystem {
-        real,
-        unnamed,
-        most: usize::MAX,
-    };
+fn listed<R: Files + Drop>(real: R, alloc: Global, unnamed: usize) -> Result<Vec<Name>, DeskError> {
+    let mut system = OddSystem::new(real);
+    system.unnamed = unnamed;
     HostDesk::new(system).names(alloc)
 }
 
 /// A link, a folder and what has no name are passed over, and count among the entries.
 #[test]
-fn a_folder_of_a_million_entries_is_listed_and_no_larger_one(rt: HostRuntime) -> Result<(), Fail> {
+fn a_listing_of_a_million_entries_is_taken_and_no_longer_one(rt: HostRuntime) -> Result<(), Fail> {
     let alloc = rt.alloc();
     let plain = Name::from_text(alloc, "PLAIN.BIN")?;
     HostDesk::new(&rt).append(alloc, &plain, b"x")?;
@@ -116,7 +129,6 @@ fn a_folder_of_a_million_entries_is_listed_and_no_larger_one(rt: HostRuntime) ->
     fs::create_dir(&rt, "SUB.DIR")?;
     let names = HostDesk::new(&rt).names(alloc)?;
     let room = 1_000_000usize.saturating_sub(entries(&rt, alloc)?);
-    let none = listed(&rt, alloc, 0);
     let one = listed(&rt, alloc, 1);
     let full = listed(&rt, alloc, room);
     let too_many = listed(&rt, alloc, room + 1);
@@ -126,29 +138,120 @@ fn a_folder_of_a_million_entries_is_listed_and_no_larger_one(rt: HostRuntime) ->
     assert!(rt; names.contains(&plain));
     assert!(rt; !names.contains(&Name::from_text(alloc, "LINK.BIN")?));
     assert!(rt; !names.contains(&Name::from_text(alloc, "SUB.DIR")?));
-    assert_eq!(rt; none?, names);
     assert_eq!(rt; one?, names);
     assert_eq!(rt; full?, names);
     assert_eq!(rt; too_many, Err(DeskError::Failed));
     Ok(())
 }
 
+/// What a desk over a system that is broken in this way answers, asked for the names and for a file.
+fn answers<R: Files + Drop>(
+    real: R,
+    alloc: Global,
+    broken: Broken,
+    name: &Name,
+) -> (Option<DeskError>, Option<ReadError>) {
+    let mut system = OddSystem::new(real);
+    system.broken = broken;
+    let mut desk = HostDesk::new(system);
+    (
+        desk.names(alloc).err(),
+        read_all(alloc, &mut desk, name, 9).err(),
+    )
+}
+
 #[test]
-fn a_piece_is_said_in_parts_and_fails_where_nothing_is_taken(rt: HostRuntime) -> Result<(), Fail> {
+fn each_error_of_the_system_is_a_fault(rt: HostRuntime) -> Result<(), Fail> {
     let alloc = rt.alloc();
+    let name = Name::from_text(alloc, "FAULTY.BIN")?;
+    HostDesk::new(&rt).append(alloc, &name, b"x")?;
+    let failed = Some(DeskError::Failed);
     let cases = [
-        (1, "said by the byte\n", Ok(())),
-        (0, "", Ok(())),
-        (0, "never said\n", Err(DeskError::Failed)),
+        (Broken::Nothing, (None, None)),
+        (Broken::Folder, (failed, None)),
+        (Broken::Listing, (failed, None)),
+        (Broken::Kind, (failed, None)),
+        (Broken::Read, (None, Some(ReadError::Fault))),
     ];
-    for (most, piece, expected) in cases {
-        let system = OddSystem {
-            real: &rt,
-            unnamed: 0,
-            most,
-        };
-        let said = HostDesk::new(system).say(alloc, piece.as_bytes());
-        assert_eq!(rt; said, expected, "at {most}");
+    for (broken, expected) in cases {
+        let found = answers(&rt, alloc, broken, &name);
+        assert!(rt; found == expected, "with a broken {broken:?}");
     }
+    fs::remove_file(&rt, "FAULTY.BIN")?;
+    Ok(())
+}
+
+#[test]
+fn a_piece_is_said_in_parts(rt: HostRuntime) -> Result<(), Fail> {
+    let alloc = rt.alloc();
+    let long = piece(alloc, 100_000)?;
+    let cases = [
+        (usize::MAX, 100_000, Ok(())),
+        (7, 100_000, Ok(())),
+        (0, 0, Err(DeskError::Failed)),
+    ];
+    for (most, printed, expected) in cases {
+        let mut system = OddSystem::new(&rt);
+        system.most = most;
+        let said = HostDesk::new(&system).say(alloc, &long);
+        assert_eq!(rt; said, expected, "at {most}");
+        assert_eq!(rt; system.printed.get(), printed, "at {most}");
+        assert_eq!(rt; HostDesk::new(&system).say(alloc, b""), Ok(()));
+    }
+    Ok(())
+}
+
+/// What a file holds to which a piece was appended by writes of at most `most` bytes, or why it wasn't.
+fn appended<R: Files + Drop>(
+    real: R,
+    alloc: Global,
+    most: usize,
+    name: &Name,
+) -> Result<Vec<u8>, ReadError> {
+    let mut system = OddSystem::new(real);
+    system.most = most;
+    let mut desk = HostDesk::new(system);
+    desk.append(alloc, name, b"by parts")?;
+    read_all(alloc, &mut desk, name, 9)
+}
+
+#[test]
+fn a_piece_is_appended_in_parts(rt: HostRuntime) -> Result<(), Fail> {
+    let alloc = rt.alloc();
+    let name = Name::from_text(alloc, "PARTS.BIN")?;
+    for most in [usize::MAX, 3, 1] {
+        let file = appended(&rt, alloc, most, &name)?;
+        fs::remove_file(&rt, "PARTS.BIN")?;
+        assert_eq!(rt; file.as_slice(), b"by parts".as_slice(), "at {most}");
+    }
+    assert_eq!(rt; appended(&rt, alloc, 0, &name), Err(ReadError::Fault));
+    fs::remove_file(&rt, "PARTS.BIN")?;
+    Ok(())
+}
+
+#[test]
+fn a_file_is_read_from_a_place_on(rt: HostRuntime) -> Result<(), Fail> {
+    let alloc = rt.alloc();
+    let mut desk = HostDesk::new(&rt);
+    let name = Name::from_text(alloc, "PLACES.BIN")?;
+    desk.append(alloc, &name, b"abcde")?;
+    let cases: [(u64, usize, Result<&str, DeskError>); 7] = [
+        (0, 8, Ok("abcde")),
+        (0, 2, Ok("ab")),
+        (3, 8, Ok("de")),
+        (5, 8, Ok("")),
+        (1_000_000, 8, Ok("")),
+        (2, 0, Ok("")),
+        // no file of the system has such a place
+        (u64::MAX, 8, Err(DeskError::Failed)),
+    ];
+    for (at, room, expected) in cases {
+        let mut into = vec![in alloc; 0u8; room]?;
+        let read = desk.read_at(alloc, &name, at, &mut into);
+        let found = read.map(|count| into.get(..count));
+        let expected = expected.map(|text| Some(text.as_bytes()));
+        assert!(rt; found == expected, "from {at} on");
+    }
+    fs::remove_file(&rt, "PLACES.BIN")?;
     Ok(())
 }

@@ -1,27 +1,71 @@
 use std::alloc::Allocator;
+use std::cell::Cell;
 use std::fmt::Display;
-use std::fs::{Metadata, OpenOptions};
+use std::fs::{Metadata, OpenFile, OpenOptions};
 use std::io;
-use std::io::{Chain, Read};
+use std::io::{Chain, ErrorKind, Read, Seek, SeekFrom, Write};
 use std::rt::Files;
 
-/// A system like the real one, but for two things: each listing goes on with `unnamed` entries whose names aren't UTF-8,
-/// and a write to standard output takes at most `most` bytes.
-#[derive(Drop)]
-pub struct OddSystem<R> {
-    pub real: R,
-    pub unnamed: usize,
-    pub most: usize,
+/// What of a system fails.
+#[derive(Clone, Copy, Debug, PartialEq, Eq)]
+pub enum Broken {
+    Nothing,
+    /// A folder can't be opened.
+    Folder,
+    /// A listing breaks off behind its entries.
+    Listing,
+    /// It can't be told whether an entry is a file.
+    Kind,
+    /// A file can be opened, and not read.
+    Read,
 }
 
-/// What is left of a listing whose names aren't UTF-8, each ended by a zero.
+/// A system like the real one, but for what is odd about it.
+#[derive(Drop)]
+pub struct OddSystem<R> {
+    real: R,
+    /// How many entries each listing has behind the real ones. Their names aren't UTF-8.
+    pub unnamed: usize,
+    /// How many bytes a write takes at most.
+    pub most: usize,
+    pub broken: Broken,
+    /// How many bytes were printed. They go nowhere.
+    pub printed: Cell<usize>,
+}
+
+impl<R> OddSystem<R> {
+    /// A system with nothing odd about it, but that it prints nothing.
+    pub fn new(real: R) -> OddSystem<R> {
+        OddSystem {
+            real,
+            unnamed: 0,
+            most: usize::MAX,
+            broken: Broken::Nothing,
+            printed: Cell::new(0),
+        }
+    }
+
+    /// An error where this is broken.
+    fn check(&self, part: Broken) -> io::Result<()> {
+        if self.broken == part {
+            return Err(io::Error::from(ErrorKind::Other));
+        }
+        Ok(())
+    }
+}
+
+/// What a listing has behind the real entries: names that aren't UTF-8, each ended by a zero, and then perhaps an error.
 #[derive(Drop)]
 pub struct Unnamed {
     left: usize,
+    breaks: bool,
 }
 
 impl Read for Unnamed {
     fn read(&mut self, into: &mut [u8]) -> io::Result<usize> {
+        if self.left == 0 && self.breaks {
+            return Err(io::Error::from(ErrorKind::Other));
+        }
         if self.left == 0 || into.len() < 2 {
             return Ok(0);
         }
@@ -32,17 +76,76 @@ impl Read for Unnamed {
     }
 }
 
+/// A file of an odd system.
+#[derive(Drop)]
+pub struct OddFile<F> {
+    file: F,
+    most: usize,
+    breaks: bool,
+}
+
+impl<F: Read> Read for OddFile<F> {
+    fn read(&mut self, into: &mut [u8]) -> io::Result<usize> {
+        if self.breaks {
+            return Err(io::Error::from(ErrorKind::Other));
+        }
+        self.file.read(into)
+    }
+}
+
+impl<F: Write> Write for OddFile<F> {
+    fn write(&mut self, piece: &[u8]) -> io::Result<usize> {
+        self.file.write(&piece[..self.most.min(piece.len())])
+    }
+
+    fn flush(&mut self) -> io::Result<()> {
+        self.file.flush()
+    }
+}
+
+impl<F: Seek> Seek for OddFile<F> {
+    fn seek(&mut self, to: SeekFrom) -> io::Result<u64> {
+        self.file.seek(to)
+    }
+}
+
+impl<F: OpenFile> OpenFile for OddFile<F> {
+    fn metadata(&self) -> io::Result<Metadata> {
+        self.file.metadata()
+    }
+
+    fn set_len(&self, size: u64) -> io::Result<()> {
+        self.file.set_len(size)
+    }
+
+    fn sync_all(&self) -> io::Result<()> {
+        self.file.sync_all()
+    }
+
+    fn sync_data(&self) -> io::Result<()> {
+        self.file.sync_data()
+    }
+}
+
 impl<R: Files> Files for OddSystem<R> {
-    type File = R::File;
+    type File = OddFile<R::File>;
 
     type Dir = Chain<R::Dir, Unnamed>;
 
-    fn open_file(&self, how: &OpenOptions, path: &str) -> io::Result<R::File> {
-        self.real.open_file(how, path)
+    fn open_file(&self, how: &OpenOptions, path: &str) -> io::Result<OddFile<R::File>> {
+        Ok(OddFile {
+            file: self.real.open_file(how, path)?,
+            most: self.most,
+            breaks: self.broken == Broken::Read,
+        })
     }
 
     fn open_dir(&self, path: &str) -> io::Result<Chain<R::Dir, Unnamed>> {
-        let unnamed = Unnamed { left: self.unnamed };
+        self.check(Broken::Folder)?;
+        let unnamed = Unnamed {
+            left: self.unnamed,
+            breaks: self.broken == Broken::Listing,
+        };
         Ok(self.real.open_dir(path)?.chain(unnamed))
     }
 
@@ -51,6 +154,7 @@ impl<R: Files> Files for OddSystem<R> {
     }
 
     fn symlink_metadata(&self, path: &str) -> io::Result<Metadata> {
+        self.check(Broken::Kind)?;
         self.real.symlink_metadata(path)
     }
 
@@ -79,20 +183,22 @@ impl<R: Files> Files for OddSystem<R> {
     }
 }
 
-impl<R: Print> Print for OddSystem<R> {
-    fn print<D: Display + Drop>(&self, value: D) -> io::Result<()> {
-        self.real.print(value)
+impl<R> Print for OddSystem<R> {
+    fn print<D: Display + Drop>(&self, _value: D) -> io::Result<()> {
+        Err(io::Error::from(ErrorKind::Unsupported))
     }
 
-    fn println<D: Display + Drop>(&self, value: D) -> io::Result<()> {
-        self.real.println(value)
+    fn println<D: Display + Drop>(&self, _value: D) -> io::Result<()> {
+        Err(io::Error::from(ErrorKind::Unsupported))
     }
 
-    fn write_all(&self, bytes: &[u8]) -> io::Result<()> {
-        self.real.write_all(bytes)
+    fn write_all(&self, _bytes: &[u8]) -> io::Result<()> {
+        Err(io::Error::from(ErrorKind::Unsupported))
     }
 
     fn write_some(&self, bytes: &[u8]) -> io::Result<usize> {
-        self.real.write_some(&bytes[..self.most.min(bytes.len())])
+        let count = self.most.min(bytes.len());
+        self.printed.set(self.printed.get().wrapping_add(count));
+        Ok(count)
     }
 }

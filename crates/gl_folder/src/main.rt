@@ -1,5 +1,5 @@
 //! A run of the desk of the real system in a real folder, as a test. It says the name, the length and the SHA-1 digest of
-//! each file that the folder has, as `sha1sum` gives it, then what can't be read or written, and then what it appended.
+//! each file that the folder has, then what can't be read or appended to, then what it appended, and all files again.
 //! The gate runs it in a copy of `data/` and compares what it says with `stdout`.
 #![tactic(auto)]
 
@@ -13,14 +13,16 @@ const LONGEST: u64 = 100_000;
 /// The desk of the current folder.
 type Folder = HostDesk<HostRuntime>;
 
-/// The length and the digest of a file, or why it wasn't read.
+/// The length of a file and its digest, or why it wasn't read.
 fn describe(alloc: Global, read: Result<Vec<u8>, ReadError>) -> Result<String, AllocError> {
     match read {
         Ok(bytes) => {
             let digest = hex::encode(alloc, Sha1::digest(&bytes))?;
             format!(in alloc; "{} {digest}", bytes.len())
         }
-        Err(error) => format!(in alloc; "{error}"),
+        Err(ReadError::Fault) => String::from_str(alloc, "isn't read: a fault"),
+        Err(ReadError::TooLarge) => String::from_str(alloc, "isn't read: too large"),
+        Err(ReadError::Memory) => String::from_str(alloc, "isn't read: no memory"),
     }
 }
 
@@ -42,30 +44,43 @@ fn show_all(alloc: Global, desk: &mut Folder) -> Result<(), DeskError> {
     Ok(())
 }
 
-/// Appends a piece, and says what came of it.
-fn append(alloc: Global, desk: &mut Folder, name: &Name, piece: &[u8]) -> Result<(), DeskError> {
-    let line = match desk.append(alloc, name, piece) {
-        Ok(()) => format!(in alloc; "{} was appended to\n", name.as_str())?,
-        Err(error) => format!(in alloc; "{} {error}\n", name.as_str())?,
+/// Appends a piece to a file, and says what came of it.
+fn append(alloc: Global, desk: &mut Folder, name: &str, piece: &[u8]) -> Result<(), DeskError> {
+    let name = Name::from_text(alloc, name)?;
+    let outcome = match desk.append(alloc, &name, piece) {
+        Ok(()) => "is appended to",
+        Err(DeskError::Failed) => "isn't appended to: a fault",
+        Err(DeskError::Memory) => "isn't appended to: no memory",
     };
+    let line = format!(in alloc; "{} {outcome}\n", name.as_str())?;
     desk.say(alloc, line.as_bytes())
+}
+
+/// Appends all bytes of the longest file to another in one piece.
+fn copy_longest(alloc: Global, desk: &mut Folder, name: &Name) -> Result<(), DeskError> {
+    match read_all(alloc, desk, name, LONGEST) {
+        Ok(bytes) => append(alloc, desk, "COPY.BIN", &bytes),
+        Err(_) => Ok(()),
+    }
 }
 
 fn main(rt: HostRuntime) -> Result<(), DeskError> {
     let alloc = rt.alloc();
     let mut desk = HostDesk::new(rt);
     show_all(alloc, &mut desk)?;
-    let long = Name::from_text(alloc, "LONG.BIN")?;
-    show(alloc, &mut desk, &long, LONGEST - 1)?;
-    let missing = Name::from_text(alloc, "MISSING.BIN")?;
-    show(alloc, &mut desk, &missing, LONGEST)?;
-    // A folder can't be appended to, and a full device takes nothing.
-    for name in ["SUB.DIR", "/dev/full"] {
+    let longest = Name::from_text(alloc, "LONG.BIN")?;
+    show(alloc, &mut desk, &longest, LONGEST - 1)?;
+    // The one is missing and can't be opened; the other is a folder, which can be, and can't be read.
+    for name in ["MISSING.BIN", "SUB.DIR"] {
         let name = Name::from_text(alloc, name)?;
-        append(alloc, &mut desk, &name, b"x")?;
+        show(alloc, &mut desk, &name, LONGEST)?;
     }
-    for piece in [b"one", b"two"] {
-        append(alloc, &mut desk, &missing, piece)?;
-    }
+    // The one can't be opened to append; of the other, a full device, each write fails.
+    append(alloc, &mut desk, "SUB.DIR", b"x")?;
+    append(alloc, &mut desk, "/dev/full", b"x")?;
+    append(alloc, &mut desk, "NEW.BIN", b"")?;
+    append(alloc, &mut desk, "PARTS.BIN", b"one")?;
+    append(alloc, &mut desk, "PARTS.BIN", b"two")?;
+    copy_longest(alloc, &mut desk, &longest)?;
     show_all(alloc, &mut desk)
 }

@@ -7,11 +7,11 @@ returns-in_err-add-clause-nothing c = on_memory _ (same_under _ _ _ c.in_err-add
 pub returns-in_err-add-clause-others : goal.returns-in_err-add-clause-others
 returns-in_err-add-clause-others c = λ other differs. same_under _ _ other (c.add.ensures.others other differs)
 
-pub returns-then-is_next_due-clause-half : goal.returns-then-is_next_due-clause-half
-returns-then-is_next_due-clause-half c = rw c.fail.ensures.answer (appends _ _ _ _ c.in_ok-add.ensures.ok)
+pub returns-then-count_call-clause-half : goal.returns-then-count_call-clause-half
+returns-then-count_call-clause-half c = rw c.fail.ensures.answer (appends _ _ _ _ c.in_ok-add.ensures.ok)
 
-pub returns-then-is_next_due-clause-others : goal.returns-then-is_next_due-clause-others
-returns-then-is_next_due-clause-others c = λ other differs. same_under _ _ other (c.add.ensures.others other differs)
+pub returns-then-count_call-clause-others : goal.returns-then-count_call-clause-others
+returns-then-count_call-clause-others c = λ other differs. same_under _ _ other (c.add.ensures.others other differs)
 
 pub returns-in_err-add-2-clause-nothing : goal.returns-in_err-add-2-clause-nothing
 returns-in_err-add-2-clause-nothing c = on_memory _ (same_under _ _ _ c.in_err-add-2.ensures.err)
