@@ -88,7 +88,7 @@ fn listed(alloc: Global, files: &BTreeMap<Name, MemFile>) -> Result<Vec<Name>, A
     Ok(names)
 }
 
-/// AppendsUnder a piece to a file, which is made where it isn't there.
+/// Appends a piece to a file, which is made where it isn't there.
 fn add(
     alloc: Global,
     files: &mut BTreeMap<Name, MemFile>,

@@ -80,6 +80,7 @@ fn a_file_is_read_up_to_the_limit_and_no_further(rt: HostRuntime) -> Result<(), 
     assert!(rt; desk.file(&name).is_some());
     let whole = read_all(alloc, &mut desk, &name, 5)?;
     assert_eq!(rt; whole.as_slice(), b"abcde".as_slice());
+    assert_eq!(rt; whole.capacity(), 5, "room for more than the file");
     assert_eq!(rt;
         read_all(alloc, &mut desk, &name, 4),
         Err(ReadError::TooLarge)
@@ -92,13 +93,13 @@ fn piece(alloc: Global, length: usize) -> Result<Vec<u8>, AllocError> {
     vec![in alloc; 7u8; length]
 }
 
-/// A file of 131,073 bytes is read in pieces of 65,536, 65,536, 1 and 0 bytes.
+/// A file of 131,072 bytes is read in pieces of 65,536, 65,536 and 0 bytes.
 #[test]
 fn a_file_is_read_in_large_pieces(rt: HostRuntime) -> Result<(), Fail> {
     let alloc = rt.alloc();
     let name = Name::from_text(alloc, "LONG.BIN")?;
-    let bytes = piece(alloc, 131_073)?;
-    for (failing, is_read) in [(4, false), (5, true)] {
+    let bytes = piece(alloc, 131_072)?;
+    for (failing, is_read) in [(3, false), (4, true)] {
         let mut desk = folder(alloc, &name, &bytes, failing)?;
         assert!(rt; desk.file(&name).is_some());
         let read = read_all(alloc, &mut desk, &name, 1_000_000);
@@ -121,7 +122,7 @@ fn listed<R: Files + Drop>(real: R, alloc: Global, unnamed: usize) -> Result<Vec
 
 /// A link, a folder and what has no name are passed over, and count among the entries.
 #[test]
-fn a_listing_of_a_million_entries_is_taken_and_no_longer_one(rt: HostRuntime) -> Result<(), Fail> {
+fn a_million_entries_are_gone_over_and_one_more_is_a_fault(rt: HostRuntime) -> Result<(), Fail> {
     let alloc = rt.alloc();
     let plain = Name::from_text(alloc, "PLAIN.BIN")?;
     HostDesk::new(&rt).append(alloc, &plain, b"x")?;
@@ -144,20 +145,44 @@ fn a_listing_of_a_million_entries_is_taken_and_no_longer_one(rt: HostRuntime) ->
     Ok(())
 }
 
-/// What a desk over a system that is broken in this way answers, asked for the names and for a file.
-fn answers<R: Files + Drop>(
-    real: R,
-    alloc: Global,
-    broken: Broken,
-    name: &Name,
-) -> (Option<DeskError>, Option<ReadError>) {
+#[test]
+fn each_of_a_thousand_files_is_listed(rt: HostRuntime) -> Result<(), Fail> {
+    let alloc = rt.alloc();
+    let mut desk = HostDesk::new(&rt);
+    let before = desk.names(alloc)?.len();
+    for number in 0..1000 {
+        let name = format!(in alloc; "F{number:03}.BIN")?;
+        desk.append(alloc, &Name::from_text(alloc, name.as_str())?, b"")?;
+    }
+    let names = desk.names(alloc)?;
+    for number in 0..1000 {
+        let name = format!(in alloc; "F{number:03}.BIN")?;
+        fs::remove_file(&rt, name.as_str())?;
+    }
+    assert_eq!(rt; names.len().checked_sub(before), Some(1000));
+    Ok(())
+}
+
+/// What the calls of a desk answered that didn't succeed.
+#[derive(Debug, Drop, PartialEq)]
+struct Refusals {
+    names: Option<DeskError>,
+    read: Option<ReadError>,
+    append: Option<DeskError>,
+    say: Option<DeskError>,
+}
+
+/// What isn't answered by a desk over a system that is broken in this way.
+fn try_each_call<R: Files + Drop>(real: R, alloc: Global, broken: Broken, name: &Name) -> Refusals {
     let mut system = OddSystem::new(real);
     system.broken = broken;
     let mut desk = HostDesk::new(system);
-    (
-        desk.names(alloc).err(),
-        read_all(alloc, &mut desk, name, 9).err(),
-    )
+    Refusals {
+        names: desk.names(alloc).err(),
+        read: read_all(alloc, &mut desk, name, 99).err(),
+        append: desk.append(alloc, name, b"x").err(),
+        say: desk.say(alloc, b"x").err(),
+    }
 }
 
 #[test]
@@ -166,16 +191,25 @@ fn each_error_of_the_system_is_a_fault(rt: HostRuntime) -> Result<(), Fail> {
     let name = Name::from_text(alloc, "FAULTY.BIN")?;
     HostDesk::new(&rt).append(alloc, &name, b"x")?;
     let failed = Some(DeskError::Failed);
+    let fault = Some(ReadError::Fault);
     let cases = [
-        (Broken::Nothing, (None, None)),
-        (Broken::Folder, (failed, None)),
-        (Broken::Listing, (failed, None)),
-        (Broken::Kind, (failed, None)),
-        (Broken::Read, (None, Some(ReadError::Fault))),
+        (Broken::Nothing, None, None, None, None),
+        (Broken::Folder, failed, None, None, None),
+        (Broken::Listing, failed, None, None, None),
+        (Broken::Kind, failed, None, None, None),
+        (Broken::Read, None, fault, None, None),
+        (Broken::Write, None, None, failed, None),
+        (Broken::Print, None, None, None, failed),
     ];
-    for (broken, expected) in cases {
-        let found = answers(&rt, alloc, broken, &name);
-        assert!(rt; found == expected, "with a broken {broken:?}");
+    for (broken, names, read, append, say) in cases {
+        let expected = Refusals {
+            names,
+            read,
+            append,
+            say,
+        };
+        let found = try_each_call(&rt, alloc, broken, &name);
+        assert_eq!(rt; found, expected, "with a broken {broken:?}");
     }
     fs::remove_file(&rt, "FAULTY.BIN")?;
     Ok(())

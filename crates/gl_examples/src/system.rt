@@ -14,10 +14,14 @@ pub enum Broken {
     Folder,
     /// A listing breaks off behind its entries.
     Listing,
-    /// It can't be told whether an entry is a file.
+    /// An entry is gone when its kind is asked for.
     Kind,
     /// A file can be opened, and not read.
     Read,
+    /// A file can be opened, and not written to.
+    Write,
+    /// Nobody takes what is printed.
+    Print,
 }
 
 /// A system like the real one, but for what is odd about it.
@@ -45,13 +49,18 @@ impl<R> OddSystem<R> {
         }
     }
 
-    /// An error where this is broken.
-    fn check(&self, part: Broken) -> io::Result<()> {
-        if self.broken == part {
-            return Err(io::Error::from(ErrorKind::Other));
-        }
-        Ok(())
+    /// An error of this kind where this part is broken.
+    fn check(&self, part: Broken, kind: ErrorKind) -> io::Result<()> {
+        check(self.broken, part, kind)
     }
+}
+
+/// An error of this kind where what is broken is this part.
+fn check(broken: Broken, part: Broken, kind: ErrorKind) -> io::Result<()> {
+    if broken == part {
+        return Err(io::Error::from(kind));
+    }
+    Ok(())
 }
 
 /// What a listing has behind the real entries: names that aren't UTF-8, each ended by a zero, and then perhaps an error.
@@ -81,20 +90,19 @@ impl Read for Unnamed {
 pub struct OddFile<F> {
     file: F,
     most: usize,
-    breaks: bool,
+    broken: Broken,
 }
 
 impl<F: Read> Read for OddFile<F> {
     fn read(&mut self, into: &mut [u8]) -> io::Result<usize> {
-        if self.breaks {
-            return Err(io::Error::from(ErrorKind::Other));
-        }
+        check(self.broken, Broken::Read, ErrorKind::Other)?;
         self.file.read(into)
     }
 }
 
 impl<F: Write> Write for OddFile<F> {
     fn write(&mut self, piece: &[u8]) -> io::Result<usize> {
+        check(self.broken, Broken::Write, ErrorKind::StorageFull)?;
         self.file.write(&piece[..self.most.min(piece.len())])
     }
 
@@ -136,12 +144,12 @@ impl<R: Files> Files for OddSystem<R> {
         Ok(OddFile {
             file: self.real.open_file(how, path)?,
             most: self.most,
-            breaks: self.broken == Broken::Read,
+            broken: self.broken,
         })
     }
 
     fn open_dir(&self, path: &str) -> io::Result<Chain<R::Dir, Unnamed>> {
-        self.check(Broken::Folder)?;
+        self.check(Broken::Folder, ErrorKind::PermissionDenied)?;
         let unnamed = Unnamed {
             left: self.unnamed,
             breaks: self.broken == Broken::Listing,
@@ -154,7 +162,7 @@ impl<R: Files> Files for OddSystem<R> {
     }
 
     fn symlink_metadata(&self, path: &str) -> io::Result<Metadata> {
-        self.check(Broken::Kind)?;
+        self.check(Broken::Kind, ErrorKind::NotFound)?;
         self.real.symlink_metadata(path)
     }
 
@@ -197,6 +205,7 @@ impl<R> Print for OddSystem<R> {
     }
 
     fn write_some(&self, bytes: &[u8]) -> io::Result<usize> {
+        self.check(Broken::Print, ErrorKind::BrokenPipe)?;
         let count = self.most.min(bytes.len());
         self.printed.set(self.printed.get().wrapping_add(count));
         Ok(count)
