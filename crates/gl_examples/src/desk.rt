@@ -163,7 +163,7 @@ fn each_of_a_thousand_files_is_listed(rt: HostRuntime) -> Result<(), Fail> {
     Ok(())
 }
 
-/// What the calls of a desk answered that didn't succeed.
+/// Why the calls of a desk failed, where they did.
 #[derive(Debug, Drop, PartialEq)]
 struct Refusals {
     names: Option<DeskError>,
@@ -172,7 +172,7 @@ struct Refusals {
     say: Option<DeskError>,
 }
 
-/// What isn't answered by a desk over a system that is broken in this way.
+/// Makes each call of a desk over a system that is broken in this way.
 fn try_each_call<R: Files + Drop>(real: R, alloc: Global, broken: Broken, name: &Name) -> Refusals {
     let mut system = OddSystem::new(real);
     system.broken = broken;
