@@ -1,10 +1,14 @@
 pub mod Words
+pub mod Refusals
+pub mod Answer
+pub mod Statuses
+pub mod Endings
 pub mod Texts
 pub mod Free
 pub mod Run
 pub mod Command
-pub mod Halt
-pub mod Halts
+pub mod Lines
+pub mod Listed
 pub use Rattle.gl_desk.specs.Desk
 pub use Rattle.gl_goal.specs.Free as FreeGoal
 pub use Rattle.gl_goal.specs.Rule
