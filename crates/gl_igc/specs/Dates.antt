@@ -2,7 +2,7 @@
 use Rattle.std.specs.Prelude.{ℕ, ◌+◌, nat_le, ◌==◌, ◌&&◌, nat_eq, codes, length, if◌then◌else◌, List, Option, None, Some, drop, Bool, ℤ, pos}
 use Rattle.std.specs.List.{starts_with}
 use Rattle.jiff_core.specs.Calendar.{days_in_month, days_from_civil}
-use Rattle.gl_igc.specs.Columns.{number_of, columns, ◌>>=◌}
+use Rattle.gl_text.specs.Digits.{◌>>=◌, columns, number_of}
 
 -- the calendar has this day
 unfoldable pub is_in_calendar : ℕ → ℕ → ℕ → Bool

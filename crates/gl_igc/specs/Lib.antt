@@ -5,5 +5,7 @@ pub mod Recording
 pub mod Refusals
 pub mod Seconds
 pub use Rattle.gl_sphere.specs.Place
+pub use Rattle.gl_sphere.specs.PlaceText
 pub use Rattle.gl_sphere.specs.Range
+pub use Rattle.gl_text.specs.Digits
 pub use Rattle.gl_text.specs.Lines

@@ -2,7 +2,9 @@
 use Rattle.std.specs.Prelude.{ℕ, nat_eq, nat_le, ◌==◌, ◌&&◌, if◌then◌else◌, List, [], ◌∷◌, length, map, Option, None, Some, Bool, ℤ, pos, int_le, codes}
 use Rattle.std.specs.List.{starts_with}
 use Rattle.gl_text.specs.Lines.{lines_of}
-use Rattle.gl_igc.specs.Columns.{columns, time_of_day, latitude_of, longitude_of, altitude_of, ◌>>=◌}
+use Rattle.gl_text.specs.Digits.{◌>>=◌, columns}
+use Rattle.gl_sphere.specs.PlaceText.{latitude_of, longitude_of}
+use Rattle.gl_igc.specs.Columns.{time_of_day, altitude_of}
 use Rattle.gl_igc.specs.Dates.{plain_date}
 use Rattle.gl_igc.specs.Seconds.{is_rising}
 
@@ -29,8 +31,8 @@ plain_fix line =
     if (length line == 35) && starts_with nat_eq line (codes "B") && starts_with nat_eq (columns 25 25 line) (codes "A") then
     (do
       second ← time_of_day line
-      lat ← latitude_of 0 line
-      lon ← longitude_of 0 line
+      lat ← latitude_of 0 (columns 8 15 line)
+      lon ← longitude_of 0 (columns 16 24 line)
       pressure ← altitude_of (columns 26 30 line)
       alt ← altitude_of (columns 31 35 line)
       if int_le alt (pos 32_767) then Some (record { second = pos second; lat = lat; lon = lon; alt = alt; enl = None }) else None)

@@ -2,7 +2,7 @@ ghost use Rattle.std.specs.Prelude.{◌≡◌, ◌<◌, ◌↔◌, Some, IsNone,
 ghost use Rattle.jiff_core.specs.Calendar.{IsDate, days_from_civil};
 ghost use Rattle.gl_igc.specs.Dates.{day_number, day_of, plain_date};
 
-use crate::columns::number;
+use gl_text::read_digits;
 use jiff::civil::Date;
 
 /// The day number, from 1970-01-01, of a day; `None` where the calendar hasn't the day.
@@ -33,9 +33,9 @@ fn day(digits: &[u8]) -> Option<i32>
     requires { length digits.now ≡ 6 }
     ensures { result ≡ day_of digits.now }
 {
-    let day = number(&digits[..2])?;
-    let month = number(&digits[2..4])?;
-    let year = number(&digits[4..])?;
+    let day = read_digits(&digits[..2])?;
+    let month = read_digits(&digits[2..4])?;
+    let year = read_digits(&digits[4..])?;
     day_of_numbers(2000 + year, month, day)
 }
 

@@ -3,9 +3,9 @@ ghost use Rattle.gl_sphere.specs.Range.{IsWithin};
 ghost use Rattle.gl_igc.specs.Plain.{plain_fix};
 ghost use Rattle.gl_igc.specs.Recording.{sighting_of};
 
-use crate::columns::{altitude, latitude, longitude, time};
+use crate::columns::{altitude, time};
 use crate::fix::Fix;
-use gl_sphere::{Grid, vector};
+use gl_sphere::{Grid, read_latitude, read_longitude, vector};
 
 /// The greatest altitude in metres that a fix may have.
 const HIGHEST: i32 = 32_767;
@@ -38,8 +38,8 @@ pub fn plain_fix(line: &[u8]) -> Option<Fix>
         return None;
     }
     let second = time(line)?;
-    let lat = latitude(line, 0)?;
-    let lon = longitude(line, 0)?;
+    let lat = read_latitude(&line[7..15], 0)?;
+    let lon = read_longitude(&line[15..24], 0)?;
     let _pressure = altitude(&line[25..30])?;
     let alt = altitude(&line[30..35])?;
     if alt <= HIGHEST {

@@ -5,6 +5,7 @@
 
 mod distance;
 mod place;
+mod place_text;
 mod projection;
 mod quotient;
 mod sine;
@@ -15,7 +16,8 @@ mod tests;
 
 pub use distance::{dist, sq};
 pub use place::{Grid, Vec3};
-pub use projection::vector;
+pub use place_text::{read_latitude, read_longitude, read_place};
+pub use projection::{east, north, vector};
 pub use sine::{wcos, wsin};
 pub use sphere::{GREATEST_DISTANCE, GREATEST_SQUARE, HALF_TURN, PI, QUARTER_TURN, RADIUS, UNIT};
 pub use square_root::root;
