@@ -6,7 +6,8 @@ use Rattle.gl_app.specs.declared.status.Status.TheVariants.{Refused}
 use Rattle.gl_app.specs.declared.refusal.Refusal.{Refusal}
 use Rattle.gl_app.specs.Refusals.{refusal_line}
 
--- the status that a run ends with, what it says, and what it appends to the file that its command writes
+-- the status that a run ends with, what it says, and what it appends to the file that its command
+-- writes
 pub record Answer : Type 0 where
   pub status : Status
   pub said : List ℕ

@@ -31,15 +31,16 @@ pub record IsFreeText (reading : Reading) (said : List ℕ) : Type 0 where
 
 -- the answer says the greatest free distance of the recording
 abbrev pub IsFreeOfReading : Reading → Answer → Type 0
-IsFreeOfReading reading answer = (said : List ℕ) × IsFreeText reading said × (answer ≡ saying Done said)
+IsFreeOfReading reading answer =
+    (said : List ℕ) × IsFreeText reading said × (answer ≡ saying Done said)
 
 -- the answer for what a text reads as: refused where it isn't a plain recording
 abbrev pub IsFreeOfText : List ℕ → Option Reading → Answer → Type 0
 IsFreeOfText file None answer = answer ≡ refused (NotPlain file)
 IsFreeOfText file (Some reading) answer = IsFreeOfReading reading answer
 
--- The answer for a file and what the tests saw of it: none where it isn't listed, else its bytes. They are made in
--- this order: it is listed; it isn't too large; it is a plain recording.
+-- The answer for a file and what the tests saw of it: none where it isn't listed, else its bytes.
+-- They are made in this order: it is listed; it isn't too large; it is a plain recording.
 abbrev pub IsFree : List ℕ → Option (List ℕ) → Answer → Type 0
 IsFree file None answer = answer ≡ refused (NotListed file)
 IsFree file (Some bytes) answer =

@@ -4,8 +4,8 @@ use Rattle.std.specs.Fmt.{decimal}
 use Rattle.gl_app.specs.declared.refusal.Refusal.{Refusal}
 use Rattle.gl_app.specs.declared.refusal.Refusal.TheVariants.{NotListed, TooLarge, NotPlain}
 
--- where in a file something is refused: nowhere in particular, at a line, or at a key of a task by its row, its item
--- and its part
+-- where in a file something is refused: nowhere in particular, at a line, or at a key of a task by
+-- its row, its item and its part
 pub data Place : Type 0 where
   Nowhere : Place
   AtLine : ℕ → Place
@@ -15,7 +15,8 @@ pub data Place : Type 0 where
 abbrev pub place_text : Place → List ℕ
 place_text Nowhere = codes "-"
 place_text (AtLine line) = decimal line
-place_text (AtKey row item part) = decimal row ++ codes "." ++ decimal item ++ codes "." ++ decimal part
+place_text (AtKey row item part) =
+    decimal row ++ codes "." ++ decimal item ++ codes "." ++ decimal part
 
 -- the parts of a refusal's line
 pub record Parts : Type 0 where
@@ -33,8 +34,8 @@ parts_of (NotPlain file) = record { kind = codes "IGC"; number = 9; place = Nowh
 -- the line with these parts: the kind, the number, the place and the name of the file
 unfoldable pub line_with : Parts → List ℕ
 line_with parts =
-    codes "REFUSED " ++ parts.kind ++ codes " " ++ decimal parts.number ++ codes " " ++ place_text parts.place
-    ++ codes " " ++ parts.file ++ 10 ∷ []
+    codes "REFUSED " ++ parts.kind ++ codes " " ++ decimal parts.number
+    ++ codes " " ++ place_text parts.place ++ codes " " ++ parts.file ++ 10 ∷ []
 
 -- the line of a refusal
 abbrev pub refusal_line : Refusal → List ℕ

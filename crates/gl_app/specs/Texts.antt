@@ -21,7 +21,8 @@ usage_line =
 abbrev pub spaced : List ℕ → List ℕ
 spaced numbers = flat_map (λ n. 32 ∷ decimal n) numbers
 
--- the two lines of a free distance: the metres of a total in centimetres, and the numbers of the fixes
+-- the two lines of a free distance: the metres of a total in centimetres, and the numbers of the
+-- fixes
 unfoldable pub free_text : ℕ → List ℕ → List ℕ
 free_text total fixes =
     codes "FREE " ++ fixed 2 total ++ codes " m" ++ 10 ∷ codes "FIXES" ++ spaced fixes ++ 10 ∷ []

@@ -29,8 +29,8 @@ fn is_dots(text: &str) -> bool
     text == "." || text == ".."
 }
 
-/// Whether the name is a file's: 1 to 128 bytes without `/` and without a byte below 32, and neither
-/// `.` nor `..`.
+/// Whether the name is a file's: 1 to 128 bytes without `/` and without a byte below 32, and
+/// neither `.` nor `..`.
 #[tactic(auto, unfolding(crate::specs::Words::is_file_name))]
 fn is_file_name(name: &Name) -> bool
     ensures { result ≡ is_file_name name.now }

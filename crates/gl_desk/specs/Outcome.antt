@@ -14,9 +14,11 @@ IsWantOfMemory error = (error_kind error ≡ OutOfMemory) × IsNone (raw_os_erro
 abbrev pub IsUnnamed : Error → Type 0
 IsUnnamed error = (error_kind error ≡ InvalidFilename) × IsNone (raw_os_error error)
 
--- a desk answers what the system did, and counts each error of it once, up to the last value of a `u64`
+-- a desk answers what the system did, and counts each error of it once, up to the last value of a
+-- `u64`
 abbrev pub Settles : {X : Type 0} → Result X SystemError → Result X DeskError → ℕ → ℕ → Type 0
 Settles (Ok x) result before after = (result ≡ Ok x) × (after ≡ before)
 Settles (Err error) result before after =
     (IsWantOfMemory error.error → (result ≡ Err Memory) × (after ≡ before))
-    × (¬ IsWantOfMemory error.error → (result ≡ Err Failed) × (after ≡ min (before + 1) (2 ^ 64 - 1)))
+    × (¬ IsWantOfMemory error.error
+    → (result ≡ Err Failed) × (after ≡ min (before + 1) (2 ^ 64 - 1)))

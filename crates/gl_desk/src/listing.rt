@@ -111,8 +111,8 @@ fn listed_name<Rt: Files + Drop>(
     }
 }
 
-/// The names of the plain files in the current folder. More than [`MOST_ENTRIES`] entries of any kind
-/// are an error.
+/// The names of the plain files in the current folder. More than [`MOST_ENTRIES`] entries of any
+/// kind are an error.
 pub fn plain_names<Rt: Files>(rt: &Rt, alloc: Global) -> Result<Vec<Name>, SystemError>
     ensures { IfOk result (λ names. vec_len names ≤ MOST_ENTRIES) }
 {

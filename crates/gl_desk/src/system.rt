@@ -50,7 +50,8 @@ pub fn write<W: Write>(to: &mut W, piece: &[u8]) -> Result<usize, SystemError>
     ensures bound { IfOk result (λ n. n ≤ length piece.now) }
     ensures bytes { IfOk result (λ n.
         Appends (W.contents to.old) (W.contents to.new) (take n piece.now)) }
-    ensures nothing { OnErr result (Appends (W.contents to.old) (W.contents to.new) (take 0 piece.now)) }
+    ensures nothing { OnErr result
+        (Appends (W.contents to.old) (W.contents to.new) (take 0 piece.now)) }
 {
     Ok(to.write(piece)?)
 }

@@ -16,8 +16,8 @@ thousandth = 100
 abbrev pub thousandths_of_degree : ℕ
 thousandths_of_degree = 60_000
 
--- the size of an angle, from degrees, thousandths of a minute and the two decimals after them; none where the minutes
--- are 60 or more or the angle is past the limit
+-- the size of an angle, from degrees, thousandths of a minute and the two decimals after them; none
+-- where the minutes are 60 or more or the angle is past the limit
 unfoldable pub angle_of : ℕ → ℕ → ℕ → ℕ → Option ℕ
 angle_of limit degrees thousandths decimals =
     let size = degrees * degree + thousandths * thousandth + decimals in
@@ -27,7 +27,8 @@ angle_of limit degrees thousandths decimals =
 unfoldable pub signed_by : ℕ → ℕ → Option ℕ → ℕ → Option ℤ
 signed_by plus minus None size = None
 signed_by plus minus (Some letter) size =
-    if letter == plus then Some (pos size) else (if letter == minus then Some (neg_ℤ (pos size)) else None)
+    if letter == plus then Some (pos size)
+    else (if letter == minus then Some (neg_ℤ (pos size)) else None)
 
 -- the latitude that DDMMmmm and N or S say, with two decimals more
 unfoldable pub latitude_of : ℕ → List ℕ → Option ℤ

@@ -1,6 +1,7 @@
-//! The sphere that every flight is measured on: places in 1/100,000 minute, the points that they stand for in whole
-//! centimetres from the centre, and the distance along the surface between two points. All of it is whole-number
-//! arithmetic, so that any two machines measure the same distance.
+//! The sphere that every flight is measured on: places in 1/100,000 minute, the points that they
+//! stand for in whole centimetres from the centre, and the distance along the surface between two
+//! points. All of it is whole-number arithmetic, so that any two machines measure the same
+//! distance.
 #![tactic(auto)]
 
 mod distance;

@@ -19,7 +19,7 @@ const THOUSANDTHS_OF_DEGREE: u32 = 60_000;
 /// How many bytes write a place.
 const PLACE_LENGTH: usize = 17;
 
-// The size of an angle in 1/100,000 minute.
+/// The size of an angle in 1/100,000 minute.
 #[inline]
 #[tactic(auto, unfolding(crate::specs::PlaceText::angle_of))]
 fn angle(limit: u64, degrees: u32, thousandths: u32, decimals: u32) -> Option<u32>
@@ -40,7 +40,8 @@ fn angle(limit: u64, degrees: u32, thousandths: u32, decimals: u32) -> Option<u3
     }
 }
 
-// The size with the sign of the letter: plus for the first letter, minus for the second, else `None`.
+/// The size with the sign of the letter: plus for the first letter, minus for the second, else
+/// `None`.
 #[inline]
 #[tactic(auto, unfolding(crate::specs::PlaceText::signed_by))]
 fn signed(plus: u8, minus: u8, letter: u8, size: u32) -> Option<i32>
@@ -58,10 +59,11 @@ fn signed(plus: u8, minus: u8, letter: u8, size: u32) -> Option<i32>
     }
 }
 
-/// The latitude in 1/100,000 minute, north positive, that `DDMMmmm` and `N` or `S` say: degrees, minutes and their
-/// thousandths, to which `decimals` adds hundredths of a thousandth.
+/// The latitude in 1/100,000 minute, north positive, that `DDMMmmm` and `N` or `S` say: degrees,
+/// minutes and their thousandths, to which `decimals` adds hundredths of a thousandth.
 ///
-/// `None` exactly where the text hasn't that form, the minutes are 60 or more, or the place is past a pole.
+/// `None` exactly where the text hasn't that form, the minutes are 60 or more, or the place is past
+/// a pole.
 #[inline]
 #[tactic(auto, unfolding(crate::specs::PlaceText::latitude_of))]
 pub fn read_latitude(text: &[u8], decimals: u32) -> Option<i32>
@@ -76,10 +78,11 @@ pub fn read_latitude(text: &[u8], decimals: u32) -> Option<i32>
     signed(b'N', b'S', text[7], size)
 }
 
-/// The longitude in 1/100,000 minute, east positive, that `DDDMMmmm` and `E` or `W` say: degrees, minutes and their
-/// thousandths, to which `decimals` adds hundredths of a thousandth.
+/// The longitude in 1/100,000 minute, east positive, that `DDDMMmmm` and `E` or `W` say: degrees,
+/// minutes and their thousandths, to which `decimals` adds hundredths of a thousandth.
 ///
-/// `None` exactly where the text hasn't that form, the minutes are 60 or more, or the place is past 180 degrees.
+/// `None` exactly where the text hasn't that form, the minutes are 60 or more, or the place is past
+/// 180 degrees.
 #[inline]
 #[tactic(auto, unfolding(crate::specs::PlaceText::longitude_of))]
 pub fn read_longitude(text: &[u8], decimals: u32) -> Option<i32>
@@ -94,10 +97,11 @@ pub fn read_longitude(text: &[u8], decimals: u32) -> Option<i32>
     signed(b'E', b'W', text[8], size)
 }
 
-/// The place that 17 bytes write: `DDMMmmm`, `N` or `S`, `DDDMMmmm`, `E` or `W`, as in recordings by the IGC flight
-/// recorder specification.
+/// The place that 17 bytes write: `DDMMmmm`, `N` or `S`, `DDDMMmmm`, `E` or `W`, as in recordings
+/// by the IGC flight recorder specification.
 ///
-/// `None` exactly where the text hasn't that form, the minutes are 60 or more, or the place is outside the grid.
+/// `None` exactly where the text hasn't that form, the minutes are 60 or more, or the place is
+/// outside the grid.
 #[tactic(auto, unfolding(crate::specs::PlaceText::place_of_text))]
 pub fn read_place(text: &[u8]) -> Option<Grid>
     ensures { option_map place_of result ≡ place_of_text text.now }

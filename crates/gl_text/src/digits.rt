@@ -1,8 +1,8 @@
 ghost use Rattle.std.specs.Prelude.{◌≡◌, ◌^◌, ◌<◌, ◌≤◌, length, IfSome};
 ghost use Rattle.gl_text.specs.Digits.{number_of};
 
-/// The number that the digits of some columns write, zeros at their front and all. `None` where a byte is no digit;
-/// no digits write 0.
+/// The number that the digits of some columns write, zeros at their front and all. `None` where a
+/// byte is no digit; no digits write 0.
 #[inline]
 pub fn read_digits(digits: &[u8]) -> Option<u32>
     requires { length digits.now ≤ 9 }
