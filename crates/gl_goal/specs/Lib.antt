@@ -3,7 +3,7 @@ pub mod Best
 pub mod Free
 pub mod FreeGoal
 pub mod Laws
-pub use Rattle.gl_igc.specs.Plain
+pub use Rattle.gl_igc.specs.Reading
 pub use Rattle.gl_igc.specs.Recording
 pub use Rattle.gl_igc.specs.Seconds
 pub use Rattle.gl_sphere.specs.Distance
