@@ -1,7 +1,7 @@
 -- The text of a free distance, from what the search found.
 use Rattle.std.proofs.Common.{◌≡◌, ◌∙◌, ap, subst, ℕ, List, Option, Some, map}
 use Rattle.gl_igc.specs.declared.fix.Fix.{Fix}
-use Rattle.gl_igc.specs.Plain.{Reading}
+use Rattle.gl_igc.specs.Reading.{Reading}
 use Rattle.gl_igc.specs.Recording.{sighting_of}
 use Rattle.gl_goal.specs.Rule.{Rule, IsReached, IsOptimum, chosen}
 use Rattle.gl_goal.specs.Best.{IsSound, total_of}

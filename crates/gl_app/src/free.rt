@@ -1,6 +1,6 @@
-ghost use Rattle.std.specs.Prelude.{◌≡◌, Err, IfOk};
+ghost use Rattle.std.specs.Prelude.{◌≡◌, None, Err, IfOk};
 ghost use Rattle.gl_desk.specs.Answers.{OnlyReads, stop_of};
-ghost use Rattle.gl_igc.specs.Plain.{plain_recording};
+ghost use Rattle.gl_igc.specs.Reading.{recording_of};
 ghost use Rattle.gl_igc.specs.Recording.{reading_of};
 ghost use Rattle.gl_app.specs.Answer.{answer_of};
 ghost use Rattle.gl_app.specs.Free.{IsFreeOfText, IsFreeText};
@@ -43,7 +43,7 @@ fn free_of_recording(alloc: Global, recording: &Recording) -> Result<Vec<u8>, Al
 /// The answer for a recording's text: its best free distance, or what it is refused for.
 fn free_of_text(alloc: Global, file: &Name, text: &[u8]) -> Result<Answer, DeskError>
     ensures right { IfOk result (λ answer.
-        IsFreeOfText file.now (plain_recording text.now) (answer_of answer)) }
+        IsFreeOfText file.now (recording_of text.now None) (answer_of answer)) }
     ensures no_fault { result ≡ Err DeskError.Failed → ⊥ }
 {
     match read_igc(alloc, text, None) {
@@ -51,7 +51,13 @@ fn free_of_text(alloc: Global, file: &Name, text: &[u8]) -> Result<Answer, DeskE
             status: Status::Done,
             text: free_of_recording(alloc, &recording)?,
         }),
-        Err(IgcError::Unbuilt) => Ok(refuse(alloc, &Refusal::NotPlain(file.clone()?))?),
+        Err(IgcError::NotIgc) => Ok(refuse(alloc, &Refusal::NotIgc(file.clone()?))?),
+        Err(IgcError::NoDate) => Ok(refuse(alloc, &Refusal::NoDate(file.clone()?))?),
+        Err(IgcError::WrongDay { .. }) => unreachable!(),
+        Err(IgcError::TooManyFixes { line }) => {
+            Ok(refuse(alloc, &Refusal::TooManyFixes(file.clone()?, line))?)
+        }
+        Err(IgcError::NoFix) => Ok(refuse(alloc, &Refusal::NoFix(file.clone()?))?),
         Err(IgcError::Memory) => Err(DeskError::Memory),
     }
 }
