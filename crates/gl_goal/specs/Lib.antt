@@ -1,4 +1,5 @@
 pub mod Certificate
+pub mod Laws
 pub mod Rule
 pub use Rattle.gl_box.specs.Cell
 pub use Rattle.gl_box.specs.Closed
