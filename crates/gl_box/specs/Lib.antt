@@ -1,0 +1,5 @@
+pub mod Tuple
+pub mod Cell
+pub mod Halves
+pub mod Frontier
+pub mod Laws
