@@ -2,3 +2,5 @@
 pub mod Spans
 pub mod Held
 pub mod Parts
+pub mod Nodes
+pub mod Singles

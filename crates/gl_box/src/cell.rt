@@ -34,6 +34,17 @@ impl Cell {
         cell
     }
 
+    /// The tuple at the low end of each span.
+    pub fn lowest(&self) -> Tuple
+        ensures { places_of result ≡ map (λ span. span.0) (spans_of self.now) }
+    {
+        let mut tuple = Tuple::first(self.axes);
+        for axis in 0..self.axes as usize {
+            tuple.choose(axis, self.spans[axis].lo);
+        }
+        tuple
+    }
+
     /// Gives an axis another span.
     pub fn set(&mut self, axis: usize, span: Span)
         requires { axis < self.old.axes }

@@ -13,7 +13,7 @@ mod tuple;
 
 pub use cell::Cell;
 pub use closed::{Closed, Why};
-pub use halves::split;
+pub use halves::{halve, split};
 pub use holding::{covers, has};
 pub use span::Span;
 pub use tuple::{MOST_AXES, Tuple};

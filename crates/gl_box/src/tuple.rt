@@ -22,7 +22,8 @@ impl Tuple {
     pub fn first(axes: u8) -> Tuple
         requires some { 1 ≤ axes }
         requires most { axes ≤ 10 }
-        ensures { places_of result ≡ replicate axes 0 }
+        ensures places { places_of result ≡ replicate axes 0 }
+        ensures axes { result.axes ≡ axes }
     {
         Tuple {
             axes,

@@ -1,2 +1,1 @@
 pub mod Tuples
-pub mod Fives

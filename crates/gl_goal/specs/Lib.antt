@@ -1,10 +1,8 @@
-pub mod Rule
-pub mod Best
-pub mod Free
-pub mod FreeGoal
+pub mod Certificate
 pub mod Laws
-pub use Rattle.gl_igc.specs.Plain
-pub use Rattle.gl_igc.specs.Recording
-pub use Rattle.gl_igc.specs.Seconds
-pub use Rattle.gl_sphere.specs.Distance
-pub use Rattle.gl_sphere.specs.Place
+pub mod Rule
+pub use Rattle.gl_box.specs.Cell
+pub use Rattle.gl_box.specs.Closed
+pub use Rattle.gl_box.specs.Frontier
+pub use Rattle.gl_box.specs.Halves
+pub use Rattle.gl_box.specs.Tuple

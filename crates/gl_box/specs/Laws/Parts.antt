@@ -32,7 +32,7 @@ cut_parts (s ∷ ss) (suc axis) middle (p ∷ ps) inside low high = apart (nat_l
 pub mult-append : (xs ys : List (List (ℕ × ℕ))) (tuple : List ℕ) → mult (xs ++ ys) tuple ≡ mult xs tuple + mult ys tuple
 mult-append xs ys tuple = sum_by-append (λ (cell : List (ℕ × ℕ)). cond (holds cell tuple) 1 0) xs ys
 
-halves_parted : (cell lower upper : List (ℕ × ℕ)) (tuple : List ℕ) → AreHalves cell lower upper → cond (holds lower tuple) 1 0 + cond (holds upper tuple) 1 0 ≡ cond (holds cell tuple) 1 0
+pub halves_parted : (cell lower upper : List (ℕ × ℕ)) (tuple : List ℕ) → AreHalves cell lower upper → cond (holds lower tuple) 1 0 + cond (holds upper tuple) 1 0 ≡ cond (holds cell tuple) 1 0
 halves_parted cell lower upper tuple halves =
     let lo = (span_at cell halves.axis).0 in
     let hi = (span_at cell halves.axis).1 in
