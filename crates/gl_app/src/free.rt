@@ -14,8 +14,9 @@ use crate::refusal::Refusal;
 use crate::status::Status;
 use crate::texts::free_lines;
 use gl_desk::{Desk, DeskError, Name};
-use gl_goal::{FreeGoal, fix_numbers, search_all};
+use gl_goal::{FreeGoal, fix_numbers};
 use gl_igc::{IgcError, Recording, read_igc};
+use gl_plain::search_one;
 use std::alloc::{AllocError, Global};
 
 /// The most bytes that a recording may have.
@@ -31,13 +32,12 @@ fn free_of_recording(alloc: Global, recording: &Recording) -> Result<Vec<u8>, Al
     let fixes = recording.fixes.as_slice();
     let last = fixes.len() - 1;
     let goal = FreeGoal::new(alloc, fixes, 0, last as u32, MOST_LOSS)?;
-    match search_all(alloc, &goal)? {
-        Some(best) => {
-            let numbers = fix_numbers(alloc, &goal, &best.tuple)?;
-            free_lines(alloc, best.total, &numbers)
-        }
-        None => unreachable!(),
-    }
+    let found = search_one(alloc, &goal)?;
+    let Some(best) = found.best else {
+        unreachable!()
+    };
+    let numbers = fix_numbers(alloc, &goal, &best.tuple)?;
+    free_lines(alloc, best.total, &numbers)
 }
 
 /// The answer for a recording's text: its best free distance, or what it is refused for.
