@@ -23,7 +23,8 @@ pub record IsOfLine (lines : List (List ℕ)) (fix : Sighting) : Type 0 where
 
 -- each fix is what such a line says
 abbrev pub AreOfLines : List (List ℕ) → List Sighting → Type 0
-AreOfLines lines fixes = (k : ℕ) (fix : Sighting) → slice_get fixes k ≡ Some fix → IsOfLine lines fix
+AreOfLines lines fixes =
+    (k : ℕ) (fix : Sighting) → slice_get fixes k ≡ Some fix → IsOfLine lines fix
 
 -- A line that is no date, I, B, C or E line.
 pub record IsPassedOver (line : List ℕ) : Type 0 where
@@ -39,8 +40,11 @@ without_number (Ok reading) = Ok reading
 without_number (Err (TooManyFixes line)) = Err (TooManyFixes 0)
 without_number (Err e) = Err e
 
--- A line that is passed over and isn't the first one that says something can be left out without a change, but in the
--- number of a line.
+-- A line that is passed over and isn't the first one that says something can be left out without a
+-- change, but in the number of a line.
 abbrev pub CanBeLeftOut : List (List ℕ) → Option ℤ → Type 0
 CanBeLeftOut lines task_day =
-    (above below : List (List ℕ)) (line : List ℕ) → lines ≡ above ++ line ∷ below → IsSome (first_of opening_of_line above) → IsPassedOver line → without_number (recording_of_lines (above ++ below) task_day) ≡ without_number (recording_of_lines lines task_day)
+    (above below : List (List ℕ)) (line : List ℕ) → lines ≡ above ++ line ∷ below
+    → IsSome (first_of opening_of_line above) → IsPassedOver line
+    → without_number (recording_of_lines (above ++ below) task_day)
+    ≡ without_number (recording_of_lines lines task_day)
