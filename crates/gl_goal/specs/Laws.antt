@@ -1,4 +1,7 @@
--- Lemmas and no definitions: that a certificate's total is the optimum, and that each goal has a certificate.
+-- Lemmas and no definitions: that a certificate's total is the optimum, that each goal has a certificate, and that the
+-- goals that are written here meet the laws of a goal.
 pub mod Order
 pub mod Optimum
 pub mod Existence
+pub mod Chain
+pub mod Free

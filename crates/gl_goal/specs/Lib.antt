@@ -1,4 +1,7 @@
 pub mod Certificate
+pub mod Chain
+pub mod Free
+pub mod FreeGoal
 pub mod Laws
 pub mod Rule
 pub use Rattle.gl_box.specs.Cell

@@ -1,8 +1,11 @@
 //! What is maximised: goals, their tests of boxes of choices, and what certifies that no choice was overlooked.
 #![tactic(auto)]
 
+mod free;
+mod free_goal;
 mod goal;
 mod numbers;
 
+pub use free::FreeGoal;
 pub use goal::Goal;
 pub use numbers::fix_numbers;

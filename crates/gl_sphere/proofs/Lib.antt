@@ -1,5 +1,6 @@
 pub mod Arcs
 pub mod Chords
 pub mod LongDivision
+pub mod Negated
 pub mod Roots
 pub mod Vectors

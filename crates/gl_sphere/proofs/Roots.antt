@@ -1,4 +1,4 @@
-use Rattle.std.proofs.Common.{◌≡◌, ℕ, zero, suc, ◌+◌, ◌*◌, ◌<◌, ◌≤◌, cond, leb, arith, ⊎_elim}
+use Rattle.std.proofs.Common.{◌≡◌, ℕ, zero, suc, ◌+◌, ◌-◌, ◌*◌, ◌<◌, ◌≤◌, cond, leb, sym, subst, arith, ⊎_elim}
 use Rattle.std.proofs.lemmas.Bool.{cond_both, leb-true, leb-false, cases_lt}
 use Rattle.std.proofs.Math.Nat.{mul-le-mul, le_antisymm}
 use Rattle.gl_sphere.specs.Distance.{floor_root}
@@ -34,3 +34,11 @@ IsRoot-unique n r h =
 pub floor_root-mono : (q n : ℕ) → q ≤ n → floor_root q ≤ floor_root n
 floor_root-mono q n h =
     IsRoot-mono q n (floor_root q) (floor_root n) (IsRoot-floor_root q) (IsRoot-floor_root n) h
+
+-- the number below one whose square is little above n
+pub IsRoot-below : (n g : ℕ) → n < g * g → g * g - n < 2 * g → IsRoot n (g - 1)
+IsRoot-below n zero h k = absurd (omega (arith, h))
+IsRoot-below n (suc r) h k =
+    let e : suc r - 1 ≡ r = omega arith in
+    let P : ℕ → Type 0 = IsRoot n in
+    subst P (sym e) (record { square_at_most = omega (arith, k); next_square_above = omega (arith, h) })

@@ -1,6 +1,6 @@
 use Rattle.std.specs.Prelude.{ℕ, zero, suc, ◌+◌, ◌*◌, ◌/◌, nat_le, if◌then◌else◌, ℤ, ◌-ℤ◌, unsigned_abs}
 use Rattle.gl_sphere.specs.declared.place.Vec3.{Vec3}
-use Rattle.gl_sphere.specs.declared.sphere.TheConstants.{RADIUS}
+use Rattle.gl_sphere.specs.Sphere.{radius}
 
 -- the square of the difference of two components
 unfoldable pub squared_gap : ℤ → ℤ → ℕ
@@ -18,15 +18,15 @@ floor_root (suc n) =
 
 -- the second term of 2R·arcsin(c / 2R) for a chord c
 unfoldable pub second_term_of : ℕ → ℕ
-second_term_of c = c * c * c / (24 * (RADIUS * RADIUS))
+second_term_of c = c * c * c / (24 * (radius * radius))
 
 -- the third term
 unfoldable pub third_term_of : ℕ → ℕ
-third_term_of c = 9 * second_term_of c * (c * c) / (80 * (RADIUS * RADIUS))
+third_term_of c = 9 * second_term_of c * (c * c) / (80 * (radius * radius))
 
 -- the fourth term
 unfoldable pub fourth_term_of : ℕ → ℕ
-fourth_term_of c = 25 * third_term_of c * (c * c) / (168 * (RADIUS * RADIUS))
+fourth_term_of c = 25 * third_term_of c * (c * c) / (168 * (radius * radius))
 
 -- the first four terms of 2R·arcsin(c / 2R), the arc over a chord c
 unfoldable pub arc_over : ℕ → ℕ

@@ -5,3 +5,4 @@ pub mod Place
 pub mod Product
 pub mod Range
 pub mod Sine
+pub mod Sphere

@@ -15,7 +15,7 @@ mod tests;
 
 pub use distance::{dist, sq};
 pub use place::{Grid, Vec3};
-pub use projection::vector;
+pub use projection::{east, north, vector};
 pub use sine::{wcos, wsin};
 pub use sphere::{GREATEST_DISTANCE, GREATEST_SQUARE, HALF_TURN, PI, QUARTER_TURN, RADIUS, UNIT};
 pub use square_root::root;

@@ -1,5 +1,5 @@
 ghost use Rattle.std.specs.Prelude.{◌≡◌};
-ghost use Rattle.gl_sphere.specs.Place.{written_vector};
+ghost use Rattle.gl_sphere.specs.Place.{written_vector, written_north, written_east};
 ghost use Rattle.gl_sphere.specs.Product.{product, scaled};
 ghost use Rattle.gl_sphere.specs.Range.{IsWithin};
 
@@ -19,6 +19,32 @@ pub fn vector(g: Grid) -> Vec3
         x: scale(mul(from_axis, wcos(lon))),
         y: scale(mul(from_axis, wsin(lon))),
         z: scale(wsin(lat)),
+    }
+}
+
+/// The direction of north at a place: a point at the radius from the centre, square to the place's own.
+pub fn north(g: Grid) -> Vec3
+    ensures { result ≡ written_north g }
+{
+    let lat = g.lat as i64;
+    let lon = g.lon as i64;
+    let height = wsin(lat);
+    Vec3 {
+        x: scale(-mul(height, wcos(lon))),
+        y: scale(-mul(height, wsin(lon))),
+        z: scale(wcos(lat)),
+    }
+}
+
+/// The direction of east at a place: a point at the radius from the centre, square to the place's own and to north.
+pub fn east(g: Grid) -> Vec3
+    ensures { result ≡ written_east g }
+{
+    let lon = g.lon as i64;
+    Vec3 {
+        x: scale(-wsin(lon)),
+        y: scale(wcos(lon)),
+        z: 0,
     }
 }
 

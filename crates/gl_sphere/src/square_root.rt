@@ -1,4 +1,4 @@
-ghost use Rattle.std.specs.Prelude.{◌≡◌, ◌+◌, ◌*◌, ◌^◌, ◌<◌, ◌≤◌};
+ghost use Rattle.std.specs.Prelude.{◌≡◌, ◌+◌, ◌*◌, ◌^◌, ◌<◌, ◌≤◌, IfSome};
 ghost use Rattle.gl_sphere.specs.Distance.{floor_root};
 
 // Entry k is 2^15 over the square root of (k + 64.5) / 256, to the nearest whole number.
@@ -26,17 +26,34 @@ pub fn root(n: u64) -> u64
     ensures square_at_most { result * result ≤ n }
     ensures next_square_above { n < (result + 1) * (result + 1) }
 {
-    let guess = estimate(n);
-    let square = guess * guess;
-    if square <= n && n - square <= 2 * guess {
-        guess
-    } else {
-        n.isqrt()
+    match root_by_guess(n) {
+        Some(root) => root,
+        None => n.isqrt(),
     }
 }
 
-// Mostly the square root, rounded down. Only speed rests on how often: from a table, with one step of Newton's method
-// towards the inverse root, and one towards the root. No product here reaches past 64 bits.
+// The square root, where the estimate is at most one away from it. Only speed rests on that it mostly is.
+#[inline]
+pub(crate) fn root_by_guess(n: u64) -> Option<u64>
+    ensures value { IfSome result (λ r. r ≡ floor_root n) }
+    ensures square_at_most { IfSome result (λ r. r * r ≤ n) }
+    ensures next_square_above { IfSome result (λ r. n < (r + 1) * (r + 1)) }
+{
+    let guess = estimate(n);
+    let square = guess * guess;
+    if square <= n && n - square <= 2 * guess {
+        Some(guess)
+    } else if square <= n && n - square <= 4 * guess + 3 {
+        Some(guess + 1)
+    } else if n < square && square - n < 2 * guess {
+        Some(guess - 1)
+    } else {
+        None
+    }
+}
+
+// The square root or a number near it: from a table, with one step of Newton's method towards the inverse root, and one
+// towards the root. No product here reaches past 64 bits.
 fn estimate(n: u64) -> u64
     ensures { result < 2 ^ 32 }
 {

@@ -1,6 +1,13 @@
 // The expected values were computed by a program of exact whole numbers in another language, written from the formulas
 // alone.
-use crate::{Grid, Vec3, dist, root, sq, vector, wcos, wsin};
+ghost use Rattle.std.specs.Prelude.{◌≡◌};
+ghost use Rattle.gl_sphere.specs.Sphere.{half_turn, pi, quarter_turn, radius, unit};
+
+use crate::square_root::root_by_guess;
+use crate::{
+    Grid, HALF_TURN, PI, QUARTER_TURN, RADIUS, UNIT, Vec3, dist, east, north, root, sq, vector,
+    wcos, wsin,
+};
 
 // The origin of the places: latitude 0 and longitude 0.
 const ORIGIN: Vec3 = Vec3 {
@@ -17,6 +24,15 @@ fn threads_may_share_places_and_points() {
     share(&Grid { lat: 0, lon: 0 });
     share(&ORIGIN);
 }
+
+// The constants are the numbers of the definitions.
+fn constants()
+    ensures radius { RADIUS ≡ radius }
+    ensures unit { UNIT ≡ unit }
+    ensures pi { PI ≡ pi }
+    ensures quarter_turn { QUARTER_TURN ≡ quarter_turn }
+    ensures half_turn { HALF_TURN ≡ half_turn }
+{}
 
 #[test]
 fn sines_and_cosines(rt: HostRuntime) {
@@ -120,6 +136,92 @@ fn points_between_the_axes(rt: HostRuntime) {
         lon: -540_000_001,
     };
     assert_eq!(rt; vector(place), past_west);
+}
+
+#[test]
+fn directions(rt: HostRuntime) {
+    let place = Grid {
+        lat: 312_345_678,
+        lon: 51_234_567,
+    };
+    assert_eq!(rt;
+        north(place),
+        Vec3 {
+            x: -496_866_195,
+            y: -74_603_784,
+            z: 391_732_906,
+        }
+    );
+    assert_eq!(rt;
+        east(place),
+        Vec3 {
+            x: -94_599_290,
+            y: 630_037_605,
+            z: 0,
+        }
+    );
+    let place = Grid {
+        lat: -273_456_789,
+        lon: -1_012_345_678,
+    };
+    assert_eq!(rt;
+        north(place),
+        Vec3 {
+            x: -446_222_127,
+            y: -88_967_355,
+            z: 445_945_101,
+        }
+    );
+    assert_eq!(rt;
+        east(place),
+        Vec3 {
+            x: 124_572_533,
+            y: -624_802_444,
+            z: 0,
+        }
+    );
+    let pole = Grid {
+        lat: 540_000_000,
+        lon: -540_000_000,
+    };
+    assert_eq!(rt;
+        north(pole),
+        Vec3 {
+            x: 0,
+            y: 637_100_000,
+            z: 0,
+        }
+    );
+    assert_eq!(rt;
+        east(pole),
+        Vec3 {
+            x: 637_100_000,
+            y: 0,
+            z: 0,
+        }
+    );
+}
+
+// The guess serves for squares, numbers around them and halfway between two, as far as chords of the sphere reach.
+#[test]
+fn roots_by_guess(rt: HostRuntime) {
+    for k in 0..2_048u64 {
+        let r = 1_048_575 * k + k * k / 64;
+        let square = r * r;
+        assert!(rt; root_by_guess(square).is_some(), "at the square of {r}");
+        assert!(rt;
+            root_by_guess(square.saturating_sub(1)).is_some(),
+            "below the square of {r}"
+        );
+        assert!(rt;
+            root_by_guess(square + r).is_some(),
+            "above the square of {r}"
+        );
+        assert!(rt;
+            root_by_guess(square + 2 * r).is_some(),
+            "far above the square of {r}"
+        );
+    }
 }
 
 #[test]

@@ -1,4 +1,4 @@
-use Rattle.std.proofs.Common.{◌≡◌, ℕ, zero, suc, ◌+◌, ◌-◌, ◌*◌, ◌/◌, ◌<◌, ◌≤◌, min, ℤ, pos, negsuc, ◌-ℤ◌, refl, sym, ap, subst, arith, ⊎_elim}
+use Rattle.std.proofs.Common.{◌≡◌, ℕ, zero, suc, ◌+◌, ◌-◌, ◌*◌, ◌/◌, ◌<◌, ◌≤◌, min, ℤ, pos, negsuc, neg_ℤ, ◌-ℤ◌, refl, sym, ap, subst, arith, ⊎_elim}
 use Rattle.std.specs.Prelude.{unsigned_abs}
 use Rattle.std.proofs.Props.{props}
 use Rattle.std.proofs.lemmas.Int.{ints}
@@ -104,3 +104,6 @@ within-more z m n h w = (omega (arith, ints, w.0, w.1), omega (arith, ints, w.0,
 
 pub within-prop : (m : ℕ) (z : ℤ) → IsProp (IsWithin m z)
 within-prop m z = hlevel props
+
+pub negative-within : (z : ℤ) (m : ℕ) → IsWithin m z → IsWithin m (neg_ℤ z)
+negative-within z m w = (omega (arith, ints, w.0, w.1), omega (arith, ints, w.0, w.1))
