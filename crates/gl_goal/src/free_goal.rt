@@ -133,20 +133,31 @@ impl FreeGoal {
 }
 
 impl FreeGoal {
-    /// The leg from one span to another: the one that is known, where it is that, else measured.
-    #[inline]
-    fn leg_between(&self, from: Span, to: Span, known: Leg) -> Leg
+    /// Measures the leg from one span to another.
+    fn measured(&self, from: Span, to: Span) -> Leg
         requires from { from.hi < length self.now.hulls }
         requires to { to.hi < length self.now.hulls }
-        requires known { IsLeg self.now known }
         ensures value { result.most ≡ most_between self.now.hulls (ends from) (ends to) }
         ensures leg { IsLeg self.now result }
     {
-        if known.from == from && known.to == to {
-            return known;
-        }
         let most = leg_at_most(&self.hulls.hull(from), &self.hulls.hull(to));
         Leg { from, to, most }
+    }
+
+    /// The greatest distance from one span to another. It is known where the leg is that, and else the leg becomes it.
+    #[inline]
+    fn most_by(&self, from: Span, to: Span, leg: &mut Leg) -> u64
+        requires from { from.hi < length self.now.hulls }
+        requires to { to.hi < length self.now.hulls }
+        requires leg { IsLeg self.now leg.old }
+        ensures value { result ≡ most_between self.now.hulls (ends from) (ends to) }
+        ensures bound { result < 2 ^ 40 }
+        ensures leg { IsLeg self.now leg.new }
+    {
+        if leg.from != from || leg.to != to {
+            *leg = self.measured(from, to);
+        }
+        leg.most
     }
 }
 
@@ -223,15 +234,10 @@ impl Goal for FreeGoal {
     #[inline]
     fn bound_by(&self, cell: &Cell, legs: &mut [Leg; MOST_LEGS]) -> u64 {
         let [a, b, c, d, e, ..] = cell.spans;
-        let [first, second, third, fourth, ..] = *legs;
-        let first = self.leg_between(a, b, first);
-        let second = self.leg_between(b, c, second);
-        let third = self.leg_between(c, d, third);
-        let fourth = self.leg_between(d, e, fourth);
-        legs[0] = first;
-        legs[1] = second;
-        legs[2] = third;
-        legs[3] = fourth;
-        first.most + second.most + third.most + fourth.most
+        let first = self.most_by(a, b, &mut legs[0]);
+        let second = self.most_by(b, c, &mut legs[1]);
+        let third = self.most_by(c, d, &mut legs[2]);
+        let fourth = self.most_by(d, e, &mut legs[3]);
+        first + second + third + fourth
     }
 }

@@ -36,6 +36,7 @@ pub(crate) fn whole<G: Goal>(goal: &G) -> Cell
 }
 
 /// Closes the last open cell. The only error is want of memory.
+#[inline]
 fn close(cells: &mut Vec<Cell>, boxes: &mut Vec<Closed>, why: Why) -> Result<(), AllocError>
     requires { 0 < vec_len cells.old }
     ensures { OnOk result (Closes cells.old.items cells.new.items boxes.old.items boxes.new.items why) }
@@ -48,6 +49,7 @@ fn close(cells: &mut Vec<Cell>, boxes: &mut Vec<Closed>, why: Why) -> Result<(),
 
 /// One step of the search at the last open cell: it is closed, or gives way to its halves, the lower one last. The only
 /// error is want of memory.
+#[inline]
 fn advance<G: Goal>(
     goal: &G,
     best: &mut Option<Best>,

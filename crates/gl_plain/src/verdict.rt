@@ -18,6 +18,7 @@ pub(crate) enum Verdict {
 }
 
 /// Tests a cell against what was found. `legs` are those that the last test measured.
+#[inline(always)]
 pub(crate) fn test<G: Goal>(
     goal: &G,
     cell: &Cell,
