@@ -187,3 +187,6 @@ impl Goal for FreeGoal {
         leg_at_most(&a, &b) + leg_at_most(&b, &c) + leg_at_most(&c, &d) + leg_at_most(&d, &e)
     }
 }
+
+#[cfg(test)]
+mod tests;
