@@ -22,7 +22,8 @@ impl Cell {
 
     /// The cell of a single tuple.
     pub fn point(tuple: &Tuple) -> Cell
-        ensures { spans_of result ≡ point (places_of tuple.now) }
+        ensures spans { spans_of result ≡ point (places_of tuple.now) }
+        ensures axes { result.axes ≡ tuple.now.axes }
     {
         let mut cell = Cell {
             axes: tuple.axes,

@@ -12,5 +12,5 @@ loop-axis-preserved c =
       so_far = point-more _ _ c.args.tuple.now.places c.loop-axis.axis c.point.result c.set.ensures.spans inside c.point.ensures.lo c.point.ensures.hi c.loop-axis.invariant.so_far;
     }
 
-pub returns : goal.returns
-returns c = point-all c.loop-axis.cell c.args.tuple.now c.loop-axis.axis c.loop-axis.invariant.axes c.loop-axis-test.false c.loop-axis.invariant.so_far
+pub returns-clause-spans : goal.returns-clause-spans
+returns-clause-spans c = point-all c.loop-axis.cell c.args.tuple.now c.loop-axis.axis c.loop-axis.invariant.axes c.loop-axis-test.false c.loop-axis.invariant.so_far
