@@ -1,15 +1,17 @@
 -- The right answer of the free distance of a file.
-use Rattle.std.specs.Prelude.{◌≡◌, ℕ, ◌-◌, ◌≤◌, List, length, map, Option, None, Some, IsSome, pos, nat_lt, MatchBool}
+use Rattle.std.specs.Prelude.{◌≡◌, ℕ, ◌-◌, ◌≤◌, List, length, map, Option, None, Some, Result, Ok, Err, IsOk, pos, nat_lt, MatchBool}
 use Rattle.gl_igc.specs.declared.fix.Fix.{Fix}
-use Rattle.gl_igc.specs.Plain.{Reading, plain_recording}
+use Rattle.gl_igc.specs.Reading.{Reading, recording_of}
+use Rattle.gl_igc.specs.declared.error.IgcError.{IgcError}
+use Rattle.gl_igc.specs.declared.error.IgcError.TheVariants as igc
 use Rattle.gl_igc.specs.Recording.{sighting_of}
 use Rattle.gl_goal.specs.Rule.{Rule, IsReached, IsOptimum, chosen}
 use Rattle.gl_goal.specs.Free.{free_goal}
 use Rattle.gl_app.specs.declared.status.Status.{Status}
-use Rattle.gl_app.specs.declared.status.Status.TheVariants.{Done, Refused}
-use Rattle.gl_app.specs.declared.refusal.Refusal.{Refusal}
-use Rattle.gl_app.specs.declared.refusal.Refusal.TheVariants.{NotListed, TooLarge, NotPlain}
-use Rattle.gl_app.specs.Texts.{refusal_line, free_text}
+use Rattle.gl_app.specs.declared.status.Status.TheVariants.{Done}
+use Rattle.gl_app.specs.declared.refusal.Refusal.TheVariants.{NotListed, TooLarge, NotIgc, NoDate, TooManyFixes, NoFix}
+use Rattle.gl_app.specs.Answer.{Answer, saying, refused}
+use Rattle.gl_app.specs.Texts.{free_text}
 
 -- the most bytes that a recording may have
 abbrev pub most_bytes : ℕ
@@ -29,22 +31,32 @@ pub record IsFreeText (reading : Reading) (said : List ℕ) : Type 0 where
   pub greatest : IsOptimum (whole_free_goal fixes) (Some total)
   pub text : said ≡ free_text total (chosen (whole_free_goal fixes).axes tuple)
 
--- the run is refused, with its one line
-abbrev pub IsRefused : Refusal → List ℕ → Status → List ℕ → Type 0
-IsRefused refusal name status said = (status ≡ Refused) × (said ≡ refusal_line refusal name)
+-- the answer says the greatest free distance of the recording
+abbrev pub IsFreeOfReading : Reading → Answer → Type 0
+IsFreeOfReading reading answer =
+    (said : List ℕ) × IsFreeText reading said × (answer ≡ saying Done said)
 
--- the answer for a text that is small enough: refused where it isn't a plain recording
-abbrev pub IsFreeOfReading : Option Reading → List ℕ → Status → List ℕ → Type 0
-IsFreeOfReading None name status said = IsRefused NotPlain name status said
-IsFreeOfReading (Some reading) name status said = (status ≡ Done) × IsFreeText reading said
+-- The answer for what a text reads as: a recording, or the refusal of a recording. Without a day of
+-- a task none is of another day.
+abbrev pub IsFreeOfText : List ℕ → Result Reading IgcError → Answer → Type 0
+IsFreeOfText file (Ok reading) answer = IsFreeOfReading reading answer
+IsFreeOfText file (Err igc.NotIgc) answer = answer ≡ refused (NotIgc file)
+IsFreeOfText file (Err igc.NoDate) answer = answer ≡ refused (NoDate file)
+IsFreeOfText file (Err (igc.WrongDay day)) answer = ⊥
+IsFreeOfText file (Err (igc.TooManyFixes line)) answer = answer ≡ refused (TooManyFixes file line)
+IsFreeOfText file (Err igc.NoFix) answer = answer ≡ refused (NoFix file)
+IsFreeOfText file (Err igc.Memory) answer = ⊥
 
--- the answer for a file of the folder, tested in this order: it is listed; it isn't too large; it is a plain recording
-abbrev pub IsFree : Option (List ℕ) → List ℕ → Status → List ℕ → Type 0
-IsFree None name status said = IsRefused NotListed name status said
-IsFree (Some bytes) name status said =
-    MatchBool (nat_lt most_bytes (length bytes)) (IsRefused TooLarge name status said) (IsFreeOfReading (plain_recording bytes) name status said)
+-- The answer for a file and what the tests saw of it: none where it isn't listed, else its bytes.
+-- The tests are made in this order: it is listed; it isn't too large; it is a recording.
+abbrev pub IsFree : List ℕ → Option (List ℕ) → Answer → Type 0
+IsFree file None answer = answer ≡ refused (NotListed file)
+IsFree file (Some bytes) answer =
+    MatchBool (nat_lt most_bytes (length bytes))
+    (answer ≡ refused (TooLarge file))
+    (IsFreeOfText file (recording_of bytes None) answer)
 
--- a file that passes these tests: it is there, it isn't too large, and it is a plain recording
-abbrev pub IsFreeFile : Option (List ℕ) → Type 0
-IsFreeFile None = ⊥
-IsFreeFile (Some bytes) = (length bytes ≤ most_bytes) × IsSome (plain_recording bytes)
+-- a file that passes these tests
+abbrev pub PassesFree : Option (List ℕ) → Type 0
+PassesFree None = ⊥
+PassesFree (Some bytes) = (length bytes ≤ most_bytes) × IsOk (recording_of bytes None)

@@ -1,10 +1,8 @@
--- The lines that a run says.
+-- The texts that a run says.
 use Rattle.std.specs.Prelude.{◌≡◌, ℕ, List, [], ◌∷◌, ◌++◌, Contains, codes}
 use Rattle.std.specs.List.{flat_map}
 use Rattle.std.specs.Fmt.{decimal}
 use Rattle.gl_text.specs.Numbers.{fixed}
-use Rattle.gl_app.specs.declared.refusal.Refusal.{Refusal}
-use Rattle.gl_app.specs.declared.refusal.Refusal.TheVariants.{NotListed, TooLarge, NotPlain}
 
 -- one line: an LF, the byte 10, ends it, and no other stands in it
 pub record IsLine (text : List ℕ) : Type 0 where
@@ -14,28 +12,17 @@ pub record IsLine (text : List ℕ) : Type 0 where
 
 -- the line for words that are of no form
 abbrev pub usage_line : List ℕ
-usage_line = codes "usage: free FILE | triangle FILE | score TASK PROOF WORKERS | check TASK PROOF | replay FILE SCHEDULE WORKERS | demo NUMBER" ++ 10 ∷ []
-
--- what a refusal is of
-abbrev pub kind_of : Refusal → List ℕ
-kind_of NotListed = codes "FILE"
-kind_of TooLarge = codes "FILE"
-kind_of NotPlain = codes "IGC"
-
--- its number
-abbrev pub number_of : Refusal → ℕ
-number_of NotListed = 1
-number_of TooLarge = 3
-number_of NotPlain = 9
-
--- the line of a refusal that has no place: the kind, the number, a dash and the name of the file
-unfoldable pub refusal_line : Refusal → List ℕ → List ℕ
-refusal_line refusal name = codes "REFUSED " ++ kind_of refusal ++ codes " " ++ decimal (number_of refusal) ++ codes " - " ++ name ++ 10 ∷ []
+usage_line =
+    codes "usage: free FILE | triangle FILE | score TASK PROOF WORKERS | check TASK PROOF | "
+    ++ codes "replay FILE SCHEDULE WORKERS | demo NUMBER"
+    ++ 10 ∷ []
 
 -- numbers, each with a space before it
 abbrev pub spaced : List ℕ → List ℕ
 spaced numbers = flat_map (λ n. 32 ∷ decimal n) numbers
 
--- the two lines of a free distance: the metres of a total in centimetres, and the numbers of the fixes
+-- the two lines of a free distance: the metres of a total in centimetres, and the numbers of the
+-- fixes
 unfoldable pub free_text : ℕ → List ℕ → List ℕ
-free_text total fixes = codes "FREE " ++ fixed 2 total ++ codes " m" ++ 10 ∷ codes "FIXES" ++ spaced fixes ++ 10 ∷ []
+free_text total fixes =
+    codes "FREE " ++ fixed 2 total ++ codes " m" ++ 10 ∷ codes "FIXES" ++ spaced fixes ++ 10 ∷ []

@@ -22,11 +22,18 @@ is_dots text = is_text text (codes ".") || is_text text (codes "..")
 -- a name of a file: 1 to 128 such bytes, and neither `.` nor `..`
 unfoldable pub is_file_name : List ℕ → Bool
 is_file_name name =
-    nat_le 1 (length name) && nat_le (length name) 128 && list_all is_name_byte name && not (is_dots name)
+    nat_le 1 (length name) && nat_le (length name) 128 && list_all is_name_byte name
+    && not (is_dots name)
 
--- the command that the words are a form of, if they are one
+-- `free FILE`
+abbrev pub free_form : List (List ℕ) → Option Command
+free_form [] = None
+free_form (word ∷ []) = None
+free_form (word ∷ file ∷ []) =
+    if is_text word (codes "free") && is_file_name file then Some (Free file) else None
+free_form (word ∷ file ∷ more ∷ words) = None
+
+-- The command that the words are a form of, if they are one. A further form is tried where none
+-- before it reads.
 unfoldable pub command_of : List (List ℕ) → Option Command
-command_of [] = None
-command_of (word ∷ []) = None
-command_of (word ∷ file ∷ []) = if is_text word (codes "free") && is_file_name file then Some (Free file) else None
-command_of (word ∷ file ∷ more ∷ words) = None
+command_of words = free_form words

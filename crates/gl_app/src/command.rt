@@ -1,6 +1,6 @@
 ghost use Rattle.std.specs.Prelude.{◌≡◌, option_map};
 ghost use Rattle.std.specs.List.{list_all};
-ghost use Rattle.gl_app.specs.Words.{command_of, is_dots, is_file_name, is_name_byte};
+ghost use Rattle.gl_app.specs.Words.{command_of, free_form, is_dots, is_file_name, is_name_byte};
 ghost use Rattle.gl_app.specs.Command.{seen};
 
 use gl_desk::Name;
@@ -29,23 +29,35 @@ fn is_dots(text: &str) -> bool
     text == "." || text == ".."
 }
 
-/// Whether the name is a file's: 1 to 128 bytes without `/` and without a byte below 32, and neither `.` nor `..`.
+/// Whether the name is a file's: 1 to 128 bytes without `/` and without a byte below 32, and
+/// neither `.` nor `..`.
 #[tactic(auto, unfolding(crate::specs::Words::is_file_name))]
 fn is_file_name(name: &Name) -> bool
     ensures { result ≡ is_file_name name.now }
 {
     let bytes = name.as_str().as_bytes();
     let length = bytes.len();
-    length >= 1 && length <= MOST_NAME_BYTES && are_name_bytes(bytes) && !is_dots(name.as_str())
+    length >= 1
+        && length <= MOST_NAME_BYTES
+        && are_name_bytes(bytes)
+        && !is_dots(name.as_str())
 }
 
-/// The command that the words are a form of; `None` where they are of no form.
-#[tactic(auto, unfolding(crate::specs::Words::command_of))]
-pub fn read_words(words: &[Name]) -> Option<Command<'_>>
-    ensures { option_map seen result ≡ command_of words.now }
+/// `free FILE`.
+fn read_free(words: &[Name]) -> Option<Command<'_>>
+    ensures { option_map seen result ≡ free_form words.now }
 {
     match words {
         [word, file] if word.as_str() == "free" && is_file_name(file) => Some(Command::Free(file)),
         _ => None,
     }
+}
+
+/// The command that the words are a form of; `None` where they are of no form. The form of a
+/// further command is tried where none before it reads.
+#[tactic(auto, unfolding(crate::specs::Words::command_of))]
+pub fn read_words(words: &[Name]) -> Option<Command<'_>>
+    ensures { option_map seen result ≡ command_of words.now }
+{
+    read_free(words)
 }

@@ -1,71 +1,47 @@
-ghost use Rattle.std.specs.Prelude.{◌≡◌, IfOk, Some};
-ghost use Rattle.gl_desk.specs.Desk.{Rose};
-ghost use Rattle.gl_app.specs.Halt.{IfRefused, OnDesk, OnFolder, UnlessDesk};
-ghost use Rattle.gl_app.specs.Run.{AgreesWithWords, EndsWith, IsAnswer, IsRight, IsRightFor, OnDeskElse, PassTests, SaidLineAt, UnlessStopped};
+ghost use Rattle.std.specs.Prelude.{◌≡◌, ◌≢◌, ◌↔◌, IfOk, IfNone, IsNone};
+ghost use Rattle.gl_desk.specs.Answers.{CountsFaults, OnlyReads, stop_of};
+ghost use Rattle.gl_app.specs.Answer.{answer_of};
 ghost use Rattle.gl_app.specs.Command.{seen};
+ghost use Rattle.gl_app.specs.Run.{Ends, IsRight, IsRightFor, PassTests, SaidLine, target_of};
+ghost use Rattle.gl_app.specs.Statuses.{stop_at};
 ghost use Rattle.gl_app.specs.Words.{command_of};
-ghost use Rattle.gl_app.specs.declared.status.Status.TheVariants.{Done};
 
+use crate::answer::Answer;
 use crate::command::{Command, read_words};
 use crate::free::free;
-use crate::halt::Halt;
 use crate::status::Status;
 use crate::texts::usage;
 use gl_desk::{Desk, DeskError, Name};
 use std::alloc::Global;
 
-/// What a run says, and the status that it then ends with.
-#[derive(Debug, Drop)]
-struct Reply {
-    status: Status,
-    text: Vec<u8>,
-}
-
-/// The reply to a command.
-fn reply_to_command<D: Desk>(
+/// The answer to a command.
+fn answer_to_command<D: Desk>(
     alloc: Global,
     desk: &mut D,
     command: Command<'_>,
-) -> Result<Reply, Halt>
-    ensures right { IfOk result (λ reply. OnFolder (D.folder desk.old) (λ files. IsRightFor (seen command.entry) files reply.status reply.text.items)) }
-    ensures answer { IfOk result (λ reply. IsAnswer (Some (seen command.entry)) reply.status reply.text.items) }
-    ensures not_refused { IfRefused result (λ _. ⊥) }
-
-    ensures failed { OnDesk result (Rose (D.faults desk.old) (D.faults desk.new)) }
-    ensures not_failed { UnlessDesk result (D.faults desk.new ≡ D.faults desk.old) }
-    ensures same_folder { D.folder desk.new ≡ D.folder desk.old }
-    ensures same_said { D.said desk.new ≡ D.said desk.old }
-    ensures same_outputs { D.outputs desk.new ≡ D.outputs desk.old }
+) -> Result<Answer, DeskError>
+    ensures right { IfOk result (λ answer.
+        IsRightFor (D.told desk.old).folder (seen command.entry) (answer_of answer)) }
+    ensures reads { OnlyReads (stop_of result) (D.told desk.old) (D.told desk.new) }
 {
-    let Command::Free(file) = command;
-    match free(alloc, desk, file) {
-        Ok(text) => Ok(Reply {
-            status: Status::Done,
-            text,
-        }),
-        Err(Halt::Refused(refusal)) => Ok(Reply {
-            status: Status::Refused,
-            text: refusal.line(alloc, file)?,
-        }),
-        Err(halt) => Err(halt),
+    match command {
+        Command::Free(file) => free(alloc, desk, file),
     }
 }
 
-/// The reply to the words.
-fn reply_to_words<D: Desk>(alloc: Global, words: &[Name], desk: &mut D) -> Result<Reply, Halt>
-    ensures right { IfOk result (λ reply. OnFolder (D.folder desk.old) (λ files. IsRight (command_of words.now) files reply.status reply.text.items)) }
-    ensures answer { IfOk result (λ reply. IsAnswer (command_of words.now) reply.status reply.text.items) }
-    ensures not_refused { IfRefused result (λ _. ⊥) }
-
-    ensures failed { OnDesk result (Rose (D.faults desk.old) (D.faults desk.new)) }
-    ensures not_failed { UnlessDesk result (D.faults desk.new ≡ D.faults desk.old) }
-    ensures same_folder { D.folder desk.new ≡ D.folder desk.old }
-    ensures same_said { D.said desk.new ≡ D.said desk.old }
-    ensures same_outputs { D.outputs desk.new ≡ D.outputs desk.old }
+/// The answer to the words.
+fn answer_to_words<D: Desk>(
+    alloc: Global,
+    words: &[Name],
+    desk: &mut D,
+) -> Result<Answer, DeskError>
+    ensures right { IfOk result (λ answer.
+        IsRight (D.told desk.old).folder (command_of words.now) (answer_of answer)) }
+    ensures reads { OnlyReads (stop_of result) (D.told desk.old) (D.told desk.new) }
 {
     match read_words(words) {
-        Some(command) => reply_to_command(alloc, desk, command),
-        None => Ok(Reply {
+        Some(command) => answer_to_command(alloc, desk, command),
+        None => Ok(Answer {
             status: Status::Words,
             text: usage(alloc)?,
         }),
@@ -74,36 +50,35 @@ fn reply_to_words<D: Desk>(alloc: Global, words: &[Name], desk: &mut D) -> Resul
 
 /// Carries out a command on one thread, and always returns.
 ///
-/// The words are those after the program's own name. One piece is said at the end, or nothing where a call of the desk
-/// failed or memory was wanting before; nothing is said after that.
-#[tactic(auto, using(crate::proofs::LineTexts::said_line))]
+/// The words are those after the program's own name. One piece is said at the end, or nothing where
+/// a call of the desk failed or memory was wanting before; nothing is said after that.
 pub fn run_single<D: Desk>(alloc: Global, words: &[Name], desk: &mut D) -> Status
-    // In a folder that the desk tells: the status and the text are right for the words. Where the files pass every
-    // test, only a failed call or want of memory keeps the run from its result.
-    ensures right { OnFolder (D.folder desk.old) (λ files. EndsWith (IsRight (command_of words.now) files) result (D.said desk.old) (D.said desk.new)) }
-    ensures complete { OnFolder (D.folder desk.old) (λ files. PassTests (command_of words.now) files → UnlessStopped result (result ≡ Done)) }
+    // The answer is right for what the tests saw, on every desk, and that is what the folder has
+    // where the desk tells it. A run that was stopped gave at most a first part of such an answer.
+    ensures right { Ends (IsRight (D.told desk.old).folder (command_of words.now))
+        (target_of (command_of words.now)) result (D.told desk.old) (D.told desk.new) }
 
-    // On any desk: `Words` exactly where the words are of no form, with the usage line; `Refused` with a refusal of a
-    // file of the command. After either one line was said.
-    ensures words { AgreesWithWords (command_of words.now) result }
-    ensures answer { EndsWith (IsAnswer (command_of words.now)) result (D.said desk.old) (D.said desk.new) }
-    ensures line { SaidLineAt result (D.said desk.old) (D.said desk.new) }
+    // In a folder whose files pass every test, a run that isn't stopped has a result.
+    ensures complete { PassTests (D.told desk.old).folder (command_of words.now)
+        → (result ≢ Status.Words) × (result ≢ Status.Refused) }
+
+    // Unless stopped, a run ends with `Words` exactly where the words are of no form, and says one
+    // line where it has no result.
+    ensures words { IfNone (stop_at result)
+        ((result ≡ Status.Words) ↔ IsNone (command_of words.now)) }
+    ensures line { IfNone (stop_at result)
+        (result ≢ Status.Done → SaidLine (D.told desk.old).said (D.told desk.new).said) }
 
     // `Desk` only where a call of the desk failed; at every other status none did.
-    ensures faults { OnDeskElse result (Rose (D.faults desk.old) (D.faults desk.new)) (D.faults desk.new ≡ D.faults desk.old) }
-
-    ensures same_folder { D.folder desk.new ≡ D.folder desk.old }
-    ensures same_outputs { D.outputs desk.new ≡ D.outputs desk.old }
+    ensures faults { CountsFaults (stop_at result)
+        (D.told desk.old).faults (D.told desk.new).faults }
 {
-    let reply = match reply_to_words(alloc, words, desk) {
-        Ok(reply) => reply,
-        Err(Halt::Desk) => return Status::Desk,
-        Err(Halt::Memory) => return Status::Memory,
-        Err(Halt::Refused(_)) => unreachable!(),
+    let answer = match answer_to_words(alloc, words, desk) {
+        Ok(answer) => answer,
+        Err(stop) => return Status::from(stop),
     };
-    match desk.say(alloc, &reply.text) {
-        Ok(()) => reply.status,
-        Err(DeskError::Failed) => Status::Desk,
-        Err(DeskError::Memory) => Status::Memory,
+    match desk.say(alloc, &answer.text) {
+        Ok(()) => answer.status,
+        Err(stop) => Status::from(stop),
     }
 }

@@ -1,3 +1,8 @@
+ghost use Rattle.std.specs.Prelude.{◌≡◌, Some};
+ghost use Rattle.gl_app.specs.Statuses.{number_of_status, status_of};
+
+use gl_desk::DeskError;
+
 /// How a run ended. The program ends with the status as a number.
 #[derive(Clone, Copy, Debug, PartialEq, Eq)]
 pub enum Status {
@@ -13,4 +18,25 @@ pub enum Status {
     Memory = 5,
     /// The proof text doesn't prove what the folder asks for; its one line was said.
     NotProved = 6,
+}
+
+/// What stops a run before its end.
+impl From<DeskError> for Status {
+    ghost from_gives = { λ stop status. status ≡ status_of stop };
+
+    fn from(stop: DeskError) -> Status {
+        match stop {
+            DeskError::Failed => Status::Desk,
+            DeskError::Memory => Status::Memory,
+        }
+    }
+}
+
+impl Status {
+    /// The number that the program ends with.
+    pub fn number(self) -> u8
+        ensures { result ≡ number_of_status self }
+    {
+        self as u8
+    }
 }

@@ -1,14 +1,12 @@
 ghost use Rattle.std.specs.Prelude.{◌≡◌, ◌++◌, IfOk, OnOk};
-ghost use Rattle.gl_app.specs.Texts.{free_text, kind_of, number_of, refusal_line, spaced, usage_line};
+ghost use Rattle.gl_app.specs.Texts.{free_text, spaced, usage_line};
 
-use crate::refusal::Refusal;
-use gl_desk::Name;
 use gl_text::{push_fixed, push_u64};
 use std::alloc::{AllocError, Global};
 
 /// The line for words that are of no form.
-const USAGE: &str =
-    "usage: free FILE | triangle FILE | score TASK PROOF WORKERS | check TASK PROOF | replay FILE SCHEDULE WORKERS | demo NUMBER\n";
+const USAGE: &str = "usage: free FILE | triangle FILE | score TASK PROOF WORKERS | \
+    check TASK PROOF | replay FILE SCHEDULE WORKERS | demo NUMBER\n";
 
 /// How many digits of a length in centimetres stand behind the point of its metres.
 const METRE_PLACES: u32 = 2;
@@ -18,44 +16,6 @@ pub fn usage(alloc: Global) -> Result<Vec<u8>, AllocError>
     ensures { IfOk result (λ line. line.items ≡ usage_line) }
 {
     Vec::from_slice(alloc, USAGE.as_bytes())
-}
-
-impl Refusal {
-    /// What the refusal is of.
-    fn kind(self) -> &'static str
-        ensures { result.now ≡ kind_of self }
-    {
-        match self {
-            Refusal::NotListed | Refusal::TooLarge => "FILE",
-            Refusal::NotPlain => "IGC",
-        }
-    }
-
-    /// Its number.
-    fn number(self) -> u64
-        ensures { result ≡ number_of self }
-    {
-        match self {
-            Refusal::NotListed => 1,
-            Refusal::TooLarge => 3,
-            Refusal::NotPlain => 9,
-        }
-    }
-
-    /// The line that a refused run says of the file.
-    #[tactic(auto, unfolding(crate::specs::Texts::refusal_line))]
-    pub fn line(self, alloc: Global, file: &Name) -> Result<Vec<u8>, AllocError>
-        ensures { IfOk result (λ line. line.items ≡ refusal_line self file.now) }
-    {
-        let mut line = Vec::from_slice(alloc, b"REFUSED ")?;
-        line.extend_from_slice(self.kind().as_bytes())?;
-        line.extend_from_slice(b" ")?;
-        push_u64(&mut line, self.number())?;
-        line.extend_from_slice(b" - ")?;
-        line.extend_from_slice(file.as_str().as_bytes())?;
-        line.push(b'\n')?;
-        Ok(line)
-    }
 }
 
 /// Appends each number with a space before it.
@@ -69,7 +29,8 @@ fn push_spaced(text: &mut Vec<u8>, numbers: &[u32]) -> Result<(), AllocError>
     Ok(())
 }
 
-/// The two lines of a free distance: its total in centimetres, as metres, and the numbers of its fixes.
+/// The two lines of a free distance: its total in centimetres, as metres, and the numbers of its
+/// fixes.
 #[tactic(auto, unfolding(crate::specs::Texts::free_text))]
 pub fn free_lines(alloc: Global, total: u64, fixes: &[u32]) -> Result<Vec<u8>, AllocError>
     ensures { IfOk result (λ text. text.items ≡ free_text total fixes.now) }

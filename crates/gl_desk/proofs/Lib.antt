@@ -1,4 +1,5 @@
 pub mod Pieces
+pub mod Reading
 pub mod StoredLemmas
 pub mod GivenLemmas
 pub mod DeskLemmas

@@ -1,4 +1,4 @@
-use Rattle.std.proofs.Common.{◌≡◌, ◌≢◌, ℕ, Bool, List, [], ◌++◌, Option, None, Some, unwrap_or, Result, Ok, Err, Decides, refl, sym, ap, ◌∙◌, append_assoc}
+use Rattle.std.proofs.Common.{◌≡◌, ◌≢◌, ℕ, Bool, List, [], ◌++◌, Option, None, Some, unwrap_or, Decides, refl, sym, ap, ◌∙◌, append_assoc}
 use Rattle.std.specs.Prelude.{Contains, is_some, option_map}
 use Rattle.std.specs.Ordering.{nat_cmp, eq_by_cmp}
 use Rattle.std.specs.Cmp.Lexicographic.{slice_cmp}
@@ -8,10 +8,7 @@ use Rattle.std.proofs.lemmas.Map.Keys.{IsDistinct-from_sorted}
 use Rattle.std.proofs.lemmas.Map.Made.{AllPairs-from_IsDistinct, is_member-Decides, is_some-lookup}
 use Rattle.std.proofs.lemmas.Map.Text.{is_eq-slice_cmp}
 use Rattle.std.proofs.lemmas.Slice.Eq.{bytes_eq-Decides}
-use Rattle.gl_desk.specs.declared.error.DeskError.{DeskError}
-use Rattle.gl_desk.specs.declared.error.DeskError.TheVariants.{Failed, Memory}
 use Rattle.gl_desk.specs.declared.mem.MemDesk.{MemDesk}
-use Rattle.gl_desk.specs.Answers.{OnMemory}
 use Rattle.gl_desk.specs.Desk.{ListsNames}
 use Rattle.gl_desk.specs.MemDesk.{StoredFile, StoredFiles, stored, bytes_of, appended_to, with_piece, files_in, outputs_in, IsSameUnder, AppendsUnder}
 
@@ -63,11 +60,6 @@ same_under old new name same =
 pub appends : (old new : MemDesk) (name part : List ℕ) → stored new.files name ≡ Some (with_piece (stored old.files name) part) → AppendsUnder old new name part
 appends old new name part grown =
     record { file = grown_file old.files new.files name part grown; output = grown_output old.files new.files name part grown }
-
-pub on_memory : {X P : Type 0} (r : Result X DeskError) → P → OnMemory r P
-on_memory (Ok x) p = tt
-on_memory (Err Failed) p = tt
-on_memory (Err Memory) p = p
 
 -- the keys of the files are the folder's names, each once
 pub is_some-bytes_of : (file : Option StoredFile) → is_some (option_map bytes_of file) ≡ is_some file

@@ -8,6 +8,14 @@ FilesByName = List ℕ → Option (List ℕ)
 abbrev pub AppendedByName : Type 0
 AppendedByName = List ℕ → List ℕ
 
+-- What a desk tells: the files of its folder, the text said so far and what was appended under each
+-- name, each where the desk tells it; and how often the outside failed.
+pub record Told : Type 0 where
+  pub folder : Option FilesByName
+  pub said : Option (List ℕ)
+  pub outputs : Option AppendedByName
+  pub faults : ℕ
+
 -- the count of faults rose; a count at the last value of a `u64` stands still there
 abbrev pub Rose : ℕ → ℕ → Type 0
 Rose before after = (before < after) ⊎ ((before ≡ 2 ^ 64 - 1) × (after ≡ 2 ^ 64 - 1))
@@ -21,6 +29,16 @@ HasFile (Some files) name = IsSome (files name)
 abbrev pub OnFile : Option FilesByName → List ℕ → (List ℕ → Type 0) → Type 0
 OnFile None name P = ⊤
 OnFile (Some files) name P = IfSome (files name) P
+
+-- where the desk tells its folder, this is what it has under the name: the bytes of a file, or none
+abbrev pub IsSeenIn : Option FilesByName → List ℕ → Option (List ℕ) → Type 0
+IsSeenIn None name seen = ⊤
+IsSeenIn (Some files) name seen = files name ≡ seen
+
+-- there are more bytes than the limit to see under the name
+abbrev pub IsLongerThan : ℕ → Option FilesByName → List ℕ → Type 0
+IsLongerThan limit folder name =
+    (file : List ℕ) × (limit < length file) × IsSeenIn folder name (Some file)
 
 -- where the desk tells its folder, these are its names, each once
 abbrev pub ListsNames : Option FilesByName → List (List ℕ) → Type 0

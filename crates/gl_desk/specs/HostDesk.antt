@@ -1,6 +1,7 @@
-use Rattle.std.specs.Prelude.{ℕ}
+use Rattle.std.specs.Prelude.{None}
 use Rattle.gl_desk.specs.declared.host.HostDesk.{HostDesk}
+use Rattle.gl_desk.specs.Desk.{Told}
 
--- how many errors of the system were counted
-abbrev pub faults_counted : {Rt : Type 0} → HostDesk Rt → ℕ
-faults_counted desk = desk.faults
+-- the desk of the real system tells how many errors of the system it counted, and nothing else
+abbrev pub told_by : {Rt : Type 0} → HostDesk Rt → Told
+told_by desk = record { folder = None; said = None; outputs = None; faults = desk.faults }

@@ -9,7 +9,7 @@ use Rattle.gl_desk.specs.declared.calls.Calls.{Calls}
 use Rattle.gl_desk.specs.declared.mem.MemDesk.{MemDesk}
 use Rattle.gl_desk.specs.declared.error.DeskError.{DeskError}
 use Rattle.gl_desk.specs.declared.error.DeskError.TheVariants.{Failed, Memory}
-use Rattle.gl_desk.specs.Desk.{FilesByName, AppendedByName}
+use Rattle.gl_desk.specs.Desk.{FilesByName, AppendedByName, Told}
 
 -- a file in memory: the bytes that it was given with, and those that were appended
 abbrev pub StoredFile : Type 0
@@ -77,6 +77,15 @@ calls_of desk = desk.calls.made
 
 abbrev pub failing_of : MemDesk → List ℕ
 failing_of desk = desk.calls.failing.items
+
+-- a desk in memory tells everything
+abbrev pub told_by : MemDesk → Told
+told_by desk = record {
+  folder = Some (files_of desk);
+  said = Some (said_to desk);
+  outputs = Some (outputs_of desk);
+  faults = faults_of desk;
+}
 
 -- the desk's next call is one that is told to fail
 abbrev pub IsDue : MemDesk → Type 0

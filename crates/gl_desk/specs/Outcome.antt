@@ -1,6 +1,7 @@
 use Rattle.std.specs.Prelude.{◌≡◌, ◌+◌, ◌-◌, ◌^◌, ℕ, min, IsNone, Result, Ok, Err}
 use Rattle.std.specs.IoError.{error_kind, raw_os_error}
 use Rattle.std.specs.declared.io.Error.{Error}
+use Rattle.gl_desk.specs.declared.system.SystemError.{SystemError}
 use Rattle.std.specs.declared.io.ErrorKind.TheVariants.{OutOfMemory, InvalidFilename}
 use Rattle.gl_desk.specs.declared.error.DeskError.{DeskError}
 use Rattle.gl_desk.specs.declared.error.DeskError.TheVariants.{Failed, Memory}
@@ -13,9 +14,11 @@ IsWantOfMemory error = (error_kind error ≡ OutOfMemory) × IsNone (raw_os_erro
 abbrev pub IsUnnamed : Error → Type 0
 IsUnnamed error = (error_kind error ≡ InvalidFilename) × IsNone (raw_os_error error)
 
--- a desk answers what the system did, and counts each error of it once, up to the last value of a `u64`
-abbrev pub Settles : {X : Type 0} → Result X Error → Result X DeskError → ℕ → ℕ → Type 0
+-- a desk answers what the system did, and counts each error of it once, up to the last value of a
+-- `u64`
+abbrev pub Settles : {X : Type 0} → Result X SystemError → Result X DeskError → ℕ → ℕ → Type 0
 Settles (Ok x) result before after = (result ≡ Ok x) × (after ≡ before)
 Settles (Err error) result before after =
-    (IsWantOfMemory error → (result ≡ Err Memory) × (after ≡ before))
-    × (¬ IsWantOfMemory error → (result ≡ Err Failed) × (after ≡ min (before + 1) (2 ^ 64 - 1)))
+    (IsWantOfMemory error.error → (result ≡ Err Memory) × (after ≡ before))
+    × (¬ IsWantOfMemory error.error
+    → (result ≡ Err Failed) × (after ≡ min (before + 1) (2 ^ 64 - 1)))

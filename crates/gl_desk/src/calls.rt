@@ -27,6 +27,13 @@ impl Calls {
         }
     }
 
+    /// How many calls were made.
+    pub fn made(&self) -> u64
+        ensures { result ≡ self.now.made }
+    {
+        self.made
+    }
+
     /// Counts a call, and tells whether it is one that fails. Once 2^64 - 1 calls were made, a
     /// call has no number and doesn't fail.
     pub fn count_call(&mut self) -> bool

@@ -1,17 +1,17 @@
 ghost use Rattle.std.specs.Prelude.{◌≡◌, ◌≤◌, ◌↔◌, length, IsTrue, IfOk, OnOk, OnErr};
 ghost use Rattle.std.specs.Io.KnownBytes.{Appends};
-ghost use Rattle.gl_desk.specs.Answers.{OnFailed, UnlessFailed};
-ghost use Rattle.gl_desk.specs.Desk.{Rose, TakesPrefix};
+ghost use Rattle.gl_desk.specs.Answers.{CountsFaults, stop_of};
+ghost use Rattle.gl_desk.specs.Desk.{TakesPrefix};
 ghost use Rattle.gl_desk.specs.Outcome.{IsWantOfMemory, Settles};
 
 use crate::desk::Desk;
 use crate::error::DeskError;
 use crate::listing::plain_names;
 use crate::name::Name;
+use crate::system::{SystemError, open, open_to_append, read, seek, write};
 use std::alloc::Global;
-use std::fs::{File, OpenOptions};
 use std::io;
-use std::io::{ErrorKind, Read, Seek, SeekFrom, Write};
+use std::io::{ErrorKind, Write};
 use std::rt::Files;
 
 /// The current folder and the standard output. It tells nothing of what they hold.
@@ -27,7 +27,7 @@ pub struct HostDesk<Rt> {
 impl<Rt: Files + Print> HostDesk<Rt> {
     /// The desk of this runtime. No fault was counted yet.
     pub fn new(rt: Rt) -> HostDesk<Rt>
-        ensures { ⟦<HostDesk<Rt> as Desk>⟧.faults result ≡ 0 }
+        ensures { (⟦<HostDesk<Rt> as Desk>⟧.told result).faults ≡ 0 }
     {
         HostDesk { rt, faults: 0 }
     }
@@ -35,16 +35,14 @@ impl<Rt: Files + Print> HostDesk<Rt> {
 
 impl<Rt> HostDesk<Rt> {
     /// Counts an error of the system, and turns it into the answer of a desk.
-    fn settle<T>(&mut self, outcome: io::Result<T>) -> Result<T, DeskError>
+    fn settle<T>(&mut self, outcome: Result<T, SystemError>) -> Result<T, DeskError>
         ensures settled { Settles outcome result self.old.faults self.new.faults }
-        ensures failed { OnFailed result (Rose self.old.faults self.new.faults) }
-        ensures not_failed { UnlessFailed result (self.new.faults ≡ self.old.faults) }
-        ensures never_falls { self.old.faults ≤ self.new.faults }
+        ensures faults { CountsFaults (stop_of result) self.old.faults self.new.faults }
     {
         match outcome {
             Ok(value) => Ok(value),
-            Err(error) if is_want_of_memory(&error) => Err(DeskError::Memory),
-            Err(_) => {
+            Err(SystemError { error }) if is_want_of_memory(&error) => Err(DeskError::Memory),
+            Err(SystemError { error: _ }) => {
                 self.faults = self.faults.saturating_add(1);
                 Err(DeskError::Failed)
             }
@@ -60,26 +58,26 @@ fn is_want_of_memory(error: &io::Error) -> bool
 }
 
 /// Reads from place `at` of a file, and answers how many bytes it put into the front of `into`.
-fn read_file<Rt: Files>(rt: &Rt, name: &str, at: u64, into: &mut [u8]) -> io::Result<usize>
+fn read_file<Rt: Files>(rt: &Rt, name: &str, at: u64, into: &mut [u8]) -> Result<usize, SystemError>
     ensures { IfOk result (λ n. n ≤ length into.new) }
 {
-    let mut file = File::open(rt, name)?;
-    file.seek(SeekFrom::Start(at))?;
-    file.read(into)
+    let mut file = open(rt, name)?;
+    seek(&mut file, at)?;
+    read(&mut file, into)
 }
 
-/// Writes all of `piece`, by as many writes as it takes. A write that takes nothing of what is left is
-/// an error. After an error a prefix of `piece` was written, perhaps an empty one.
-fn write_whole<W: Write>(to: &mut W, piece: &[u8]) -> io::Result<()>
+/// Writes all of `piece`, by as many writes as it takes. A write that takes nothing of what is left
+/// is an error. After an error a prefix of `piece` was written, perhaps an empty one.
+fn write_whole<W: Write>(to: &mut W, piece: &[u8]) -> Result<(), SystemError>
     ensures whole { OnOk result (Appends (W.contents to.old) (W.contents to.new) piece.now) }
     ensures prefix { OnErr result
         (TakesPrefix piece.now (Appends (W.contents to.old) (W.contents to.new))) }
 {
     let mut at = 0;
     'parts: while at < piece.len() {
-        let taken = to.write(&piece[at..])?;
+        let taken = write(to, &piece[at..])?;
         if taken == 0 {
-            return Err(io::Error::from(ErrorKind::WriteZero));
+            return Err(SystemError::from(io::Error::from(ErrorKind::WriteZero)));
         }
         at += taken;
     }
@@ -87,22 +85,15 @@ fn write_whole<W: Write>(to: &mut W, piece: &[u8]) -> io::Result<()>
 }
 
 /// Adds `piece` to a file, which is made where it isn't there.
-fn append_file<Rt: Files>(rt: &Rt, name: &str, piece: &[u8]) -> io::Result<()> {
-    let mut file = OpenOptions::new().append(true).create(true).open(rt, name)?;
+fn append_file<Rt: Files>(rt: &Rt, name: &str, piece: &[u8]) -> Result<(), SystemError> {
+    let mut file = open_to_append(rt, name)?;
     write_whole(&mut file, piece)
 }
 
 impl<Rt: Files + Print> Desk for HostDesk<Rt> {
-    ghost use Rattle.std.specs.Prelude.{None};
-    ghost use Rattle.gl_desk.specs.HostDesk.{faults_counted};
+    ghost use Rattle.gl_desk.specs.HostDesk.{told_by};
 
-    ghost folder = { λ _. None };
-
-    ghost said = { λ _. None };
-
-    ghost outputs = { λ _. None };
-
-    ghost faults = { faults_counted };
+    ghost told = { told_by };
 
     fn names(&mut self, alloc: Global) -> Result<Vec<Name>, DeskError> {
         let listed = plain_names(&self.rt, alloc);

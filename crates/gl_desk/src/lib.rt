@@ -10,6 +10,7 @@ pub mod mem;
 mod mem_file;
 pub mod name;
 pub mod read;
+mod system;
 
 pub use desk::Desk;
 pub use error::{DeskError, ReadError};

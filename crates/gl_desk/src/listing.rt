@@ -6,6 +6,7 @@ ghost use Rattle.gl_desk.specs.declared.listing.TheConstants.{MOST_ENTRIES};
 ghost use Rattle.gl_desk.specs.Outcome.{IsUnnamed};
 
 use crate::name::Name;
+use crate::system::SystemError;
 use std::alloc::Global;
 use std::fs::{DirEntry, FileType};
 use std::io::ErrorKind;
@@ -14,6 +15,11 @@ use std::{fs, io};
 
 /// The most entries of a folder that is listed.
 const MOST_ENTRIES: u64 = 1_000_000;
+
+/// What a folder with more entries is answered with.
+fn too_many_entries() -> io::Error {
+    io::Error::new(ErrorKind::Other, "too many entries")
+}
 
 /// How many entries of a folder were seen, and the names that were listed of them.
 #[derive(Drop)]
@@ -39,21 +45,21 @@ impl Listing {
     /// Counts an entry, and lists its name where it has one to be listed. An error in its place is
     /// handed on. Beside want of memory the one other error is an entry after the [`MOST_ENTRIES`]
     /// that a folder may have.
-    fn add(&mut self, entry: io::Result<Option<Name>>) -> io::Result<()>
+    fn add(&mut self, entry: Result<Option<Name>, SystemError>) -> Result<(), SystemError>
         ensures handed_on { IfErr entry (λ error. result ≡ Err error) }
         ensures counted { OnOk result (self.new.entries ≡ self.old.entries + 1) }
         ensures listed { IfOk entry (λ name. OnOk result
             (self.new.names.items ≡ self.old.names.items ++ option_to_list name)) }
         ensures refused { OnOk entry (IfErr result (λ error. (self.old.entries ≡ MOST_ENTRIES)
-            ⊎ (error_kind error ≡ ErrorKind.OutOfMemory))) }
+            ⊎ (error_kind error.error ≡ ErrorKind.OutOfMemory))) }
     {
         let name = entry?;
         if self.entries == MOST_ENTRIES {
-            return Err(io::Error::new(ErrorKind::Other, "too many entries"));
+            return Err(SystemError::from(too_many_entries()));
         }
         self.entries += 1;
         if let Some(name) = name {
-            self.names.push(name)?;
+            self.names.push(name).map_err(io::Error::from)?;
         }
         Ok(())
     }
@@ -66,14 +72,23 @@ fn is_unnamed(error: &io::Error) -> bool
     error.kind() == ErrorKind::InvalidFilename && error.raw_os_error().is_none()
 }
 
+/// The kind of an entry.
+fn kind_of<Rt: Files + Drop>(entry: &DirEntry<Rt>) -> Result<FileType, SystemError> {
+    Ok(entry.file_type()?)
+}
+
 /// The name of an entry of this kind, where it is a plain file. A symbolic link is none.
-fn name_if_plain(alloc: Global, kind: io::Result<FileType>, name: &str) -> io::Result<Option<Name>>
+fn name_if_plain(
+    alloc: Global,
+    kind: Result<FileType, SystemError>,
+    name: &str,
+) -> Result<Option<Name>, SystemError>
     ensures plain { IfOk kind (λ kind. IfOk result (λ found. IsSome found ↔ IsFile kind)) }
     ensures name { IfOk result (λ found. IfSome found (λ found_name. found_name ≡ name.now)) }
     ensures handed_on { IfErr kind (λ error. result ≡ Err error) }
 {
     if kind?.is_file() {
-        Ok(Some(Name::from_text(alloc, name)?))
+        Ok(Some(Name::from_text(alloc, name).map_err(io::Error::from)?))
     } else {
         Ok(None)
     }
@@ -82,28 +97,28 @@ fn name_if_plain(alloc: Global, kind: io::Result<FileType>, name: &str) -> io::R
 /// The name under which an entry is listed, if it is.
 fn listed_name<Rt: Files + Drop>(
     alloc: Global,
-    entry: io::Result<DirEntry<Rt>>,
-) -> io::Result<Option<Name>>
+    entry: Result<DirEntry<Rt>, SystemError>,
+) -> Result<Option<Name>, SystemError>
     ensures name { IfOk entry (λ entry. IfOk result (λ found.
         IfSome found (λ name. name ≡ dir_entry_name entry))) }
-    ensures passed_over { IfErr entry (λ error. IsUnnamed error → result ≡ Ok None) }
-    ensures handed_on { IfErr entry (λ error. ¬ IsUnnamed error → result ≡ Err error) }
+    ensures passed_over { IfErr entry (λ error. IsUnnamed error.error → result ≡ Ok None) }
+    ensures handed_on { IfErr entry (λ error. ¬ IsUnnamed error.error → result ≡ Err error) }
 {
     match entry {
-        Ok(entry) => name_if_plain(alloc, entry.file_type(), entry.file_name()),
-        Err(error) if is_unnamed(&error) => Ok(None),
+        Ok(entry) => name_if_plain(alloc, kind_of(&entry), entry.file_name()),
+        Err(SystemError { error }) if is_unnamed(&error) => Ok(None),
         Err(error) => Err(error),
     }
 }
 
-/// The names of the plain files in the current folder. More than [`MOST_ENTRIES`] entries of any kind
-/// are an error.
-pub fn plain_names<Rt: Files>(rt: &Rt, alloc: Global) -> io::Result<Vec<Name>>
+/// The names of the plain files in the current folder. More than [`MOST_ENTRIES`] entries of any
+/// kind are an error.
+pub fn plain_names<Rt: Files>(rt: &Rt, alloc: Global) -> Result<Vec<Name>, SystemError>
     ensures { IfOk result (λ names. vec_len names ≤ MOST_ENTRIES) }
 {
     let mut listing = Listing::new(alloc);
     for entry in fs::read_dir(&(rt, alloc), ".")? {
-        listing.add(listed_name(alloc, entry))?;
+        listing.add(listed_name(alloc, entry.map_err(SystemError::from)))?;
     }
     Ok(listing.names)
 }

@@ -1,9 +1,8 @@
-ghost use Rattle.std.specs.Prelude.{◌≡◌, ◌≢◌, ◌≤◌, ◌/◌, ◌++◌, ℕ, List, take, length, IsTrue, IfOk, IsSome, IfSome, OnOk, OnErr, Some, []};
+ghost use Rattle.std.specs.Prelude.{◌≡◌, ◌≢◌, ◌≤◌, ◌/◌, ◌-◌, ◌++◌, ℕ, min, List, take, length, IsTrue, IfOk, IsSome, IfSome, OnOk, OnErr, Some, []};
 ghost use Rattle.std.specs.Ordering.{nat_cmp};
 ghost use Rattle.std.specs.Cmp.Lexicographic.{slice_cmp};
 ghost use Rattle.std.specs.BTreeMap.{is_at};
 ghost use Rattle.std.specs.Map.{keys_of, lookup};
-ghost use Rattle.gl_desk.specs.Answers.{OnFailed, OnMemory};
 ghost use Rattle.gl_desk.specs.Desk.{ListsNames, ReadsFrom};
 ghost use Rattle.gl_desk.specs.MemDesk.{all_differ, given_files, stored, with_piece, files_in, files_of};
 
@@ -53,6 +52,13 @@ impl MemDesk {
         ensures { result.now ≡ said_to self.now }
     {
         self.said.as_slice()
+    }
+
+    /// How many calls were made so far, failed ones included.
+    pub fn calls(&self) -> u64
+        ensures { result ≡ calls_of self.now }
+    {
+        self.calls.made()
     }
 
     /// What the file with this name holds, if there is one.
@@ -112,16 +118,10 @@ fn add(
 }
 
 impl Desk for MemDesk {
-    ghost use Rattle.std.specs.Prelude.{Some};
-    ghost use Rattle.gl_desk.specs.MemDesk.{files_of, outputs_of, said_to, faults_of, CountsCall, FailsWhenDue, AppendsUnder, IsSameUnder};
+    ghost use Rattle.std.specs.Prelude.{Err};
+    ghost use Rattle.gl_desk.specs.MemDesk.{files_of, outputs_of, said_to, told_by, CountsCall, FailsWhenDue, AppendsUnder, IsSameUnder};
 
-    ghost folder = { λ desk. Some (files_of desk) };
-
-    ghost said = { λ desk. Some (said_to desk) };
-
-    ghost outputs = { λ desk. Some (outputs_of desk) };
-
-    ghost faults = { faults_of };
+    ghost told = { told_by };
 
     fn names(&mut self, alloc: Global) -> Result<Vec<Name>, DeskError>
         ensures listed { IfOk result (λ names. ListsNames (Some (files_of self.old)) names.items) }
@@ -148,6 +148,8 @@ impl Desk for MemDesk {
         ensures within { IfOk result (λ n. n ≤ length into.new) }
         ensures bytes { IfOk result (λ n.
             IfSome (files_of self.old name.now) (λ file. ReadsFrom file at into.new n)) }
+        ensures full { IfOk result (λ n. IfSome (files_of self.old name.now)
+            (λ file. n ≡ min (length file - at) (length into.new))) }
         ensures due { FailsWhenDue result self.old self.new }
         ensures counted { CountsCall self.old self.new }
         ensures same_files { files_of self.new ≡ files_of self.old }
@@ -163,9 +165,9 @@ impl Desk for MemDesk {
 
     fn append(&mut self, alloc: Global, name: &Name, piece: &[u8]) -> Result<(), DeskError>
         ensures appended { OnOk result (AppendsUnder self.old self.new name.now piece.now) }
-        ensures half { OnFailed result
-            (AppendsUnder self.old self.new name.now (take (length piece.now / 2) piece.now)) }
-        ensures nothing { OnMemory result (IsSameUnder self.old self.new name.now) }
+        ensures half { result ≡ Err DeskError.Failed
+            → AppendsUnder self.old self.new name.now (take (length piece.now / 2) piece.now) }
+        ensures nothing { result ≡ Err DeskError.Memory → IsSameUnder self.old self.new name.now }
         ensures others { (other : List ℕ) → other ≢ name.now → IsSameUnder self.old self.new other }
         ensures due { FailsWhenDue result self.old self.new }
         ensures counted { CountsCall self.old self.new }
@@ -180,9 +182,9 @@ impl Desk for MemDesk {
 
     fn say(&mut self, _alloc: Global, piece: &[u8]) -> Result<(), DeskError>
         ensures said { OnOk result (said_to self.new ≡ said_to self.old ++ piece.now) }
-        ensures half { OnFailed result
-            (said_to self.new ≡ said_to self.old ++ take (length piece.now / 2) piece.now) }
-        ensures nothing { OnMemory result (said_to self.new ≡ said_to self.old) }
+        ensures half { result ≡ Err DeskError.Failed
+            → said_to self.new ≡ said_to self.old ++ take (length piece.now / 2) piece.now }
+        ensures nothing { result ≡ Err DeskError.Memory → said_to self.new ≡ said_to self.old }
         ensures due { FailsWhenDue result self.old self.new }
         ensures counted { CountsCall self.old self.new }
         ensures same_files { files_of self.new ≡ files_of self.old }

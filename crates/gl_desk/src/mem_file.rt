@@ -1,4 +1,4 @@
-ghost use Rattle.std.specs.Prelude.{◌≡◌, ◌≤◌, ◌++◌, List, ℕ, [], take, drop, length, IfOk, OnOk, OnErr};
+ghost use Rattle.std.specs.Prelude.{◌≡◌, ◌≤◌, ◌-◌, ◌++◌, min, List, ℕ, [], take, drop, length, IfOk, OnOk, OnErr};
 ghost use Rattle.gl_desk.specs.Desk.{ReadsFrom};
 
 use std::alloc::{AllocError, Global};
@@ -57,6 +57,7 @@ impl MemFile {
 /// Puts what stands from place `at` on into the front of `into`, and answers how many bytes.
 pub fn copy_from(bytes: &[u8], at: u64, into: &mut [u8]) -> usize
     ensures within { result ≤ length into.new }
+    ensures full { result ≡ min (length bytes.now - at) (length into.new) }
     ensures read { ReadsFrom bytes.now at into.new result }
 {
     let start = at.min(bytes.len() as u64) as usize;

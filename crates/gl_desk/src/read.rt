@@ -1,6 +1,6 @@
-ghost use Rattle.std.specs.Prelude.{◌≡◌, ◌↔◌, ◌<◌, ◌≤◌, length, vec_len, IfOk, IsErrOf};
-ghost use Rattle.gl_desk.specs.Answers.{OnFault, UnlessFault, UnlessStopped};
-ghost use Rattle.gl_desk.specs.Desk.{Rose, HasFile, OnFile};
+ghost use Rattle.std.specs.Prelude.{◌≡◌, ◌≤◌, vec_len, Some, Err, IfOk};
+ghost use Rattle.gl_desk.specs.Answers.{OnlyReads, reading_stop};
+ghost use Rattle.gl_desk.specs.Desk.{HasFile, IsSeenIn, IsLongerThan};
 
 use crate::desk::Desk;
 use crate::error::ReadError;
@@ -27,19 +27,13 @@ pub fn read_all<D: Desk>(
     name: &Name,
     limit: u64,
 ) -> Result<Vec<u8>, ReadError>
-    requires { HasFile (D.folder desk.old) name.now }
+    requires { HasFile (D.told desk.old).folder name.now }
     ensures bytes { IfOk result (λ bytes.
-        OnFile (D.folder desk.old) name.now (λ file. bytes.items ≡ file)) }
+        IsSeenIn (D.told desk.old).folder name.now (Some bytes.items)) }
     ensures fits { IfOk result (λ bytes. vec_len bytes ≤ limit) }
-    ensures too_large { UnlessStopped result (OnFile (D.folder desk.old) name.now
-        (λ file. IsErrOf result ReadError.TooLarge ↔ (limit < length file))) }
-
-    ensures fault { OnFault result (Rose (D.faults desk.old) (D.faults desk.new)) }
-    ensures no_fault { UnlessFault result (D.faults desk.new ≡ D.faults desk.old) }
-    ensures never_falls { D.faults desk.old ≤ D.faults desk.new }
-    ensures same_folder { D.folder desk.new ≡ D.folder desk.old }
-    ensures same_said { D.said desk.new ≡ D.said desk.old }
-    ensures same_outputs { D.outputs desk.new ≡ D.outputs desk.old }
+    ensures too_large { result ≡ Err ReadError.TooLarge
+        → IsLongerThan limit (D.told desk.old).folder name.now }
+    ensures reads { OnlyReads (reading_stop result) (D.told desk.old) (D.told desk.new) }
 {
     let mut bytes = Vec::new(alloc);
     let mut piece = buffer(alloc, PIECE)?;

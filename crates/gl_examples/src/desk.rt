@@ -19,7 +19,7 @@ struct Run {
 
 /// Lists the names, reads from the second byte of `given` on, appends to `made`, and says something.
 fn four_calls<D: Desk>(alloc: Global, desk: &mut D, given: &Name, made: &Name) -> Run
-    requires { HasFile (D.folder desk.old) given.now }
+    requires { HasFile (D.told desk.old).folder given.now }
 {
     let mut into = [0; 8];
     Run {
@@ -66,6 +66,7 @@ fn a_desk_in_memory_fails_at_the_call_that_is_named(rt: HostRuntime) -> Result<(
             said: fails_if(number == 4, ()),
         };
         assert_eq!(rt; four_calls(alloc, &mut desk, &given, &made), expected);
+        assert_eq!(rt; desk.calls(), 4);
         assert_eq!(rt; desk.file(&made), Some(file.as_bytes()));
         assert_eq!(rt; desk.printed(), said.as_bytes());
     }

@@ -1,4 +1,4 @@
-use crate::setting::{NORTH, ORIGIN, recording, run};
+use crate::setting::{Ended, NORTH, ORIGIN, recording, run};
 use gl_app::Status;
 use std::alloc::Global;
 use std::process::Abort;
@@ -34,7 +34,11 @@ fn expect(
     status: Status,
     text: &str,
 ) -> Result<(), Fail> {
-    let (ended, said) = run(alloc, "free A.IGC", bytes, &[])?;
+    let Ended {
+        status: ended,
+        said,
+        ..
+    } = run(alloc, "free A.IGC", bytes, &[])?;
     assert_eq!(rt; ended, status, "and said {said}");
     assert_eq!(rt; said.as_str(), text);
     Ok(())
@@ -128,9 +132,10 @@ fn a_loss_of_a_thousand_metres_is_allowed_and_no_more(rt: HostRuntime) -> Result
     let too_low = [NO_DISTANCE, other, NO_DISTANCE, other];
     for (altitude, right) in [("01000", low), ("00999", too_low)] {
         let bytes = recording(rt.alloc(), &[(ORIGIN, "02000"), (NORTH, altitude)])?;
-        let (status, said) = run(rt.alloc(), "free A.IGC", bytes, &[])?;
-        assert_eq!(rt; status, Status::Done);
-        assert!(rt; right.contains(&said.as_str()), "said {said}");
+        let ended = run(rt.alloc(), "free A.IGC", bytes, &[])?;
+        assert_eq!(rt; ended.status, Status::Done);
+        let said = ended.said.as_str();
+        assert!(rt; right.contains(&said), "said {said}");
     }
     Ok(())
 }
@@ -216,9 +221,10 @@ fn words_of_no_form(rt: HostRuntime) -> Result<(), Fail> {
     ];
     for line in lines {
         let bytes = recording(rt.alloc(), &TO_AND_FRO)?;
-        let (status, said) = run(rt.alloc(), line, bytes, &[])?;
-        assert_eq!(rt; status, Status::Words, "at {line}");
-        assert_eq!(rt; said.as_str(), USAGE);
+        let ended = run(rt.alloc(), line, bytes, &[])?;
+        assert_eq!(rt; ended.status, Status::Words, "at {line}");
+        assert_eq!(rt; ended.said.as_str(), USAGE);
+        assert_eq!(rt; ended.calls, 1, "at {line}");
     }
     Ok(())
 }
@@ -232,9 +238,9 @@ fn files_that_are_missing_or_too_large(rt: HostRuntime) -> Result<(), Fail> {
     ];
     for (line, size, text) in cases {
         let bytes = vec![in rt.alloc(); b'A'; size]?;
-        let (status, said) = run(rt.alloc(), line, bytes, &[])?;
-        assert_eq!(rt; status, Status::Refused);
-        assert_eq!(rt; said.as_str(), text);
+        let ended = run(rt.alloc(), line, bytes, &[])?;
+        assert_eq!(rt; ended.status, Status::Refused);
+        assert_eq!(rt; ended.said.as_str(), text);
     }
     Ok(())
 }
@@ -244,17 +250,18 @@ fn files_that_are_missing_or_too_large(rt: HostRuntime) -> Result<(), Fail> {
 #[test]
 fn each_call_of_the_desk_fails_in_turn(rt: HostRuntime) -> Result<(), Fail> {
     let cases = [
-        (1, Status::Desk, ""),
-        (2, Status::Desk, ""),
-        (3, Status::Desk, ""),
-        (4, Status::Desk, "FREE 444779.68 m"),
-        (5, Status::Done, FOUR_DEGREES),
+        (1, 1, Status::Desk, ""),
+        (2, 2, Status::Desk, ""),
+        (3, 3, Status::Desk, ""),
+        (4, 4, Status::Desk, "FREE 444779.68 m"),
+        (5, 4, Status::Done, FOUR_DEGREES),
     ];
-    for (call, status, text) in cases {
+    for (failing, calls, status, text) in cases {
         let bytes = recording(rt.alloc(), &TO_AND_FRO)?;
-        let (ended, said) = run(rt.alloc(), "free A.IGC", bytes, &[call])?;
-        assert_eq!(rt; ended, status, "at call {call}");
-        assert_eq!(rt; said.as_str(), text, "at call {call}");
+        let ended = run(rt.alloc(), "free A.IGC", bytes, &[failing])?;
+        assert_eq!(rt; ended.status, status, "where call {failing} fails");
+        assert_eq!(rt; ended.said.as_str(), text, "where call {failing} fails");
+        assert_eq!(rt; ended.calls, calls, "where call {failing} fails");
     }
     Ok(())
 }

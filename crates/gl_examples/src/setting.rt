@@ -39,16 +39,25 @@ fn folder(alloc: Global, bytes: Vec<u8>, failing: &[u64]) -> Result<MemDesk, All
     MemDesk::new(alloc, files, Vec::from_slice(alloc, failing)?)
 }
 
-/// The status of a run of the line's words in the folder whose one file `A.IGC` has these bytes, and what it said.
-pub fn run(
-    alloc: Global,
-    line: &str,
-    bytes: Vec<u8>,
-    failing: &[u64],
-) -> Result<(Status, String), Fail> {
+/// How a run ended.
+#[derive(Drop)]
+pub struct Ended {
+    pub status: Status,
+    pub said: String,
+    /// How many calls of the desk were made.
+    pub calls: u64,
+}
+
+/// Runs the words of the line in the folder whose one file `A.IGC` has these bytes.
+pub fn run(alloc: Global, line: &str, bytes: Vec<u8>, failing: &[u64]) -> Result<Ended, Fail> {
     let mut desk = folder(alloc, bytes, failing)?;
     let words = words(alloc, line)?;
     let status = run_single(alloc, &words, &mut desk);
     let said = String::from_utf8(Vec::from_slice(alloc, desk.printed())?)?;
-    Ok((status, said))
+    let calls = desk.calls();
+    Ok(Ended {
+        status,
+        said,
+        calls,
+    })
 }

@@ -241,3 +241,6 @@ impl Goal for FreeGoal {
         first + second + third + fourth
     }
 }
+
+#[cfg(test)]
+mod tests;

@@ -3,16 +3,12 @@ use Rattle.std.specs.Prelude.{List, map, Option, None, Some, ℤ}
 use Rattle.gl_igc.specs.declared.fix.Fix.{Fix}
 use Rattle.gl_igc.specs.declared.recording.Recording.{Recording}
 use Rattle.gl_igc.specs.declared.recording.Declared.{Declared}
-use Rattle.gl_sphere.specs.declared.place.Grid.{Grid}
-use Rattle.gl_igc.specs.Plain.{Sighting, Reading}
+use Rattle.gl_sphere.specs.PlaceText.{place_of}
+use Rattle.gl_igc.specs.Reading.{Sighting, Reading}
 
 -- what a fix says
 abbrev pub sighting_of : Fix → Sighting
 sighting_of fix = record { second = fix.second; lat = fix.grid.lat; lon = fix.grid.lon; alt = fix.alt; enl = fix.enl }
-
--- a place as its latitude and longitude
-abbrev pub place_of : Grid → ℤ × ℤ
-place_of grid = (grid.lat, grid.lon)
 
 -- the declared places
 abbrev pub declared_of : Option Declared → Option (List (ℤ × ℤ))

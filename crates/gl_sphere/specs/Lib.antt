@@ -2,7 +2,9 @@ pub mod Components
 pub mod Distance
 pub mod Laws
 pub mod Place
+pub mod PlaceText
 pub mod Product
 pub mod Range
 pub mod Sine
 pub mod Sphere
+pub use Rattle.gl_text.specs.Digits

@@ -6,7 +6,8 @@ use Rattle.gl_sphere.specs.Sphere.{unit, pi, quarter_turn, half_turn}
 unfoldable pub radians : ℕ → ℕ
 radians n = n * pi / half_turn
 
--- term k of the sine's series at x, which is x^(2k+1) over the factorial of 2k+1, each step rounded down
+-- term k of the sine's series at x, which is x^(2k+1) over the factorial of 2k+1, each step rounded
+-- down
 unfoldable pub sine_term : ℕ → ℕ → ℕ
 sine_term x zero = x
 sine_term x (suc k) = sine_term x k * (x * x / unit) / unit / ((2 * k + 2) * (2 * k + 3))

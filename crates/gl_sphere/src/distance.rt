@@ -7,16 +7,18 @@ use crate::quotient::quotient;
 use crate::sphere::{GREATEST_DISTANCE, GREATEST_SQUARE, RADIUS};
 use crate::square_root::root;
 
-// The square of the radius in kilometres. The square of the radius in centimetres is 10^10 times it.
+/// The square of the radius in kilometres. The square of the radius in centimetres is 10^10 times
+/// it.
 const SQUARE_KILOMETRES: u64 = 6_371 * 6_371;
 
-// The third term of the arc's series is 0 for a chord that is shorter, and so is the fourth.
+/// The third term of the arc's series is 0 for a chord that is shorter, and so is the fourth.
 const THIRD_TERM_FROM: u64 = 32_000_000;
 
-// The fourth term of the arc's series is 0 for a chord that is shorter.
+/// The fourth term of the arc's series is 0 for a chord that is shorter.
 const FOURTH_TERM_FROM: u64 = 99_000_000;
 
-/// The squared length of the chord between two points, in square centimetres: the sum of the three squared differences.
+/// The squared length of the chord between two points, in square centimetres: the sum of the three
+/// squared differences.
 #[tactic(auto, unfolding(crate::specs::Distance::squared_chord))]
 pub fn sq(a: Vec3, b: Vec3) -> u64
     ensures value { result ≡ squared_chord a b }
@@ -25,7 +27,7 @@ pub fn sq(a: Vec3, b: Vec3) -> u64
     square_of_gap(a.x, b.x) + square_of_gap(a.y, b.y) + square_of_gap(a.z, b.z)
 }
 
-// The square of the difference of two components.
+/// The square of the difference of two components.
 fn square_of_gap(a: i32, b: i32) -> u64
     requires a_in_range { IsWithin RADIUS a }
     requires b_in_range { IsWithin RADIUS b }
@@ -36,7 +38,8 @@ fn square_of_gap(a: i32, b: i32) -> u64
     gap * gap
 }
 
-/// The written distance along the surface, in centimetres, of two points whose squared chord is `q`.
+/// The written distance along the surface, in centimetres, of two points whose squared chord is
+/// `q`.
 ///
 /// It never falls where the squared chord grows.
 pub fn dist(q: u64) -> u64
@@ -49,7 +52,7 @@ pub fn dist(q: u64) -> u64
     arc(root(q))
 }
 
-// The arc over a chord, by as many terms of its series as aren't 0.
+/// The arc over a chord, by as many terms of its series as aren't 0.
 fn arc(chord: u64) -> u64
     requires { chord * chord ≤ GREATEST_SQUARE }
     ensures value { result ≡ arc_over chord }
@@ -66,7 +69,7 @@ fn arc(chord: u64) -> u64
     chord + second + third + fourth_term(chord, third)
 }
 
-// The divisor is 24 times the square of the radius: 24·10^10 is 2^13·29,296,875.
+/// The divisor is 24 times the square of the radius: 24·10^10 is 2^13·29,296,875.
 fn second_term_of_short(chord: u64) -> u64
     requires { chord < THIRD_TERM_FROM }
     ensures { result ≡ second_term_of chord }
@@ -75,7 +78,7 @@ fn second_term_of_short(chord: u64) -> u64
     (cube >> 13) as u64 / (29_296_875 * SQUARE_KILOMETRES)
 }
 
-// The divisor is 24 times the square of the radius: 24·10^10 is 2,500,000,000·96.
+/// The divisor is 24 times the square of the radius: 24·10^10 is 2,500,000,000·96.
 fn second_term(chord: u64) -> u64
     requires { chord * chord ≤ GREATEST_SQUARE }
     ensures { result ≡ second_term_of chord }
@@ -84,7 +87,7 @@ fn second_term(chord: u64) -> u64
     quotient(cube, 2_500_000_000, 96 * SQUARE_KILOMETRES)
 }
 
-// The divisor is 80 times the square of the radius: 80·10^10 is 3,125,000,000·256.
+/// The divisor is 80 times the square of the radius: 80·10^10 is 3,125,000,000·256.
 fn third_term(chord: u64, second: u64) -> u64
     requires chord_in_range { chord * chord ≤ GREATEST_SQUARE }
     requires second_is { second ≡ second_term_of chord }
@@ -94,7 +97,8 @@ fn third_term(chord: u64, second: u64) -> u64
     quotient(product, 3_125_000_000, 256 * SQUARE_KILOMETRES)
 }
 
-// The divisor is 168 times the square of the radius, and 25 of it goes into the factor: 168·10^10 is 25·3,200,000,000·21.
+/// The divisor is 168 times the square of the radius, and 25 of it goes into the factor: 168·10^10
+/// is 25·3,200,000,000·21.
 fn fourth_term(chord: u64, third: u64) -> u64
     requires chord_in_range { chord * chord ≤ GREATEST_SQUARE }
     requires third_is { third ≡ third_term_of chord }

@@ -14,7 +14,8 @@ pub struct Grid {
 
 /// A point in whole centimetres from the centre of the sphere, each component within the radius.
 ///
-/// The x axis leads to latitude 0 and longitude 0, the y axis to 90 degrees east, the z axis to the north pole.
+/// The x axis leads to latitude 0 and longitude 0, the y axis to 90 degrees east, the z axis to the
+/// north pole.
 #[derive(Clone, Copy, Debug, PartialEq, Eq)]
 pub struct Vec3 {
     pub x: i32,

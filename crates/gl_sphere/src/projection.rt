@@ -22,7 +22,8 @@ pub fn vector(g: Grid) -> Vec3
     }
 }
 
-/// The direction of north at a place: a point at the radius from the centre, square to the place's own.
+/// The direction of north at a place: a point at the radius from the centre, square to the place's
+/// own.
 pub fn north(g: Grid) -> Vec3
     ensures { result ≡ written_north g }
 {
@@ -36,7 +37,8 @@ pub fn north(g: Grid) -> Vec3
     }
 }
 
-/// The direction of east at a place: a point at the radius from the centre, square to the place's own and to north.
+/// The direction of east at a place: a point at the radius from the centre, square to the place's
+/// own and to north.
 pub fn east(g: Grid) -> Vec3
     ensures { result ≡ written_east g }
 {
@@ -48,7 +50,7 @@ pub fn east(g: Grid) -> Vec3
     }
 }
 
-// The product of two sines or cosines.
+/// The product of two sines or cosines.
 fn mul(a: i64, b: i64) -> i64
     requires a_in_range { IsWithin UNIT a }
     requires b_in_range { IsWithin UNIT b }
@@ -59,8 +61,8 @@ fn mul(a: i64, b: i64) -> i64
     if (a < 0) == (b < 0) { size } else { -size }
 }
 
-// A sine, a cosine or a product of two, as a length along the radius, in centimetres, rounded half away from the centre.
-// Twice `UNIT` is 2^17·5^13·5^3.
+/// A sine, a cosine or a product of two, as a length along the radius, in centimetres, rounded half
+/// away from the centre. Twice `UNIT` is 2^17·5^13·5^3.
 fn scale(m: i64) -> i32
     requires { IsWithin UNIT m }
     ensures value { result ≡ scaled m }

@@ -24,7 +24,7 @@ pub fn wcos(n: i64) -> i64
     wsin(QUARTER_TURN as i64 - n.unsigned_abs() as i64)
 }
 
-// The sine of an angle from 0 to 180 degrees.
+/// The sine of an angle from 0 to 180 degrees.
 fn first_half(n: u64) -> u64
     requires { n ≤ HALF_TURN }
     ensures value { pos result ≡ half_turn_sine n }
@@ -37,7 +37,8 @@ fn first_half(n: u64) -> u64
     }
 }
 
-// The sine of an angle from 0 to 90 degrees: eleven terms of its series, the first of them and then two a turn.
+/// The sine of an angle from 0 to 90 degrees: eleven terms of its series, the first of them and
+/// then two a turn.
 fn first_quarter(n: u64) -> u64
     requires { n ≤ QUARTER_TURN }
     ensures value { pos result ≡ quarter_sine n }
@@ -55,7 +56,7 @@ fn first_quarter(n: u64) -> u64
     sum.min(UNIT)
 }
 
-// The term of the series after term k, where `square` is the square of the angle.
+/// The term of the series after term k, where `square` is the square of the angle.
 fn next_term(term: u64, square: u64, k: u64) -> u64
     requires term_in_range { term ≤ 2 * UNIT }
     requires square_in_range { square ≤ 3 * UNIT }

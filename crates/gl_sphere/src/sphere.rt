@@ -1,7 +1,8 @@
 /// The radius of the sphere, in centimetres.
 pub const RADIUS: u64 = 637_100_000;
 
-/// The greatest squared chord of two points whose components are within the radius: 12 times the radius squared.
+/// The greatest squared chord of two points whose components are within the radius: 12 times the
+/// radius squared.
 pub const GREATEST_SQUARE: u64 = 4_870_756_920_000_000_000;
 
 /// The written distance of two points with the greatest squared chord, in centimetres.

@@ -1,7 +1,7 @@
 ghost use Rattle.std.specs.Prelude.{◌≡◌, ◌+◌, ◌*◌, ◌^◌, ◌<◌, ◌≤◌, IfSome};
 ghost use Rattle.gl_sphere.specs.Distance.{floor_root};
 
-// Entry k is 2^15 over the square root of (k + 64.5) / 256, to the nearest whole number.
+/// Entry k is 2^15 over the square root of (k + 64.5) / 256, to the nearest whole number.
 static INVERSE_ROOTS: [u16; 192] = [
     65281, 64781, 64292, 63814, 63347, 62889, 62442, 62004, 61575, 61154, 60742, 60339, 59943,
     59555, 59175, 58801, 58435, 58075, 57722, 57376, 57035, 56700, 56372, 56049, 55731, 55419,
@@ -32,7 +32,8 @@ pub fn root(n: u64) -> u64
     }
 }
 
-// The square root, where the estimate is at most one away from it. Only speed rests on that it mostly is.
+/// The square root, where the estimate is at most one away from it. Only speed rests on that it
+/// mostly is.
 #[inline]
 pub(crate) fn root_by_guess(n: u64) -> Option<u64>
     ensures value { IfSome result (λ r. r ≡ floor_root n) }
@@ -52,8 +53,8 @@ pub(crate) fn root_by_guess(n: u64) -> Option<u64>
     }
 }
 
-// The square root or a number near it: from a table, with one step of Newton's method towards the inverse root, and one
-// towards the root. No product here reaches past 64 bits.
+/// The square root or a number near it: from a table, with one step of Newton's method towards the
+/// inverse root, and one towards the root. No product here reaches past 64 bits.
 fn estimate(n: u64) -> u64
     ensures { result < 2 ^ 32 }
 {

@@ -1,5 +1,5 @@
-// The expected values were computed by a program of exact whole numbers in another language, written from the formulas
-// alone.
+// The expected values were computed by a program of exact whole numbers in another language,
+// written from the formulas alone.
 ghost use Rattle.std.specs.Prelude.{◌≡◌};
 ghost use Rattle.gl_sphere.specs.Sphere.{half_turn, pi, quarter_turn, radius, unit};
 
@@ -9,14 +9,14 @@ use crate::{
     wcos, wsin,
 };
 
-// The origin of the places: latitude 0 and longitude 0.
+/// The origin of the places: latitude 0 and longitude 0.
 const ORIGIN: Vec3 = Vec3 {
     x: 637_100_000,
     y: 0,
     z: 0,
 };
 
-// Takes what threads may share.
+/// Takes what threads may share.
 fn share<T: Send + Sync>(_value: &T) {}
 
 #[test]
@@ -25,7 +25,7 @@ fn threads_may_share_places_and_points() {
     share(&ORIGIN);
 }
 
-// The constants are the numbers of the definitions.
+/// The constants are the numbers of the definitions.
 fn constants()
     ensures radius { RADIUS ≡ radius }
     ensures unit { UNIT ≡ unit }
@@ -202,7 +202,8 @@ fn directions(rt: HostRuntime) {
     );
 }
 
-// The guess serves for squares, numbers around them and halfway between two, as far as chords of the sphere reach.
+/// The guess serves for squares, numbers around them and halfway between two, as far as chords of
+/// the sphere reach.
 #[test]
 fn roots_by_guess(rt: HostRuntime) {
     for k in 0..2_048u64 {

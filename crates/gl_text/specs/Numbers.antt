@@ -8,7 +8,8 @@ pub record IsPlainNumber (text : List ℕ) : Type 0 where
   pub some : 0 < length text
   pub lone : slice_index text 0 ≡ 48 → length text ≡ 1
 
--- the digits of a number, with as many `0`, the byte 48, before them as make at least `count` digits
+-- the digits of a number, with as many `0`, the byte 48, before them as make at least `count`
+-- digits
 unfoldable pub padded : ℕ → ℕ → List ℕ
 padded count n = replicate (count - length (decimal n)) 48 ++ decimal n
 

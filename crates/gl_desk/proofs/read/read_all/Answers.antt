@@ -1,6 +1,7 @@
-use Rattle.std.proofs.Common.{◌≡◌, ◌+◌, ◌++◌, take, vec_len, rules, arith}
+use Rattle.std.proofs.Common.{◌≡◌, ◌+◌, ◌<◌, ◌++◌, take, vec_len, rules, arith}
 use Rattle.std.proofs.lemmas.Grind.{common_steps}
 use Rattle.gl_desk.proofs.Pieces.{first_part_grows}
+use Rattle.gl_desk.proofs.Reading.{OnlyReads-then, seen_longer}
 use Rattle.gl_desk.proofs.read.read_all.Goals as goal
 
 pub pieces-preserved : goal.pieces-preserved
@@ -11,9 +12,11 @@ pieces-preserved g c =
       room = search rules;
       fits = grind (arith, common_steps);
       so_far =
-          first_part_grows (g.D.Desk.folder c.args.desk.now) c.args.name.now _ _ _ _ _ _ more longer c.pieces.invariant.so_far (rw (c.pieces.invariant.folder, c.len.ensures) at c.in_ok-read.ensures.bytes);
-      folder = search rules;
-      said = search rules;
-      outputs = search rules;
-      faults = search rules;
+          first_part_grows (g.D.Desk.told c.args.desk.now).folder c.args.name.now _ _ _ _ _ _ more longer c.pieces.invariant.so_far (rw (c.pieces.invariant.reads.folder, c.len.ensures) at c.in_ok-read.ensures.bytes);
+      reads = OnlyReads-then _ _ _ _ c.pieces.invariant.reads c.in_ok-read.ensures.reads;
     }
+
+pub returns-then-read-limit-clause-too_large : goal.returns-then-read-limit-clause-too_large
+returns-then-read-limit-clause-too_large g c = λ _.
+    let more : c.args.limit < vec_len c.pieces.bytes + c.in_ok-read.read = omega arith in
+    seen_longer c.args.limit (g.D.Desk.told c.args.desk.now).folder c.args.name.now _ _ _ _ more c.requires c.pieces.invariant.so_far (rw (c.pieces.invariant.reads.folder, c.len.ensures) at c.in_ok-read.ensures.bytes)

@@ -10,3 +10,7 @@ unwrap-file-requires c = grind (arith, common_steps)
 pub returns-clause-bytes : goal.returns-clause-bytes
 unfolding files_in
 returns-clause-bytes c = grind (arith, common_steps)
+
+pub returns-clause-full : goal.returns-clause-full
+unfolding files_in
+returns-clause-full c = grind (arith, common_steps)

@@ -1,0 +1,26 @@
+-- An answer of a run.
+use Rattle.std.specs.Prelude.{ℕ, List, []}
+use Rattle.gl_app.specs.declared.answer.Answer as code
+use Rattle.gl_app.specs.declared.status.Status.{Status}
+use Rattle.gl_app.specs.declared.status.Status.TheVariants.{Refused}
+use Rattle.gl_app.specs.declared.refusal.Refusal.{Refusal}
+use Rattle.gl_app.specs.Refusals.{refusal_line}
+
+-- the status that a run ends with, what it says, and what it appends to the file that its command
+-- writes
+pub record Answer : Type 0 where
+  pub status : Status
+  pub said : List ℕ
+  pub appended : List ℕ
+
+-- an answer that says a text and appends nothing
+abbrev pub saying : Status → List ℕ → Answer
+saying status text = record { status = status; said = text; appended = [] }
+
+-- a refused run says the refusal's one line
+abbrev pub refused : Refusal → Answer
+refused refusal = saying Refused (refusal_line refusal)
+
+-- an answer of the code, which appends nothing
+abbrev pub answer_of : code.Answer → Answer
+answer_of answer = saying answer.status answer.text.items

@@ -1,0 +1,18 @@
+-- What the parts of a line are in the code.
+use Rattle.std.specs.Prelude.{ℕ}
+use Rattle.gl_app.specs.declared.line.Place as code
+use Rattle.gl_app.specs.declared.line.Place.TheVariants as place
+use Rattle.gl_app.specs.declared.line.Parts as code_parts
+use Rattle.gl_app.specs.Refusals.{Place, Nowhere, AtLine, Parts}
+
+abbrev pub place_seen : code.Place → Place
+place_seen place.Nowhere = Nowhere
+place_seen (place.AtLine line) = AtLine line
+
+abbrev pub parts_seen : code_parts.Parts → Parts
+parts_seen parts = record {
+  kind = parts.kind.now;
+  number = parts.number;
+  place = place_seen parts.place;
+  file = parts.file.now;
+}
