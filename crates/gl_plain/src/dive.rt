@@ -44,7 +44,8 @@ fn push_some(
     candidates: &mut Vec<Candidate>,
     candidate: Option<Candidate>,
 ) -> Result<(), AllocError>
-    ensures ok { OnOk result (candidates.new.items ≡ candidates.old.items ++ option_to_list candidate) }
+    ensures ok { OnOk result
+        (candidates.new.items ≡ candidates.old.items ++ option_to_list candidate) }
 {
     if let Some(candidate) = candidate {
         candidates.push(candidate)?;

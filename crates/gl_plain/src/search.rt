@@ -1,10 +1,9 @@
-ghost use Rattle.std.specs.Prelude.{◌≡◌, ◌<◌, ◌↔◌, [], ◌∷◌, All, IfOk, IsNone, OnOk, ℕ, List, map, vec_len};
+ghost use Rattle.std.specs.Prelude.{◌≡◌, ◌<◌, ◌↔◌, [], All, IfOk, IsNone, OnOk, vec_len};
 ghost use Rattle.gl_box.specs.Cell.{spans_of};
-ghost use Rattle.gl_box.specs.Closed.{box_of};
-ghost use Rattle.gl_goal.specs.Rule.{IsLegal, IsOptimum, whole_cell};
-ghost use Rattle.gl_goal.specs.Certificate.{IsCertificate};
-ghost use Rattle.gl_plain.specs.Search.{IsNeeded, IsNoLess, IsSound, fixes_of, total_of};
+ghost use Rattle.gl_goal.specs.Rule.{HasNoLegal, IsOptimum, whole_cell};
+ghost use Rattle.gl_plain.specs.Search.{IsNeeded, IsNoLess, IsSound, total_of};
 ghost use Rattle.gl_plain.specs.Steps.{Advances, Closes, IsUnderWay};
+ghost use Rattle.gl_plain.specs.Found.{AreNeeded, IsCertified};
 
 use crate::found::{Best, Found};
 use crate::verdict::{Verdict, test};
@@ -39,7 +38,8 @@ pub(crate) fn whole<G: Goal>(goal: &G) -> Cell
 #[inline]
 fn close(cells: &mut Vec<Cell>, boxes: &mut Vec<Closed>, why: Why) -> Result<(), AllocError>
     requires { 0 < vec_len cells.old }
-    ensures { OnOk result (Closes cells.old.items cells.new.items boxes.old.items boxes.new.items why) }
+    ensures { OnOk result
+        (Closes cells.old.items cells.new.items boxes.old.items boxes.new.items why) }
 {
     if let Some(cell) = cells.pop() {
         boxes.push(Closed { cell, why })?;
@@ -61,7 +61,8 @@ fn advance<G: Goal>(
     requires needed { All (λ cell. IsNeeded (G.rule goal.now) (spans_of cell)) cells.old.items }
     requires sound { IsSound (G.rule goal.now) best.old }
     requires legs { G.are_legs goal.now legs.old }
-    ensures step { OnOk result (Advances (G.rule goal.now) (total_of best.new) cells.old.items cells.new.items boxes.old.items boxes.new.items) }
+    ensures step { OnOk result (Advances (G.rule goal.now) (total_of best.new)
+        cells.old.items cells.new.items boxes.old.items boxes.new.items) }
     ensures sound { OnOk result (IsSound (G.rule goal.now) best.new) }
     ensures legs { G.are_legs goal.now legs.new }
     ensures grows { OnOk result (IsNoLess (total_of best.old) (total_of best.new)) }
@@ -105,11 +106,11 @@ fn run<G: Goal>(
 /// and each is closed for the total by its reason. `best` is `None` exactly where no tuple is legal. No cell is cut that is
 /// disordered or shut. The only error is want of memory.
 pub fn search_one<G: Goal>(alloc: Global, goal: &G) -> Result<Found, AllocError>
-    ensures certificate { IfOk result (λ found. IsCertificate (G.rule goal.now) (total_of found.best) (fixes_of (G.rule goal.now) found.best) (map box_of found.closed.items)) }
+    ensures certificate { IfOk result (IsCertified (G.rule goal.now)) }
     ensures reached { IfOk result (λ found. IsSound (G.rule goal.now) found.best) }
     ensures optimum { IfOk result (λ found. IsOptimum (G.rule goal.now) (total_of found.best)) }
-    ensures none { IfOk result (λ found. IsNone found.best ↔ ((tuple : List ℕ) → IsLegal (G.rule goal.now) tuple → ⊥)) }
-    ensures needed { IfOk result (λ found. All (λ closed. IsNeeded (G.rule goal.now) (spans_of closed.cell)) found.closed.items) }
+    ensures none { IfOk result (λ found. IsNone found.best ↔ HasNoLegal (G.rule goal.now)) }
+    ensures needed { IfOk result (AreNeeded (G.rule goal.now)) }
 {
     let mut best = warm_start(alloc, goal)?;
     let mut cells = Vec::with_capacity(alloc, OPEN_ROOM)?;
