@@ -1,4 +1,5 @@
 pub mod Fives
+pub mod FreeExamples
 pub mod FreeHulls
 pub mod FreeLosses
 pub mod Seen

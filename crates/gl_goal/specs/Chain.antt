@@ -1,12 +1,12 @@
 -- Chains of legs: from each of some points to the next along the sphere; and how long the legs can be at most where of each
--- point no more is known than a box that it lies in.
+-- point no more is known than a box that it lies in. A fixed end of a chain is a point, whose box is that point's.
 use Rattle.std.specs.Prelude.{ℕ, ◌+◌, List, [], ◌∷◌, map, slice_get}
 use Rattle.std.specs.List.{filter_map}
 use Rattle.gl_sphere.specs.declared.place.Vec3.{Vec3}
 use Rattle.gl_sphere.specs.Distance.{squared_chord, written_distance}
 use Rattle.gl_igc.specs.declared.fix.Fix.{Fix}
 use Rattle.gl_hull.specs.Box.{Box, fixes_in, hull_of}
-use Rattle.gl_hull.specs.Chords.{greatest_chord}
+use Rattle.gl_hull.specs.Chords.{greatest_chord, least_chord}
 
 -- the distance of two points along the sphere, in centimetres
 abbrev pub distance : Vec3 → Vec3 → ℕ
@@ -21,6 +21,10 @@ legs (a ∷ b ∷ points) = distance a b + legs (b ∷ points)
 -- the greatest distance of two points, one in each box
 abbrev pub greatest_distance : Box → Box → ℕ
 greatest_distance a b = written_distance (greatest_chord a b)
+
+-- the least distance of two points, one in each box
+abbrev pub least_distance : Box → Box → ℕ
+least_distance a b = written_distance (least_chord a b)
 
 -- the greatest distances from each box to the next
 abbrev pub greatest_legs : List Box → ℕ

@@ -39,6 +39,10 @@ pub record IsLegal (rule : Rule) (tuple : List ℕ) : Type 0 where
   pub in_order : IsInTimeOrder (chosen rule.axes tuple)
   pub allowed : IsTrue (rule.allows (chosen rule.axes tuple))
 
+-- no tuple is legal
+abbrev pub HasNoLegal : Rule → Type 0
+HasNoLegal rule = (tuple : List ℕ) → IsLegal rule tuple → ⊥
+
 -- what a tuple is worth
 abbrev pub value : Rule → List ℕ → ℕ
 value rule tuple = rule.worth (chosen rule.axes tuple)
@@ -50,7 +54,7 @@ pub record IsReached (rule : Rule) (total : ℕ) (tuple : List ℕ) : Type 0 whe
 
 -- The optimum: none where no tuple is legal, else what some legal tuple is worth where no legal tuple is worth more.
 abbrev pub IsOptimum : Rule → Option ℕ → Type 0
-IsOptimum rule None = (tuple : List ℕ) → IsLegal rule tuple → ⊥
+IsOptimum rule None = HasNoLegal rule
 IsOptimum rule (Some total) = ((tuple : List ℕ) × IsReached rule total tuple) × ((tuple : List ℕ) → IsLegal rule tuple → value rule tuple ≤ total)
 
 -- the whole cell has each place of each axis

@@ -11,6 +11,15 @@ pub record Box : Type 0 where
   pub z : ℤ × ℤ
   pub alt : ℤ × ℤ
 
+-- the box of a single point, at altitude 0
+abbrev pub point_box : Vec3 → Box
+point_box point = record {
+  x = (point.x, point.x);
+  y = (point.y, point.y);
+  z = (point.z, point.z);
+  alt = (pos 0, pos 0);
+}
+
 -- a value lies between two ends
 abbrev pub IsBetween : ℤ × ℤ → ℤ → Type 0
 IsBetween ends value = (ends.0 ≤ℤ value) × (value ≤ℤ ends.1)

@@ -21,14 +21,14 @@ pub struct Hull {
 }
 
 impl Hull {
-    ghost use Rattle.std.specs.Prelude.{◌≡◌, [], ◌∷◌, ◌++◌, List, pos};
+    ghost use Rattle.std.specs.Prelude.{◌≡◌, [], ◌∷◌, ◌++◌, List};
     ghost use Rattle.gl_igc.specs.declared.fix.Fix.{Fix};
-    ghost use Rattle.gl_hull.specs.Box.{IsLeastBox};
+    ghost use Rattle.gl_hull.specs.Box.{IsLeastBox, point_box};
     ghost use Rattle.gl_hull.specs.Hull.{box_of};
 
     /// The hull of a single point, at altitude 0.
     pub fn point(at: Vec3) -> Hull
-        ensures { box_of result ≡ record { x = (at.x, at.x); y = (at.y, at.y); z = (at.z, at.z); alt = (pos 0, pos 0) } }
+        ensures { box_of result ≡ point_box at }
     {
         Hull {
             lo: at,

@@ -1,4 +1,5 @@
 pub mod Candidate
+pub mod Found
 pub mod Search
 pub mod Steps
 pub mod Verdict

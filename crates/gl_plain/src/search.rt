@@ -1,16 +1,15 @@
-ghost use Rattle.std.specs.Prelude.{◌≡◌, ◌<◌, ◌↔◌, [], ◌∷◌, All, IfOk, IsNone, OnOk, ℕ, List, map, vec_len};
+ghost use Rattle.std.specs.Prelude.{◌≡◌, ◌<◌, ◌↔◌, [], All, IfOk, IsNone, OnOk, vec_len};
 ghost use Rattle.gl_box.specs.Cell.{spans_of};
-ghost use Rattle.gl_box.specs.Closed.{box_of};
-ghost use Rattle.gl_goal.specs.Rule.{IsLegal, IsOptimum, whole_cell};
-ghost use Rattle.gl_goal.specs.Certificate.{IsCertificate};
-ghost use Rattle.gl_plain.specs.Search.{IsNeeded, IsNoLess, IsSound, fixes_of, total_of};
+ghost use Rattle.gl_goal.specs.Rule.{HasNoLegal, IsOptimum, whole_cell};
+ghost use Rattle.gl_plain.specs.Search.{IsNeeded, IsNoLess, IsSound, total_of};
 ghost use Rattle.gl_plain.specs.Steps.{Advances, Closes, IsUnderWay};
+ghost use Rattle.gl_plain.specs.Found.{AreNeeded, IsCertified};
 
 use crate::found::{Best, Found};
 use crate::verdict::{Verdict, test};
 use crate::warm::warm_start;
 use gl_box::{Cell, Closed, Span, Tuple, Why, halve};
-use gl_goal::Goal;
+use gl_goal::{Goal, Leg, MOST_LEGS};
 use std::alloc::{AllocError, Global};
 
 /// Room for open cells: each cut adds one, and a cell can be cut at most 32 times on each axis.
@@ -36,9 +35,11 @@ pub(crate) fn whole<G: Goal>(goal: &G) -> Cell
 }
 
 /// Closes the last open cell. The only error is want of memory.
+#[inline]
 fn close(cells: &mut Vec<Cell>, boxes: &mut Vec<Closed>, why: Why) -> Result<(), AllocError>
     requires { 0 < vec_len cells.old }
-    ensures { OnOk result (Closes cells.old.items cells.new.items boxes.old.items boxes.new.items why) }
+    ensures { OnOk result
+        (Closes cells.old.items cells.new.items boxes.old.items boxes.new.items why) }
 {
     if let Some(cell) = cells.pop() {
         boxes.push(Closed { cell, why })?;
@@ -48,21 +49,26 @@ fn close(cells: &mut Vec<Cell>, boxes: &mut Vec<Closed>, why: Why) -> Result<(),
 
 /// One step of the search at the last open cell: it is closed, or gives way to its halves, the lower one last. The only
 /// error is want of memory.
+#[inline]
 fn advance<G: Goal>(
     goal: &G,
     best: &mut Option<Best>,
     cells: &mut Vec<Cell>,
     boxes: &mut Vec<Closed>,
+    legs: &mut [Leg; MOST_LEGS],
 ) -> Result<(), AllocError>
     requires some { 0 < vec_len cells.old }
     requires needed { All (λ cell. IsNeeded (G.rule goal.now) (spans_of cell)) cells.old.items }
     requires sound { IsSound (G.rule goal.now) best.old }
-    ensures step { OnOk result (Advances (G.rule goal.now) (total_of best.new) cells.old.items cells.new.items boxes.old.items boxes.new.items) }
+    requires legs { G.are_legs goal.now legs.old }
+    ensures step { OnOk result (Advances (G.rule goal.now) (total_of best.new)
+        cells.old.items cells.new.items boxes.old.items boxes.new.items) }
     ensures sound { OnOk result (IsSound (G.rule goal.now) best.new) }
+    ensures legs { G.are_legs goal.now legs.new }
     ensures grows { OnOk result (IsNoLess (total_of best.old) (total_of best.new)) }
 {
     let top = cells.len() - 1;
-    match test(goal, &cells[top], best) {
+    match test(goal, &cells[top], best, legs) {
         Verdict::Closed(why) => close(cells, boxes, why)?,
         Verdict::Open(bound) => match halve(&mut cells[top]) {
             Some(lower) => cells.push(lower)?,
@@ -84,12 +90,14 @@ fn run<G: Goal>(
     best: &mut Option<Best>,
     cells: &mut Vec<Cell>,
     boxes: &mut Vec<Closed>,
+    legs: &mut [Leg; MOST_LEGS],
 ) -> Result<(), AllocError>
-    requires { IsUnderWay (G.rule goal.now) best.old cells.old.items boxes.old.items }
+    requires under_way { IsUnderWay (G.rule goal.now) best.old cells.old.items boxes.old.items }
+    requires legs { G.are_legs goal.now legs.old }
     ensures { OnOk result (IsUnderWay (G.rule goal.now) best.new [] boxes.new.items) }
 {
     while !cells.is_empty() {
-        advance(goal, best, cells, boxes)?;
+        advance(goal, best, cells, boxes, legs)?;
     }
     Ok(())
 }
@@ -98,17 +106,17 @@ fn run<G: Goal>(
 /// and each is closed for the total by its reason. `best` is `None` exactly where no tuple is legal. No cell is cut that is
 /// disordered or shut. The only error is want of memory.
 pub fn search_one<G: Goal>(alloc: Global, goal: &G) -> Result<Found, AllocError>
-    ensures certificate { IfOk result (λ found. IsCertificate (G.rule goal.now) (total_of found.best) (fixes_of (G.rule goal.now) found.best) (map box_of found.closed.items)) }
+    ensures certificate { IfOk result (IsCertified (G.rule goal.now)) }
     ensures reached { IfOk result (λ found. IsSound (G.rule goal.now) found.best) }
     ensures optimum { IfOk result (λ found. IsOptimum (G.rule goal.now) (total_of found.best)) }
-    ensures none { IfOk result (λ found. IsNone found.best ↔ ((tuple : List ℕ) → IsLegal (G.rule goal.now) tuple → ⊥)) }
-    ensures needed { IfOk result (λ found. All (λ closed. IsNeeded (G.rule goal.now) (spans_of closed.cell)) found.closed.items) }
+    ensures none { IfOk result (λ found. IsNone found.best ↔ HasNoLegal (G.rule goal.now)) }
+    ensures needed { IfOk result (AreNeeded (G.rule goal.now)) }
 {
     let mut best = warm_start(alloc, goal)?;
     let mut cells = Vec::with_capacity(alloc, OPEN_ROOM)?;
     let mut boxes = Vec::with_capacity(alloc, CLOSED_ROOM)?;
     cells.push(whole(goal))?;
-    run(goal, &mut best, &mut cells, &mut boxes)?;
+    run(goal, &mut best, &mut cells, &mut boxes, &mut goal.legs())?;
     Ok(Found {
         best,
         closed: boxes,

@@ -1,8 +1,9 @@
 -- What the boxes of a chain say of the fixes in them.
-use Rattle.std.proofs.Common.{◌≡◌, ◌∙◌, sym, ap, refl, subst, ℕ, zero, suc, ◌+◌, ◌-◌, ◌*◌, ◌<◌, ◌≤◌, List, [], ◌∷◌, length, map, drop, get_or, Some, slice_get, ℤ, ◌-ℤ◌, arith}
+use Rattle.std.proofs.Common.{◌≡◌, ◌∙◌, sym, ap, refl, subst, ℕ, zero, suc, ◌+◌, ◌-◌, ◌*◌, ◌<◌, ◌≤◌, List, [], ◌∷◌, length, map, drop, get_or, Some, slice_get, ℤ, pos, ◌-ℤ◌, arith, ◌++◌}
 use Rattle.std.specs.Prelude.{All, unsigned_abs}
 use Rattle.std.specs.List.{AllZip, cons_option}
-use Rattle.std.proofs.lemmas.Int.{ints}
+use Rattle.std.proofs.lemmas.Int.{ints, int_max_is}
+use Rattle.std.specs.Int.{int_max}
 use Rattle.std.proofs.lemmas.List.{get_or-drop, get_or-map, get_or-take, length-drop, length-map, length-take}
 use Rattle.std.proofs.lemmas.Option.{get_or_from_slice_get}
 use Rattle.gl_sphere.proofs.Arcs.{written_distance-bound, written_distance-mono}
@@ -11,14 +12,14 @@ use Rattle.gl_sphere.specs.declared.place.Vec3.{Vec3}
 use Rattle.gl_sphere.specs.Distance.{squared_chord, squared_gap, written_distance}
 use Rattle.gl_igc.specs.declared.fix.Fix.{Fix}
 use Rattle.gl_hull.proofs.Spans.{fixes_in-single}
-use Rattle.gl_hull.specs.Box.{AreEnds, Box, IsBetween, IsInside, ends_of, fixes_in, hull_of}
-use Rattle.gl_hull.specs.Chords.{greatest_chord, reach, squared}
+use Rattle.gl_hull.specs.Box.{AreEnds, Box, IsBetween, IsInside, ends_of, fixes_in, hull_of, point_box}
+use Rattle.gl_hull.specs.Chords.{gap, greatest_chord, least_chord, reach, squared}
 use Rattle.gl_hull.specs.Laws.Boxes.{hull_of-is_least}
-use Rattle.gl_hull.specs.Laws.Chords.{squared_chord-at_most}
+use Rattle.gl_hull.specs.Laws.Chords.{squared_chord-at_least, squared_chord-at_most}
 use Rattle.gl_box.specs.Cell.{Covers, Holds, point}
 use Rattle.gl_box.specs.Laws.Held.{holds_parts}
 use Rattle.gl_goal.specs.Rule.{IsTuple, chosen, whole_cell}
-use Rattle.gl_goal.specs.Chain.{distance, fixes_at, greatest_legs, hulls_of, legs, points_of}
+use Rattle.gl_goal.specs.Chain.{distance, fixes_at, greatest_legs, hulls_of, legs, points_of, least_distance}
 
 -- no legs are longer than the greatest ones from box to box
 pub legs-at_most : (boxes : List Box) (points : List Vec3) → AllZip IsInside boxes points → legs points ≤ greatest_legs boxes
@@ -159,17 +160,77 @@ hulls_of-point fixes (axis ∷ axes) (place ∷ places) all fits =
     ap (λ box. box ∷ hulls_of fixes axes (point places)) one ∙ ap (λ boxes. fix_box fix.0 ∷ boxes) rest
     ∙ sym (ap (map fix_box) (fixes_at-cons fixes (get_or axis place 0) (chosen axes places) fix.0 fix.1))
 
-reach-point : (a b : ℤ) → squared (reach (a, a) (b, b)) ≡ squared_gap a b
+-- a box is that of a single point, at any altitude
+pub record IsAt (box : Box) (at : Vec3) : Type 0 where
+  pub x : box.x ≡ (at.x, at.x)
+  pub y : box.y ≡ (at.y, at.y)
+  pub z : box.z ≡ (at.z, at.z)
+
+pub point_box-at : (at : Vec3) → IsAt (point_box at) at
+point_box-at at = record { x = refl; y = refl; z = refl }
+
+pub fix_boxes-at : (fixes : List Fix) → AllZip IsAt (map fix_box fixes) (points_of fixes)
+fix_boxes-at [] = tt
+fix_boxes-at (fix ∷ fixes) = (record { x = refl; y = refl; z = refl }, fix_boxes-at fixes)
+
+reach-at : (a b : ℤ) (one other : ℤ × ℤ) → one ≡ (a, a) → other ≡ (b, b) → squared (reach one other) ≡ squared_gap a b
 unfolding reach squared_gap
-reach-point a b = let same : reach (a, a) (b, b) ≡ unsigned_abs (a -ℤ b) = omega (arith, ints) in ap squared same
+reach-at a b one other one_is other_is =
+    let same : reach (a, a) (b, b) ≡ unsigned_abs (a -ℤ b) = omega (arith, ints) in
+    (λ i. squared (reach (one_is i) (other_is i))) ∙ ap squared same
 
-greatest_chord-point : (a b : Fix) → greatest_chord (fix_box a) (fix_box b) ≡ squared_chord a.at b.at
+greatest_chord-at : (a b : Box) (p q : Vec3) → IsAt a p → IsAt b q → greatest_chord a b ≡ squared_chord p q
 unfolding greatest_chord squared_chord
-greatest_chord-point a b = let x = reach-point a.at.x b.at.x in let y = reach-point a.at.y b.at.y in let z = reach-point a.at.z b.at.z in cc
+greatest_chord-at a b p q h k =
+    let x = reach-at p.x q.x a.x b.x h.x k.x in
+    let y = reach-at p.y q.y a.y b.y h.y k.y in
+    let z = reach-at p.z q.z a.z b.z h.z k.z in
+    cc
 
--- the greatest legs of single fixes are their legs
+-- the greatest legs of single points are their legs
+pub greatest_legs-at : (boxes : List Box) (points : List Vec3) → AllZip IsAt boxes points → greatest_legs boxes ≡ legs points
+greatest_legs-at [] [] at = refl
+greatest_legs-at [] (p ∷ ps) at = absurd at
+greatest_legs-at (b ∷ bs) [] at = absurd at
+greatest_legs-at (b ∷ []) (p ∷ []) at = refl
+greatest_legs-at (b ∷ []) (p ∷ q ∷ ps) at = absurd at.1
+greatest_legs-at (b ∷ d ∷ bs) (p ∷ []) at = absurd at.1
+greatest_legs-at (b ∷ d ∷ bs) (p ∷ q ∷ ps) at =
+    ap (λ n. written_distance n + greatest_legs (d ∷ bs)) (greatest_chord-at b d p q at.0 at.1.0) ∙ ap (λ n. distance p q + n) (greatest_legs-at (d ∷ bs) (q ∷ ps) at.1)
+
 pub greatest_legs-point : (fixes : List Fix) → greatest_legs (map fix_box fixes) ≡ legs (points_of fixes)
-greatest_legs-point [] = refl
-greatest_legs-point (a ∷ []) = refl
-greatest_legs-point (a ∷ b ∷ fixes) =
-    ap (λ q. written_distance q + greatest_legs (map fix_box (b ∷ fixes))) (greatest_chord-point a b) ∙ ap (λ n. distance a.at b.at + n) (greatest_legs-point (b ∷ fixes))
+greatest_legs-point fixes = greatest_legs-at (map fix_box fixes) (points_of fixes) (fix_boxes-at fixes)
+
+pub point_box-inside : (at : Vec3) → IsInside (point_box at) at
+point_box-inside at = record {
+  x = (omega (arith, ints), omega (arith, ints));
+  y = (omega (arith, ints), omega (arith, ints));
+  z = (omega (arith, ints), omega (arith, ints));
+}
+
+-- what holds along two chains holds along them with one link more at the end
+pub AllZip-last : {A B : Type 0} (R : A → B → Type 0) (xs : List A) (ys : List B) (x : A) (y : B) → AllZip R xs ys → R x y → AllZip R (xs ++ x ∷ []) (ys ++ y ∷ [])
+AllZip-last R [] [] x y all last = (last, tt)
+AllZip-last R [] (q ∷ ys) x y all last = absurd all
+AllZip-last R (p ∷ xs) [] x y all last = absurd all
+AllZip-last R (p ∷ xs) (q ∷ ys) x y all last = (all.0, AllZip-last R xs ys x y all.1 last)
+
+-- no distance is less than the least one of the boxes, and it is that of single points
+pub distance-at_least : (a b : Box) (p q : Vec3) → IsInside a p → IsInside b q → least_distance a b ≤ distance p q
+distance-at_least a b p q h k = written_distance-mono (least_chord a b) (squared_chord p q) (squared_chord-at_least a b p q h k)
+
+gap-at : (a b : ℤ) (one other : ℤ × ℤ) → one ≡ (a, a) → other ≡ (b, b) → squared (gap one other) ≡ squared_gap a b
+unfolding gap squared_gap
+gap-at a b one other one_is other_is =
+    let greater = int_max (b -ℤ a) (a -ℤ b) in
+    let same : gap (a, a) (b, b) ≡ unsigned_abs (a -ℤ b) = omega (arith, ints, int_max_is (b -ℤ a) (a -ℤ b), int_max_is greater (pos 0)) in
+    (λ i. squared (gap (one_is i) (other_is i))) ∙ ap squared same
+
+pub least_distance-at : (a b : Box) (p q : Vec3) → IsAt a p → IsAt b q → least_distance a b ≡ distance p q
+unfolding least_chord squared_chord
+least_distance-at a b p q h k =
+    let x = gap-at p.x q.x a.x b.x h.x k.x in
+    let y = gap-at p.y q.y a.y b.y h.y k.y in
+    let z = gap-at p.z q.z a.z b.z h.z k.z in
+    let same : least_chord a b ≡ squared_chord p q = cc in
+    ap written_distance same

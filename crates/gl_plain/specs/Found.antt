@@ -1,0 +1,16 @@
+-- What a search answers.
+use Rattle.std.specs.Prelude.{All, map}
+use Rattle.gl_box.specs.Cell.{spans_of}
+use Rattle.gl_box.specs.Closed.{box_of}
+use Rattle.gl_goal.specs.Rule.{Rule}
+use Rattle.gl_goal.specs.Certificate.{IsCertificate}
+use Rattle.gl_plain.specs.declared.found.Found.{Found}
+use Rattle.gl_plain.specs.Search.{IsNeeded, fixes_of, total_of}
+
+-- its boxes certify the total and the fixes that were found
+abbrev pub IsCertified : Rule → Found → Type 0
+IsCertified rule found = IsCertificate rule (total_of found.best) (fixes_of rule found.best) (map box_of found.closed.items)
+
+-- each box is the whole cell, or a half of a node that had to be cut
+abbrev pub AreNeeded : Rule → Found → Type 0
+AreNeeded rule found = All (λ closed. IsNeeded rule (spans_of closed.cell)) found.closed.items
