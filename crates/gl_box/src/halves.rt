@@ -6,6 +6,7 @@ use crate::cell::Cell;
 use crate::span::Span;
 
 /// The axis with the widest span, the lowest one among equally wide spans.
+#[inline]
 fn widest(cell: &Cell) -> usize
     ensures { IsWidest (spans_of cell.now) result }
 {
@@ -20,6 +21,7 @@ fn widest(cell: &Cell) -> usize
 
 /// Cuts a cell in the middle of its widest span: the cell becomes its upper half, and the lower half is handed out.
 /// `None` exactly where the cell holds a single tuple, and then it stays as it is.
+#[inline]
 pub fn halve(cell: &mut Cell) -> Option<Cell>
     ensures halves { IfSome result (λ lower. AreHalves (spans_of cell.old) (spans_of lower) (spans_of cell.new)) }
     ensures single { IsNone result ↔ IsSingle (spans_of cell.old) }

@@ -2,6 +2,7 @@ pub mod Certificate
 pub mod Chain
 pub mod Free
 pub mod FreeGoal
+pub mod FreeLegs
 pub mod Laws
 pub mod Rule
 pub use Rattle.gl_box.specs.Cell

@@ -1,16 +1,18 @@
 ghost use Rattle.std.specs.Prelude.{◌≡◌, ◌^◌, ◌≤◌, ◌<◌, ◌≤ℤ◌, ◌-ℤ◌, ◌↔◌, pos, [], ◌∷◌, length, map, IfOk, IsTrue, Some, All, slice_get};
-ghost use Rattle.gl_box.specs.Cell.{Covers, spans_of};
+ghost use Rattle.gl_box.specs.Cell.{Covers, ends, spans_of};
 ghost use Rattle.gl_box.specs.Tuple.{places_of};
 ghost use Rattle.gl_hull.specs.Hull.{box_of};
 ghost use Rattle.gl_goal.specs.Chain.{distance, greatest_distance, hulls_of};
 ghost use Rattle.gl_goal.specs.Free.{five_axes, free_goal};
 ghost use Rattle.gl_goal.specs.Rule.{IsGoal, IsInTimeOrder, IsLegal, IsTuple, chosen, whole_cell};
 ghost use Rattle.gl_goal.specs.FreeGoal.{rule_of};
+ghost use Rattle.gl_goal.specs.FreeLegs.{IsLeg, most_between};
 ghost use Rattle.gl_goal.specs.Laws.Free.{free_goal-is_goal};
 
 use crate::free::FreeGoal;
 use crate::goal::Goal;
-use gl_box::{Cell, Tuple};
+use crate::leg::{Leg, MOST_LEGS};
+use gl_box::{Cell, Span, Tuple};
 use gl_hull::{Hull, Hulls, max_sq};
 use gl_igc::Fix;
 use gl_sphere::{dist, sq};
@@ -130,6 +132,35 @@ impl FreeGoal {
     }
 }
 
+impl FreeGoal {
+    /// Measures the leg from one span to another.
+    fn measured(&self, from: Span, to: Span) -> Leg
+        requires from { from.hi < length self.now.hulls }
+        requires to { to.hi < length self.now.hulls }
+        ensures value { result.most ≡ most_between self.now.hulls (ends from) (ends to) }
+        ensures leg { IsLeg self.now result }
+    {
+        let most = leg_at_most(&self.hulls.hull(from), &self.hulls.hull(to));
+        Leg { from, to, most }
+    }
+
+    /// The greatest distance from one span to another. It is known where the leg is that, and else the leg becomes it.
+    #[inline]
+    fn most_by(&self, from: Span, to: Span, leg: &mut Leg) -> u64
+        requires from { from.hi < length self.now.hulls }
+        requires to { to.hi < length self.now.hulls }
+        requires leg { IsLeg self.now leg.old }
+        ensures value { result ≡ most_between self.now.hulls (ends from) (ends to) }
+        ensures bound { result < 2 ^ 40 }
+        ensures leg { IsLeg self.now leg.new }
+    {
+        if leg.from != from || leg.to != to {
+            *leg = self.measured(from, to);
+        }
+        leg.most
+    }
+}
+
 #[tactic(auto, unfolding(crate::specs::Free::free_goal))]
 impl Goal for FreeGoal {
     ghost rule = { rule_of };
@@ -185,6 +216,29 @@ impl Goal for FreeGoal {
     fn bound(&self, cell: &Cell) -> u64 {
         let [a, b, c, d, e] = self.hulls_of(cell);
         leg_at_most(&a, &b) + leg_at_most(&b, &c) + leg_at_most(&c, &d) + leg_at_most(&d, &e)
+    }
+
+    ghost are_legs = { λ g legs. All (IsLeg g) legs };
+
+    fn legs(&self) -> [Leg; MOST_LEGS] {
+        let first = Span::point(0);
+        let hull = self.hulls.hull(first);
+        let leg = Leg {
+            from: first,
+            to: first,
+            most: leg_at_most(&hull, &hull),
+        };
+        [leg; MOST_LEGS]
+    }
+
+    #[inline]
+    fn bound_by(&self, cell: &Cell, legs: &mut [Leg; MOST_LEGS]) -> u64 {
+        let [a, b, c, d, e, ..] = cell.spans;
+        let first = self.most_by(a, b, &mut legs[0]);
+        let second = self.most_by(b, c, &mut legs[1]);
+        let third = self.most_by(c, d, &mut legs[2]);
+        let fourth = self.most_by(d, e, &mut legs[3]);
+        first + second + third + fourth
     }
 }
 

@@ -1,8 +1,10 @@
-ghost use Rattle.std.specs.Prelude.{◌≡◌, ◌<◌, ◌^◌, ◌↔◌, IsTrue, length, slice_index, slice_index_or, []};
+ghost use Rattle.std.specs.Prelude.{◌≡◌, ◌<◌, ◌↔◌, IsTrue, List, length, slice_index_or, []};
 ghost use Rattle.gl_box.specs.Tuple.{places_of};
 ghost use Rattle.gl_box.specs.Cell.{Covers, spans_of};
+ghost use Rattle.gl_goal.specs.declared.leg.Leg.{Leg};
 ghost use Rattle.gl_goal.specs.Rule.{Rule, IsDisordered, IsGoal, IsLegal, IsTuple, fix_at, value, whole_cell};
 
+use crate::leg::{Leg, MOST_LEGS};
 use gl_box::{Cell, Tuple};
 
 /// A maximum to be found: on each axis a list of fix numbers, of which a tuple chooses one place each. A cell is a box of
@@ -10,6 +12,9 @@ use gl_box::{Cell, Tuple};
 pub trait Goal {
     /// The goal as the rules say it.
     ghost rule: { Self → Rule };
+
+    /// The legs that a search hands on from cell to cell are legs of this goal.
+    ghost are_legs: { Self → List Leg → Type 0 };
 
     /// How many axes there are, from 1 to 10.
     fn axes(&self) -> u8
@@ -50,6 +55,18 @@ pub trait Goal {
     fn bound(&self, cell: &Cell) -> u64
         requires { Covers (whole_cell (rule self.now).axes) (spans_of cell.now) }
         ensures { result ≡ (rule self.now).bound (spans_of cell.now) };
+
+    /// Legs to begin with, for `bound_by`.
+    fn legs(&self) -> [Leg; MOST_LEGS]
+        ensures { are_legs self.now result };
+
+    /// The same as `bound`, sooner where most of the legs are those of the last cell: only the others are measured. The
+    /// legs become those of this cell.
+    fn bound_by(&self, cell: &Cell, legs: &mut [Leg; MOST_LEGS]) -> u64
+        requires covers { Covers (whole_cell (rule self.now).axes) (spans_of cell.now) }
+        requires legs { are_legs self.now legs.old }
+        ensures bound { result ≡ (rule self.now).bound (spans_of cell.now) }
+        ensures legs { are_legs self.now legs.new };
 
     /// What its tests say of a cell is true of the tuples in it, and exact for a single tuple.
     ghost laws: { (goal : Self) → IsGoal (rule goal) };

@@ -4,8 +4,10 @@
 mod free;
 mod free_goal;
 mod goal;
+mod leg;
 mod numbers;
 
 pub use free::FreeGoal;
 pub use goal::Goal;
+pub use leg::{Leg, MOST_LEGS};
 pub use numbers::fix_numbers;

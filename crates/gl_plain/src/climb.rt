@@ -7,7 +7,7 @@ ghost use Rattle.gl_plain.specs.Search.{IsSound};
 use crate::dive::{Candidate, dive};
 use crate::found::Best;
 use gl_box::{Cell, Span, Tuple};
-use gl_goal::Goal;
+use gl_goal::{Goal, Leg, MOST_LEGS};
 use std::alloc::AllocError;
 
 /// How many rounds a climb makes at most.
@@ -31,42 +31,52 @@ fn around<G: Goal>(goal: &G, tuple: &Tuple, free: u32) -> Cell
     cell
 }
 
-/// Dives once into each cell round the best tuple in which so many axes are free. The only error is want of memory.
-fn round<G: Goal>(
+/// Dives into the cell round the best tuple in which the axes whose bits are set are free. The only error is want of memory.
+fn climb_over<G: Goal>(
     goal: &G,
     best: &mut Option<Best>,
-    free_axes: u32,
+    free: u32,
     candidates: &mut Vec<Candidate>,
+    legs: &mut [Leg; MOST_LEGS],
 ) -> Result<(), AllocError>
-    requires { IsSound (G.rule goal.now) best.old }
-    ensures { IsSound (G.rule goal.now) best.new }
+    requires sound { IsSound (G.rule goal.now) best.old }
+    requires legs { G.are_legs goal.now legs.old }
+    ensures sound { IsSound (G.rule goal.now) best.new }
+    ensures legs { G.are_legs goal.now legs.new }
 {
-    for free in 0..1u32 << goal.axes() {
-        if free.count_ones() == free_axes
-            && let Some(known) = best
-        {
+    match best {
+        Some(known) => {
             let cell = around(goal, &known.tuple, free);
-            dive(goal, &cell, best, candidates)?;
+            dive(goal, &cell, best, candidates, legs)
         }
+        None => Ok(()),
     }
-    Ok(())
 }
 
-/// Climbs from the best tuple as long as a round with so many free axes finds a better one. The only error is want of
-/// memory.
+/// Climbs from the best tuple over each set of so many axes in turn, until none of them finds a better one. The only error
+/// is want of memory.
 pub(crate) fn climb<G: Goal>(
     goal: &G,
     best: &mut Option<Best>,
     free_axes: u32,
     candidates: &mut Vec<Candidate>,
+    legs: &mut [Leg; MOST_LEGS],
 ) -> Result<(), AllocError>
-    requires { IsSound (G.rule goal.now) best.old }
-    ensures { IsSound (G.rule goal.now) best.new }
+    requires sound { IsSound (G.rule goal.now) best.old }
+    requires legs { G.are_legs goal.now legs.old }
+    ensures sound { IsSound (G.rule goal.now) best.new }
+    ensures legs { G.are_legs goal.now legs.new }
 {
-    for _ in 0..MOST_ROUNDS {
+    let sets = 1u32 << goal.axes();
+    let mut idle = 0u32;
+    for turn in 0..MOST_ROUNDS * sets {
+        let free = turn % sets;
         let before = *best;
-        round(goal, best, free_axes, candidates)?;
-        if *best == before {
+        if free.count_ones() == free_axes {
+            climb_over(goal, best, free, candidates, legs)?;
+        }
+        idle = if *best == before { idle + 1 } else { 0 };
+        if idle >= sets {
             return Ok(());
         }
     }

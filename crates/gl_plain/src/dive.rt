@@ -8,7 +8,7 @@ ghost use Rattle.gl_plain.specs.Candidate.{AreWithin};
 use crate::found::{Best, beats};
 use crate::verdict::{Verdict, consider, test};
 use gl_box::{Cell, split};
-use gl_goal::Goal;
+use gl_goal::{Goal, Leg, MOST_LEGS};
 use std::alloc::AllocError;
 
 /// How many cells a dive looks at at most; each look tests two cells.
@@ -22,11 +22,18 @@ pub(crate) struct Candidate {
 }
 
 /// The cell with its bound, where it may hold a better tuple than what was found.
-fn tested<G: Goal>(goal: &G, cell: &Cell, best: &Option<Best>) -> Option<Candidate>
-    requires { Covers (whole_cell (G.rule goal.now).axes) (spans_of cell.now) }
-    ensures { IfSome result (λ it. it.cell ≡ cell.now) }
+fn tested<G: Goal>(
+    goal: &G,
+    cell: &Cell,
+    best: &Option<Best>,
+    legs: &mut [Leg; MOST_LEGS],
+) -> Option<Candidate>
+    requires covers { Covers (whole_cell (G.rule goal.now).axes) (spans_of cell.now) }
+    requires legs { G.are_legs goal.now legs.old }
+    ensures cell { IfSome result (λ it. it.cell ≡ cell.now) }
+    ensures legs { G.are_legs goal.now legs.new }
 {
-    match test(goal, cell, best) {
+    match test(goal, cell, best, legs) {
         Verdict::Open(bound) => Some(Candidate { cell: *cell, bound }),
         Verdict::Closed(_) => None,
     }
@@ -61,19 +68,22 @@ fn look<G: Goal>(
     cell: &Cell,
     best: &mut Option<Best>,
     candidates: &mut Vec<Candidate>,
+    legs: &mut [Leg; MOST_LEGS],
 ) -> Result<(), AllocError>
     requires covers { Covers (whole_cell (G.rule goal.now).axes) (spans_of cell.now) }
     requires sound { IsSound (G.rule goal.now) best.old }
+    requires legs { G.are_legs goal.now legs.old }
     requires within { AreWithin (G.rule goal.now) candidates.old.items }
     ensures sound { IsSound (G.rule goal.now) best.new }
+    ensures legs { G.are_legs goal.now legs.new }
     ensures within { OnOk result (AreWithin (G.rule goal.now) candidates.new.items) }
 {
     let Some((lower, upper)) = split(cell) else {
         consider(goal, &cell.lowest(), best);
         return Ok(());
     };
-    let low = tested(goal, &lower, best);
-    let high = tested(goal, &upper, best);
+    let low = tested(goal, &lower, best, legs);
+    let high = tested(goal, &upper, best, legs);
     if is_greater(&low, &high) {
         push_some(candidates, high)?;
         push_some(candidates, low)?;
@@ -91,19 +101,22 @@ pub(crate) fn dive<G: Goal>(
     cell: &Cell,
     best: &mut Option<Best>,
     candidates: &mut Vec<Candidate>,
+    legs: &mut [Leg; MOST_LEGS],
 ) -> Result<(), AllocError>
     requires covers { Covers (whole_cell (G.rule goal.now).axes) (spans_of cell.now) }
     requires sound { IsSound (G.rule goal.now) best.old }
-    ensures { IsSound (G.rule goal.now) best.new }
+    requires legs { G.are_legs goal.now legs.old }
+    ensures sound { IsSound (G.rule goal.now) best.new }
+    ensures legs { G.are_legs goal.now legs.new }
 {
     candidates.clear();
-    push_some(candidates, tested(goal, cell, best))?;
+    push_some(candidates, tested(goal, cell, best, legs))?;
     for _ in 0..MOST_LOOKS {
         let Some(top) = candidates.pop() else {
             return Ok(());
         };
         if beats(top.bound, best) {
-            look(goal, &top.cell, best, candidates)?;
+            look(goal, &top.cell, best, candidates, legs)?;
         }
     }
     Ok(())

@@ -10,7 +10,7 @@ use crate::found::{Best, Found};
 use crate::verdict::{Verdict, test};
 use crate::warm::warm_start;
 use gl_box::{Cell, Closed, Span, Tuple, Why, halve};
-use gl_goal::Goal;
+use gl_goal::{Goal, Leg, MOST_LEGS};
 use std::alloc::{AllocError, Global};
 
 /// Room for open cells: each cut adds one, and a cell can be cut at most 32 times on each axis.
@@ -36,6 +36,7 @@ pub(crate) fn whole<G: Goal>(goal: &G) -> Cell
 }
 
 /// Closes the last open cell. The only error is want of memory.
+#[inline]
 fn close(cells: &mut Vec<Cell>, boxes: &mut Vec<Closed>, why: Why) -> Result<(), AllocError>
     requires { 0 < vec_len cells.old }
     ensures { OnOk result (Closes cells.old.items cells.new.items boxes.old.items boxes.new.items why) }
@@ -48,21 +49,25 @@ fn close(cells: &mut Vec<Cell>, boxes: &mut Vec<Closed>, why: Why) -> Result<(),
 
 /// One step of the search at the last open cell: it is closed, or gives way to its halves, the lower one last. The only
 /// error is want of memory.
+#[inline]
 fn advance<G: Goal>(
     goal: &G,
     best: &mut Option<Best>,
     cells: &mut Vec<Cell>,
     boxes: &mut Vec<Closed>,
+    legs: &mut [Leg; MOST_LEGS],
 ) -> Result<(), AllocError>
     requires some { 0 < vec_len cells.old }
     requires needed { All (λ cell. IsNeeded (G.rule goal.now) (spans_of cell)) cells.old.items }
     requires sound { IsSound (G.rule goal.now) best.old }
+    requires legs { G.are_legs goal.now legs.old }
     ensures step { OnOk result (Advances (G.rule goal.now) (total_of best.new) cells.old.items cells.new.items boxes.old.items boxes.new.items) }
     ensures sound { OnOk result (IsSound (G.rule goal.now) best.new) }
+    ensures legs { G.are_legs goal.now legs.new }
     ensures grows { OnOk result (IsNoLess (total_of best.old) (total_of best.new)) }
 {
     let top = cells.len() - 1;
-    match test(goal, &cells[top], best) {
+    match test(goal, &cells[top], best, legs) {
         Verdict::Closed(why) => close(cells, boxes, why)?,
         Verdict::Open(bound) => match halve(&mut cells[top]) {
             Some(lower) => cells.push(lower)?,
@@ -84,12 +89,14 @@ fn run<G: Goal>(
     best: &mut Option<Best>,
     cells: &mut Vec<Cell>,
     boxes: &mut Vec<Closed>,
+    legs: &mut [Leg; MOST_LEGS],
 ) -> Result<(), AllocError>
-    requires { IsUnderWay (G.rule goal.now) best.old cells.old.items boxes.old.items }
+    requires under_way { IsUnderWay (G.rule goal.now) best.old cells.old.items boxes.old.items }
+    requires legs { G.are_legs goal.now legs.old }
     ensures { OnOk result (IsUnderWay (G.rule goal.now) best.new [] boxes.new.items) }
 {
     while !cells.is_empty() {
-        advance(goal, best, cells, boxes)?;
+        advance(goal, best, cells, boxes, legs)?;
     }
     Ok(())
 }
@@ -108,7 +115,7 @@ pub fn search_one<G: Goal>(alloc: Global, goal: &G) -> Result<Found, AllocError>
     let mut cells = Vec::with_capacity(alloc, OPEN_ROOM)?;
     let mut boxes = Vec::with_capacity(alloc, CLOSED_ROOM)?;
     cells.push(whole(goal))?;
-    run(goal, &mut best, &mut cells, &mut boxes)?;
+    run(goal, &mut best, &mut cells, &mut boxes, &mut goal.legs())?;
     Ok(Found {
         best,
         closed: boxes,

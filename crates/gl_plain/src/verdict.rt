@@ -7,7 +7,7 @@ ghost use Rattle.gl_plain.specs.Verdict.{IsVerdict};
 
 use crate::found::Best;
 use gl_box::{Cell, Tuple, Why};
-use gl_goal::Goal;
+use gl_goal::{Goal, Leg, MOST_LEGS};
 
 /// What a goal's tests say of a cell.
 pub(crate) enum Verdict {
@@ -17,10 +17,18 @@ pub(crate) enum Verdict {
     Open(u64),
 }
 
-/// Tests a cell against what was found.
-pub(crate) fn test<G: Goal>(goal: &G, cell: &Cell, best: &Option<Best>) -> Verdict
-    requires { Covers (whole_cell (G.rule goal.now).axes) (spans_of cell.now) }
-    ensures { IsVerdict (G.rule goal.now) (total_of best.now) (spans_of cell.now) result }
+/// Tests a cell against what was found. `legs` are those that the last test measured.
+#[inline(always)]
+pub(crate) fn test<G: Goal>(
+    goal: &G,
+    cell: &Cell,
+    best: &Option<Best>,
+    legs: &mut [Leg; MOST_LEGS],
+) -> Verdict
+    requires covers { Covers (whole_cell (G.rule goal.now).axes) (spans_of cell.now) }
+    requires legs { G.are_legs goal.now legs.old }
+    ensures verdict { IsVerdict (G.rule goal.now) (total_of best.now) (spans_of cell.now) result }
+    ensures legs { G.are_legs goal.now legs.new }
 {
     if goal.disordered(cell) {
         return Verdict::Closed(Why::Disordered);
@@ -28,7 +36,7 @@ pub(crate) fn test<G: Goal>(goal: &G, cell: &Cell, best: &Option<Best>) -> Verdi
     if goal.shut(cell) {
         return Verdict::Closed(Why::Shut);
     }
-    let bound = goal.bound(cell);
+    let bound = goal.bound_by(cell, legs);
     if let Some(known) = best
         && bound <= known.total
     {

@@ -36,8 +36,9 @@ pub fn warm_start<G: Goal>(alloc: Global, goal: &G) -> Result<Option<Best>, Allo
 {
     let mut kept = spaced_tuples(alloc, goal)?;
     let mut candidates = Vec::with_capacity(alloc, CANDIDATE_ROOM)?;
+    let mut legs = goal.legs();
     for best in kept.iter_mut() {
-        climb(goal, best, 1, &mut candidates)?;
+        climb(goal, best, 1, &mut candidates, &mut legs)?;
     }
     let mut greatest = None;
     let mut limit = None;
@@ -47,9 +48,9 @@ pub fn warm_start<G: Goal>(alloc: Global, goal: &G) -> Result<Option<Best>, Allo
         };
         limit = Some(next.total);
         let mut best = Some(next);
-        climb(goal, &mut best, 2, &mut candidates)?;
+        climb(goal, &mut best, 2, &mut candidates, &mut legs)?;
         greatest = better(greatest, best);
     }
-    climb(goal, &mut greatest, 3, &mut candidates)?;
+    climb(goal, &mut greatest, 3, &mut candidates, &mut legs)?;
     Ok(greatest)
 }

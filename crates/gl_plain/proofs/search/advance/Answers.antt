@@ -11,8 +11,8 @@ use Rattle.gl_plain.specs.Verdict.{Promises}
 use Rattle.gl_plain.proofs.Stack.{needed_covered, same_top, set_top, single_reached, top_is}
 use Rattle.gl_plain.proofs.search.advance.Goals as goal
 
-pub test-requires : goal.test-requires
-test-requires g c =
+pub test-requires-clause-covers : goal.test-requires-clause-covers
+test-requires-clause-covers g c =
     let rule = g.G.Goal.rule c.args.goal.now in
     let below : c.len-top.result - 1 < length c.args.cells.now.items = omega (arith, c.len-top.ensures, c.requires.some, c.args.cells.now.ok.0) in
     needed_covered rule _ (subst (λ (cell : Cell). IsNeeded rule (spans_of cell)) (sym c.index.ensures) (c.requires.needed (c.len-top.result - 1) c.index.result.now below))
@@ -28,7 +28,7 @@ returns-in_ok-close-in-Closed-clause-step g c =
     inl (record {
       why = c.in-Closed.why;
       closes = closes;
-      reason = subst (λ (cell : Cell). IsClosedFor rule (total_of c.args.best.now) (spans_of cell) c.in-Closed.why) same c.in-Closed.ensures;
+      reason = subst (λ (cell : Cell). IsClosedFor rule (total_of c.args.best.now) (spans_of cell) c.in-Closed.why) same c.in-Closed.ensures.verdict;
     })
 
 pub returns-in_ok-push-in-Some-clause-step : goal.returns-in_ok-push-in-Some-clause-step
@@ -41,7 +41,7 @@ returns-in_ok-push-in-Some-clause-step g c =
     let seen = top_is items n c.index.result.now some last c.index.ensures in
     let top = top_is items n c.index_mut.result.now some last c.index_mut.ensures.value in
     let same = same_top items (take n items) (take n items) c.index.result.now c.index_mut.result.now seen top in
-    let promises : Promises rule (total_of c.args.best.now) (spans_of c.index.result.now) c.in-Open.bound = c.in-Open.ensures in
+    let promises : Promises rule (total_of c.args.best.now) (spans_of c.index.result.now) c.in-Open.bound = c.in-Open.ensures.verdict in
     inr (record {
       rest = take n items;
       cell = c.index_mut.result.now;
@@ -66,7 +66,7 @@ returns-in_ok-close-in-None-clause-step g c =
     let whole : slice_set items n c.halve.new.cell ≡ items = set_top items n c.halve.new.cell some last ∙ ap (λ (cell : Cell). take n items ++ cell ∷ []) c.in-None.ensures.same ∙ sym top in
     let closes : Closes (slice_set items n c.halve.new.cell) c.close-in-None.new.cells.items c.args.boxes.now.items c.close-in-None.new.boxes.items Bound = c.in_ok-close-in-None.ensures in
     let same = same_top items (take n items) c.close-in-None.new.cells.items c.index.result.now closes.cell seen (sym whole ∙ closes.top) in
-    let promises : Promises rule (total_of c.args.best.now) (spans_of c.index.result.now) c.in-Open.bound = c.in-Open.ensures in
+    let promises : Promises rule (total_of c.args.best.now) (spans_of c.index.result.now) c.in-Open.bound = c.in-Open.ensures.verdict in
     inl (record {
       why = Bound;
       closes = record { cell = closes.cell; top = sym whole ∙ closes.top; box = closes.box };
@@ -85,7 +85,7 @@ returns-in_ok-close-in-None-clause-sound g c =
     let top = top_is items n c.index_mut.result.now some last c.index_mut.ensures.value in
     let same = same_top items (take n items) (take n items) c.index.result.now c.index_mut.result.now seen top in
     let read : c.index-in-None.result.now ≡ c.index_mut.result.now = c.index-in-None.ensures ∙ get_or-set_same items n c.halve.new.cell c.index-in-None.result.now below ∙ c.in-None.ensures.same in
-    let promises : Promises rule (total_of c.args.best.now) (spans_of c.index.result.now) c.in-Open.bound = c.in-Open.ensures in
+    let promises : Promises rule (total_of c.args.best.now) (spans_of c.index.result.now) c.in-Open.bound = c.in-Open.ensures.verdict in
     let covers = needed_covered rule _ (subst (λ (cell : Cell). IsNeeded rule (spans_of cell)) (sym c.index_mut.ensures.value) (c.requires.needed n c.index_mut.result.now below)) in
     single_reached rule (total_of c.args.best.now) (spans_of c.index_mut.result.now) c.in-Open.bound _ (g.met.G.Goal.laws c.args.goal.now) covers (c.in-None.ensures.single.0 refl)
     (subst (λ (cell : Cell). Promises rule (total_of c.args.best.now) (spans_of cell) c.in-Open.bound) same promises)

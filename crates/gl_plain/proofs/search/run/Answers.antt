@@ -5,4 +5,7 @@ pub loop-best-smaller : goal.loop-best-smaller
 loop-best-smaller g c = work_falls _ _ _ _ _ _ c.in_ok-advance.ensures.step
 
 pub loop-best-preserved : goal.loop-best-preserved
-loop-best-preserved g c = under_way_on _ _ _ _ _ _ _ c.in_ok-advance.ensures.sound c.in_ok-advance.ensures.grows c.loop-best.invariant c.in_ok-advance.ensures.step
+loop-best-preserved g c = record {
+  under_way = under_way_on _ _ _ _ _ _ _ c.in_ok-advance.ensures.sound c.in_ok-advance.ensures.grows c.loop-best.invariant.under_way c.in_ok-advance.ensures.step;
+  legs = c.in_ok-advance.ensures.legs;
+}

@@ -3,7 +3,10 @@ use Rattle.gl_plain.proofs.Stack.{work_of}
 use Rattle.gl_plain.proofs.search.run.Given as goal
 
 abbrev pub invariant-loop-best : goal.invariant-loop-best
-invariant-loop-best g l = IsUnderWay (g.G.Goal.rule l.goal) l.best l.cells.items l.boxes.items
+invariant-loop-best g l = record {
+  under_way : IsUnderWay (g.G.Goal.rule l.goal) l.best l.cells.items l.boxes.items;
+  legs : g.G.Goal.are_legs l.goal l.legs;
+}
 
 -- the work that the open cells can still make
 abbrev pub decreases-loop-best : goal.decreases-loop-best

@@ -4,8 +4,8 @@ use Rattle.gl_goal.specs.Laws.Optimum.{certificate_optimum}
 use Rattle.gl_plain.proofs.Stack.{certificate_made, none_exactly, under_way_start}
 use Rattle.gl_plain.proofs.search.search_one.Goals as goal
 
-pub run-requires : goal.run-requires
-run-requires g c =
+pub run-requires-clause-under_way : goal.run-requires-clause-under_way
+run-requires-clause-under_way g c =
     under_way_start (g.G.Goal.rule c.args.goal.now) c.in_ok-best.best c.push.new.self.items c.in_ok-boxes.boxes.items c.whole.result c.in_ok-best.ensures c.in_ok-boxes.ensures.items
     (c.in_ok-push.ensures.items ∙ ap (λ (cells : List Cell). cells ++ c.whole.result ∷ []) c.in_ok-cells.ensures.items) c.whole.ensures
 

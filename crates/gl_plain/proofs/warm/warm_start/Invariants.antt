@@ -3,10 +3,14 @@ use Rattle.gl_plain.specs.Search.{IsSound}
 use Rattle.gl_plain.proofs.warm.warm_start.Given as goal
 
 abbrev pub invariant-loop-best : goal.invariant-loop-best
-invariant-loop-best g l = All (λ best. IsSound (g.G.Goal.rule l.goal) best) l.best-items
+invariant-loop-best g l = record {
+  kept : All (λ best. IsSound (g.G.Goal.rule l.goal) best) l.best-items;
+  legs : g.G.Goal.are_legs l.goal l.legs;
+}
 
 abbrev pub invariant-loop : goal.invariant-loop
 invariant-loop g l = record {
   kept : All (λ best. IsSound (g.G.Goal.rule l.goal) best) l.kept.items;
   greatest : IsSound (g.G.Goal.rule l.goal) l.greatest;
+  legs : g.G.Goal.are_legs l.goal l.legs;
 }
