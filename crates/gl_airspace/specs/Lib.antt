@@ -1,0 +1,2 @@
+pub mod Inside
+pub use Rattle.gl_sphere.specs.Distance

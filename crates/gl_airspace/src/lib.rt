@@ -1,0 +1,9 @@
+//! Airspace that flights may not enter: volumes read from a text in the OpenAir form, and the cut of a
+//! flight before its first fix inside one.
+#![tactic(auto)]
+
+mod containment;
+mod volume;
+
+pub use containment::{cut, inside};
+pub use volume::{Airspace, Circle, Shape, Volume, empty};
