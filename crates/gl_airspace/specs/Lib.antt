@@ -1,2 +1,3 @@
 pub mod Inside
+pub mod Line
 pub use Rattle.gl_sphere.specs.Distance

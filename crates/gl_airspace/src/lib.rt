@@ -3,6 +3,8 @@
 #![tactic(auto)]
 
 mod containment;
+mod front;
+mod place_text;
 mod volume;
 
 pub use containment::{cut, inside};
