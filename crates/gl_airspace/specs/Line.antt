@@ -1,5 +1,5 @@
 -- A line of an airspace text, as it reads.
-use Rattle.std.specs.Prelude.{ℕ, ◌+◌, ◌-◌, ◌*◌, ◌/◌, ◌^◌, nat_eq, nat_le, nat_lt, ◌==◌, ◌&&◌, ◌||◌, if◌then◌else◌, Bool, List, [], ◌∷◌, length, drop, take_while, Option, None, Some, codes, ℤ, pos, neg_ℤ}
+use Rattle.std.specs.Prelude.{ℕ, ◌+◌, ◌-◌, ◌*◌, ◌/◌, ◌^◌, nat_eq, nat_le, nat_lt, ◌==◌, ◌&&◌, ◌||◌, if◌then◌else◌, Bool, List, [], ◌∷◌, length, drop, take_while, Option, None, Some, option_map, codes, ℤ, pos, neg_ℤ}
 use Rattle.std.specs.List.{starts_with}
 use Rattle.std.specs.Char.{is_ascii_digit, to_ascii_uppercase}
 use Rattle.std.proofs.Common.{Bor}
@@ -121,3 +121,69 @@ place_of_text text = do
   lat ← latitude_at text
   lon ← longitude_at (after_space lat.1)
   if length lon.1 == 0 then Some (lat.0, lon.0) else None
+
+-- feet in whole metres
+abbrev pub metres : ℕ → ℕ
+metres feet = feet * 3_048 / 10_000
+
+-- a unit, with what may stand behind it: above sea level, which is meant anyway
+abbrev pub is_feet : List ℕ → Bool
+is_feet unit = is_text unit (codes "FT") || is_text unit (codes "FT MSL") || is_text unit (codes "FT AMSL")
+
+abbrev pub is_metres : List ℕ → Bool
+is_metres unit = is_text unit (codes "M") || is_text unit (codes "M MSL") || is_text unit (codes "M AMSL")
+
+-- the metres of a number with a unit behind it, a space before that or none; feet where there is no unit
+unfoldable pub height_in : ℕ × List ℕ → Option ℤ
+height_in number =
+    if (length number.1 == 0) || is_feet (after_space number.1) then Some (pos (metres number.0))
+    else (if is_metres (after_space number.1) then Some (pos number.0) else None)
+
+-- the metres of a flight level, which counts hundreds of feet
+unfoldable pub flight_level_in : ℕ × List ℕ → Option ℤ
+flight_level_in number =
+    if length number.1 == 0 then Some (pos (metres (number.0 * 100))) else None
+
+-- the height in metres that a text writes: the surface and what is unlimited lie beyond all altitudes
+unfoldable pub height_of : List ℕ → Option ℤ
+height_of text =
+    if is_text text (codes "SFC") || is_text text (codes "GND") then Some (neg_ℤ (pos 32_768))
+    else (if is_text text (codes "UNL") || is_text text (codes "UNLIM") then Some (pos 32_767)
+    else (if starts_with nat_eq text (codes "FL") then number_at 6 (drop 2 text) >>= flight_level_in
+    else (number_at 6 text >>= height_in)))
+
+-- the radius in centimetres that a text writes in nautical miles, at most 500 of them
+unfoldable pub radius_of : List ℕ → Option ℕ
+radius_of text = do
+  thousandths ← thousandths_at 3 text
+  if (length thousandths.1 == 0) && nat_le thousandths.0 500_000
+    then Some (thousandths.0 * 1_852 / 10)
+    else None
+
+-- what counts for nothing: an empty line, a comment, and a line of a kind that only other programs read
+abbrev pub is_passed_over : List ℕ → Bool
+is_passed_over line =
+    (length line == 0) || starts_with nat_eq line (codes "*") || starts_with nat_eq line (codes "AT")
+    || starts_with nat_eq line (codes "SP") || starts_with nat_eq line (codes "SB")
+
+-- what a squeezed line says of a shape, by the word at its front
+unfoldable pub shape_by : List ℕ → Option AirLine
+shape_by line =
+    if starts_with nat_eq line (codes "V X=") then option_map Centre (place_of_text (drop 4 line))
+    else (if starts_with nat_eq line (codes "DP ") then option_map Corner (place_of_text (drop 3 line))
+    else (if starts_with nat_eq line (codes "DC ") then option_map Circles (radius_of (drop 3 line))
+    else None))
+
+-- what a squeezed line says, by the word at its front
+unfoldable pub said_by : List ℕ → Option AirLine
+said_by line =
+    if is_passed_over line then Some PassedOver
+    else (if starts_with nat_eq line (codes "AC ") then Some Begins
+    else (if starts_with nat_eq line (codes "AN ") then Some Names
+    else (if starts_with nat_eq line (codes "AL ") then option_map Floor (height_of (drop 3 line))
+    else (if starts_with nat_eq line (codes "AH ") then option_map Ceiling (height_of (drop 3 line))
+    else shape_by line))))
+
+-- what a line of the text says, none where it doesn't read
+abbrev pub reading_of : List ℕ → Option AirLine
+reading_of line = said_by (squeezed line)

@@ -2,8 +2,10 @@
 //! flight before its first fix inside one.
 #![tactic(auto)]
 
+mod air_line;
 mod containment;
 mod front;
+mod height;
 mod place_text;
 mod volume;
 
