@@ -4,6 +4,7 @@
 
 mod air_line;
 mod containment;
+mod draft;
 mod front;
 mod height;
 mod place_text;
