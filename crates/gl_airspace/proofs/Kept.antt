@@ -1,5 +1,5 @@
 -- What a draft keeps of a volume's lines, when one more stands behind them.
-use Rattle.std.proofs.Common.{◌≡◌, ◌∙◌, refl, sym, ap, subst, ℕ, ◌+◌, length, List, [], ◌∷◌, ◌++◌, map, Option, None, Some, ℤ, arith}
+use Rattle.std.proofs.Common.{◌≡◌, ◌∙◌, refl, sym, ap, subst, ℕ, ◌+◌, length, List, [], ◌∷◌, ◌++◌, map, Option, None, Some, Bool, false, ℤ}
 use Rattle.std.specs.Prelude.{is_some, option_map}
 use Rattle.std.specs.List.{filter_map}
 use Rattle.std.specs.Option.{option_or}
@@ -81,3 +81,102 @@ circle_with centre (Some (Centre p) ∷ lines) radius none =
     circle_with (Some p) lines radius none ∙ ap (option_map (λ (place : ℤ × ℤ). (place, radius))) (sym (last_or p (filter_map centre_of lines) centre))
 circle_with centre (Some (Corner p) ∷ lines) radius none = circle_with centre lines radius none
 circle_with centre (Some (Circles r) ∷ lines) radius none = cc
+
+or_none : {X : Type 0} (o : Option X) → option_or o None ≡ o
+or_none None = refl
+or_none (Some x) = refl
+
+none_kept : {X Y : Type 0} (f : X → Y) (o : Option X) (p : Option Y) → o ≡ None → option_map f o ≡ p → p ≡ None
+none_kept f o p none same = sym same ∙ ap (option_map f) none
+
+no_radius : (made : Option Circle) (radius : Option ℕ) → is_some made ≡ is_some radius → made ≡ None → radius ≡ None
+no_radius made None same none = refl
+no_radius made (Some r) same none = cc
+
+-- what a draft says with one more line that says nothing of a volume
+pub says_other : (draft : Draft) (lines : List Reading) (line : Reading)
+    → filter_map floor_of (line ∷ []) ≡ [] → filter_map ceiling_of (line ∷ []) ≡ [] → filter_map centre_of (line ∷ []) ≡ [] → filter_map corner_of (line ∷ []) ≡ [] → filter_map radius_said (line ∷ []) ≡ [] → radius_said line ≡ None
+    → Says draft lines → Says draft (lines ++ line ∷ [])
+says_other draft lines line f c p k r none says = record {
+  floor = says.floor ∙ ap first_of (sym (without floor_of lines line f));
+  ceiling = says.ceiling ∙ ap first_of (sym (without ceiling_of lines line c));
+  centre = says.centre ∙ ap last_of (sym (without centre_of lines line p));
+  corners = says.corners ∙ sym (without corner_of lines line k);
+  has_circle = says.has_circle ∙ ap (λ (xs : List ℕ). is_some (first_of xs)) (sym (without radius_said lines line r));
+  circle = subst (IsCircle draft.circle) (sym (circle_without None lines line none)) says.circle;
+}
+
+pub says_floor : (draft : Draft) (lines : List Reading) (m : ℤ) → Says draft lines → draft.floor ≡ None → Says (record draft { floor = Some m }) (lines ++ Some (Floor m) ∷ [])
+says_floor draft lines m says none = record {
+  floor = sym (first_with floor_of lines (Some (Floor m)) m refl (sym says.floor ∙ none));
+  ceiling = says.ceiling ∙ ap first_of (sym (without ceiling_of lines (Some (Floor m)) refl));
+  centre = says.centre ∙ ap last_of (sym (without centre_of lines (Some (Floor m)) refl));
+  corners = says.corners ∙ sym (without corner_of lines (Some (Floor m)) refl);
+  has_circle = says.has_circle ∙ ap (λ (xs : List ℕ). is_some (first_of xs)) (sym (without radius_said lines (Some (Floor m)) refl));
+  circle = subst (IsCircle draft.circle) (sym (circle_without None lines (Some (Floor m)) refl)) says.circle;
+}
+
+pub says_ceiling : (draft : Draft) (lines : List Reading) (m : ℤ) → Says draft lines → draft.ceiling ≡ None → Says (record draft { ceiling = Some m }) (lines ++ Some (Ceiling m) ∷ [])
+says_ceiling draft lines m says none = record {
+  floor = says.floor ∙ ap first_of (sym (without floor_of lines (Some (Ceiling m)) refl));
+  ceiling = sym (first_with ceiling_of lines (Some (Ceiling m)) m refl (sym says.ceiling ∙ none));
+  centre = says.centre ∙ ap last_of (sym (without centre_of lines (Some (Ceiling m)) refl));
+  corners = says.corners ∙ sym (without corner_of lines (Some (Ceiling m)) refl);
+  has_circle = says.has_circle ∙ ap (λ (xs : List ℕ). is_some (first_of xs)) (sym (without radius_said lines (Some (Ceiling m)) refl));
+  circle = subst (IsCircle draft.circle) (sym (circle_without None lines (Some (Ceiling m)) refl)) says.circle;
+}
+
+pub says_centre : (draft : Draft) (lines : List Reading) (place : Grid) → Says draft lines → Says (record draft { centre = Some place }) (lines ++ Some (Centre (place_of place)) ∷ [])
+says_centre draft lines place says =
+    let line : Reading = Some (Centre (place_of place)) in
+    record {
+      floor = says.floor ∙ ap first_of (sym (without floor_of lines line refl));
+      ceiling = says.ceiling ∙ ap first_of (sym (without ceiling_of lines line refl));
+      centre = sym (last_with centre_of lines line (place_of place) refl);
+      corners = says.corners ∙ sym (without corner_of lines line refl);
+      has_circle = says.has_circle ∙ ap (λ (xs : List ℕ). is_some (first_of xs)) (sym (without radius_said lines line refl));
+      circle = subst (IsCircle draft.circle) (sym (circle_without None lines line refl)) says.circle;
+    }
+
+pub says_corner : (draft after : Draft) (lines : List Reading) (place : Grid) → Says draft lines
+    → after.floor ≡ draft.floor → after.ceiling ≡ draft.ceiling → after.centre ≡ draft.centre → after.circle ≡ draft.circle
+    → map place_of after.corners.items ≡ map place_of draft.corners.items ++ place_of place ∷ []
+    → Says after (lines ++ Some (Corner (place_of place)) ∷ [])
+says_corner draft after lines place says floor ceiling centre circle corners =
+    let line : Reading = Some (Corner (place_of place)) in
+    record {
+      floor = floor ∙ says.floor ∙ ap first_of (sym (without floor_of lines line refl));
+      ceiling = ceiling ∙ says.ceiling ∙ ap first_of (sym (without ceiling_of lines line refl));
+      centre = ap (option_map place_of) centre ∙ says.centre ∙ ap last_of (sym (without centre_of lines line refl));
+      corners = corners ∙ ap (λ (xs : List _). xs ++ place_of place ∷ []) says.corners ∙ sym (with_one corner_of lines line (place_of place) refl);
+      has_circle = ap is_some circle ∙ says.has_circle ∙ ap (λ (xs : List ℕ). is_some (first_of xs)) (sym (without radius_said lines line refl));
+      circle = subst (λ (o : Option Circle). IsCircle o (circle_in (lines ++ line ∷ []))) (sym circle) (subst (IsCircle draft.circle) (sym (circle_without None lines line refl)) says.circle);
+    }
+
+is_circle_of : (made : Circle) (lines : List Reading) (radius : ℕ) (grid : Grid) → radius_in lines ≡ None → Some (place_of grid) ≡ centre_in lines → made.centre ≡ written_vector grid → made.radius ≡ radius
+    → IsCircle (Some made) (circle_in (lines ++ Some (Circles radius) ∷ []))
+is_circle_of made lines radius grid none centre at size =
+    subst (IsCircle (Some made)) (sym (circle_with None lines radius none ∙ ap (option_map (λ (place : ℤ × ℤ). (place, radius))) (or_none (centre_in lines) ∙ sym centre)))
+    (record { grid = grid; place = refl; centre = at; radius = size })
+
+pub says_circle : (draft : Draft) (lines : List Reading) (made : Circle) (grid : Grid) → Says draft lines → draft.circle ≡ None → draft.centre ≡ Some grid → made.centre ≡ written_vector grid
+    → Says (record draft { circle = Some made }) (lines ++ Some (Circles made.radius) ∷ [])
+says_circle draft lines made grid says none centre at =
+    let line : Reading = Some (Circles made.radius) in
+    let no : radius_in lines ≡ None = no_radius draft.circle (radius_in lines) says.has_circle none in
+    record {
+      floor = says.floor ∙ ap first_of (sym (without floor_of lines line refl));
+      ceiling = says.ceiling ∙ ap first_of (sym (without ceiling_of lines line refl));
+      centre = says.centre ∙ ap last_of (sym (without centre_of lines line refl));
+      corners = says.corners ∙ sym (without corner_of lines line refl);
+      has_circle = ap is_some (sym (first_with radius_said lines line made.radius refl no));
+      circle = is_circle_of made lines made.radius grid no (sym (ap (option_map place_of) centre) ∙ says.centre) at refl;
+    }
+
+pub none_from : {X : Type 0} (o : Option X) → false ≡ is_some o → o ≡ None
+none_from None test = refl
+none_from (Some x) test = cc
+
+pub map-snoc : {X Y : Type 0} (f : X → Y) (xs : List X) (x : X) → map f (xs ++ x ∷ []) ≡ map f xs ++ f x ∷ []
+map-snoc f [] x = refl
+map-snoc f (y ∷ xs) x = ap (λ (ys : List _). f y ∷ ys) (map-snoc f xs x)

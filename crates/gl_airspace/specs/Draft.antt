@@ -5,6 +5,9 @@ use Rattle.gl_sphere.specs.Place.{written_vector}
 use Rattle.gl_sphere.specs.PlaceText.{place_of}
 use Rattle.gl_airspace.specs.declared.draft.Draft.{Draft}
 use Rattle.gl_airspace.specs.declared.volume.Circle.{Circle}
+use Rattle.gl_airspace.specs.declared.volume.Volume.{Volume}
+use Rattle.gl_airspace.specs.declared.volume.Shape.{Shape}
+use Rattle.gl_airspace.specs.declared.volume.Shape.TheVariants.{Polygon, Circle as Round}
 use Rattle.gl_airspace.specs.Volumes.{Reading, floor_in, ceiling_in, centre_in, corners_in, radius_in, circle_in}
 
 -- a circle round a place
@@ -28,3 +31,14 @@ pub record Says (draft : Draft) (lines : List Reading) : Type 0 where
   pub corners : map place_of draft.corners.items ≡ corners_in lines
   pub has_circle : is_some draft.circle ≡ is_some (radius_in lines)
   pub circle : IsCircle draft.circle (circle_in lines)
+
+-- the shape of a volume with these lines: their circle, or the polygon of their corners where they make none
+abbrev pub IsShape : List Reading → Shape → Type 0
+IsShape lines (Round made) = IsCircle (Some made) (circle_in lines)
+IsShape lines (Polygon corners) = (circle_in lines ≡ None) × (map place_of corners ≡ corners_in lines)
+
+-- the volume with these lines
+pub record IsVolume (lines : List Reading) (volume : Volume) : Type 0 where
+  pub floor : Some volume.floor ≡ floor_in lines
+  pub ceiling : Some volume.ceiling ≡ ceiling_in lines
+  pub shape : IsShape lines volume.shape
