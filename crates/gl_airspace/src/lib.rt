@@ -5,10 +5,13 @@
 mod air_line;
 mod containment;
 mod draft;
+mod error;
 mod front;
 mod height;
 mod place_text;
+mod step;
 mod volume;
 
 pub use containment::{cut, inside};
+pub use error::AirError;
 pub use volume::{Airspace, Circle, Shape, Volume, empty};
