@@ -24,11 +24,11 @@ last_of-snoc (y ∷ []) x = refl
 last_of-snoc (y ∷ z ∷ xs) x = last_of-snoc (z ∷ xs) x
 
 -- a line that says nothing of a kind changes nothing of it
-without : {X : Type 0} (of : Reading → Option X) (lines : List Reading) (line : Reading) → filter_map of (line ∷ []) ≡ [] → filter_map of (lines ++ line ∷ []) ≡ filter_map of lines
+pub without : {X : Type 0} (of : Reading → Option X) (lines : List Reading) (line : Reading) → filter_map of (line ∷ []) ≡ [] → filter_map of (lines ++ line ∷ []) ≡ filter_map of lines
 without of lines line none = filter_map-append of lines (line ∷ []) ∙ ap (λ (xs : List _). filter_map of lines ++ xs) none ∙ append-nil _
 
 -- one that says something adds it
-with_one : {X : Type 0} (of : Reading → Option X) (lines : List Reading) (line : Reading) (x : X) → filter_map of (line ∷ []) ≡ x ∷ [] → filter_map of (lines ++ line ∷ []) ≡ filter_map of lines ++ x ∷ []
+pub with_one : {X : Type 0} (of : Reading → Option X) (lines : List Reading) (line : Reading) (x : X) → filter_map of (line ∷ []) ≡ x ∷ [] → filter_map of (lines ++ line ∷ []) ≡ filter_map of lines ++ x ∷ []
 with_one of lines line x one = filter_map-append of lines (line ∷ []) ∙ ap (λ (xs : List _). filter_map of lines ++ xs) one
 
 first_with : {X : Type 0} (of : Reading → Option X) (lines : List Reading) (line : Reading) (x : X) → filter_map of (line ∷ []) ≡ x ∷ [] → first_of (filter_map of lines) ≡ None → first_of (filter_map of (lines ++ line ∷ [])) ≡ Some x

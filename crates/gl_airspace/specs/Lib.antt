@@ -4,5 +4,6 @@ pub mod Said
 pub mod Volumes
 pub mod Draft
 pub mod Parts
+pub mod Going
 pub use Rattle.gl_text.specs.Lines
 pub use Rattle.gl_sphere.specs.Distance

@@ -15,9 +15,9 @@ IsStep lines line Begins = begins line ≡ true
 IsStep lines line Fits = (begins line ≡ false) × (fits lines line ≡ true)
 IsStep lines line Misfits = (begins line ≡ false) × (fits lines line ≡ false)
 
--- a draft says a line that fits, too
+-- a draft says a line that fits, too, and stays as it was where the next volume begins
 abbrev pub SaysAfter : Draft → List Reading → Reading → code.Step → Type 0
-SaysAfter draft lines line Begins = ⊤
+SaysAfter draft lines line Begins = Says draft lines
 SaysAfter draft lines line Fits = Says draft (lines ++ line ∷ [])
 SaysAfter draft lines line Misfits = ⊤
 

@@ -8,6 +8,7 @@ mod draft;
 mod error;
 mod front;
 mod height;
+mod part;
 mod place_text;
 mod step;
 mod volume;
