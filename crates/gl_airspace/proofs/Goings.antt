@@ -5,9 +5,8 @@ use Rattle.std.specs.List.{filter_map}
 use Rattle.std.proofs.lemmas.List.{append-nil, length-map}
 use Rattle.gl_airspace.specs.declared.draft.Draft.{Draft}
 use Rattle.gl_airspace.specs.declared.part.Part.{Part}
-use Rattle.gl_airspace.specs.Volumes.{Reading, Refusal, begins, corner_of, corner_at, corners_in, fits, lower, misfit_after, parted, readings_of}
+use Rattle.gl_airspace.specs.Volumes.{Reading, begins, corner_of, corner_at, corners_in, fits, misfit_after, parted, readings_of}
 use Rattle.gl_airspace.specs.Draft.{Says}
-use Rattle.gl_airspace.specs.Parts.{number_at}
 use Rattle.gl_airspace.specs.Going.{GoesOver, IsGoing, IsSurplus, Fits, Misfits, volume_of}
 use Rattle.gl_airspace.specs.Line.{reading_of}
 use Rattle.gl_text.specs.Lines.{lines_of}
@@ -50,9 +49,9 @@ pub going_begins : (lines : List Reading) (room : ℕ) (part : Part) → Says pa
 going_begins lines room part says count none surplus =
     let Told : Option ℕ → Type 0 = λ s. IsSurplus s part.lines room [] (volume_of lines) (corner_at room (volume_of lines)) in
     let same : option_map (λ (k : ℕ). part.lines + k) (corner_at room (volume_of lines)) ≡ corner_at room (volume_of lines) =
-        ap (λ (n : ℕ). option_map (λ (k : ℕ). n + k) (corner_at room (volume_of lines))) count ∙ from_zero _ in
+    ap (λ (n : ℕ). option_map (λ (k : ℕ). n + k) (corner_at room (volume_of lines))) count ∙ from_zero _ in
     let all : option_map (λ (k : ℕ). part.lines + k) (misfit_after [] (volume_of lines)) ≡ misfit_after [] (volume_of lines) =
-        ap (λ (n : ℕ). option_map (λ (k : ℕ). n + k) (misfit_after [] (volume_of lines))) count ∙ from_zero _ in
+    ap (λ (n : ℕ). option_map (λ (k : ℕ). n + k) (misfit_after [] (volume_of lines))) count ∙ from_zero _ in
     record {
       gone = [];
       says = says;
@@ -84,18 +83,20 @@ surplus_on : (found : Option ℕ) (count room : ℕ) (gone : List Reading) (line
     → (IsSome corner → length (corners_in gone) ≢ room)
     → IsSurplus found count room gone (line ∷ rest) place → IsSurplus found (count + 1) room (gone ++ line ∷ []) rest place
 surplus_on None count room gone line rest place None is unless told =
-    let same = count_none gone line is in
-    (omega (arith, same, told.0),
-     told.1 ∙ ap (option_map (λ (k : ℕ). count + k)) (corner_none (room - length (corners_in gone)) line rest is) ∙ one_more count _
-     ∙ ap (λ (n : ℕ). option_map (λ (k : ℕ). count + 1 + k) (corner_at (room - n) rest)) (sym same))
+    let same = count_none gone line is in (
+      omega (arith, same, told.0),
+      told.1 ∙ ap (option_map (λ (k : ℕ). count + k)) (corner_none (room - length (corners_in gone)) line rest is) ∙ one_more count _
+          ∙ ap (λ (n : ℕ). option_map (λ (k : ℕ). count + 1 + k) (corner_at (room - n) rest)) (sym same),
+    )
 surplus_on None count room gone line rest place (Some at) is unless told =
     let more = count_one gone line at is in
     let differs : length (corners_in gone) ≢ room = unless refl in
     let left : room - length (corners_in gone) - 1 ≡ room - length (corners_in (gone ++ line ∷ [])) = omega (arith, more) in
-    let some : 0 < room - length (corners_in gone) = omega (arith, told.0, differs) in
-    (omega (arith, more, told.0, differs),
-     told.1 ∙ ap (option_map (λ (k : ℕ). count + k)) (corner_some (room - length (corners_in gone)) line at rest is ∙ at_more (room - length (corners_in gone)) rest some) ∙ one_more count _
-     ∙ ap (λ (n : ℕ). option_map (λ (k : ℕ). count + 1 + k) (corner_at n rest)) left)
+    let some : 0 < room - length (corners_in gone) = omega (arith, told.0, differs) in (
+      omega (arith, more, told.0, differs),
+      told.1 ∙ ap (option_map (λ (k : ℕ). count + k)) (corner_some (room - length (corners_in gone)) line at rest is ∙ at_more (room - length (corners_in gone)) rest some) ∙ one_more count _
+          ∙ ap (λ (n : ℕ). option_map (λ (k : ℕ). count + 1 + k) (corner_at n rest)) left,
+    )
 surplus_on (Some found) count room gone line rest place None is unless told =
     (omega (arith, told.0), omega (arith, told.1, count_none gone line is), told.2)
 surplus_on (Some found) count room gone line rest place (Some at) is unless told =
@@ -106,9 +107,11 @@ surplus_here : (count room : ℕ) (gone : List Reading) (line : Reading) (rest :
     → length (corners_in gone) ≡ room
     → IsSurplus None count room gone (line ∷ rest) place → IsSurplus (Some count) (count + 1) room (gone ++ line ∷ []) rest place
 surplus_here count room gone line rest place at is full told =
-    let none : room - length (corners_in gone) ≡ 0 = omega (arith, full) in
-    (omega arith, omega (arith, count_one gone line at is, full),
-     told.1 ∙ ap (λ (n : ℕ). option_map (λ (k : ℕ). count + k) (corner_at n (line ∷ rest))) none ∙ ap (option_map (λ (k : ℕ). count + k)) (corner_some 0 line at rest is) ∙ ap Some (omega arith))
+    let none : room - length (corners_in gone) ≡ 0 = omega (arith, full) in (
+      omega arith,
+      omega (arith, count_one gone line at is, full),
+      told.1 ∙ ap (λ (n : ℕ). option_map (λ (k : ℕ). count + k) (corner_at n (line ∷ rest))) none ∙ ap (option_map (λ (k : ℕ). count + k)) (corner_some 0 line at rest is) ∙ ap Some (omega arith),
+    )
 
 room_left : (full : Bool) (found : Option ℕ) (count room : ℕ) (gone : List Reading) (line : Reading) (rest : List Reading) (place : Option ℕ) (at : ℤ × ℤ) → corner_of line ≡ Some at
     → (length (corners_in gone) == room) ≡ full
@@ -155,8 +158,8 @@ going_on lines rest line room before after_count part after goes fit says corner
     let Known : Option ℕ → Type 0 = λ s. IsSurplus s (part.lines + 1) room more (volume_of rest) (corner_at room (volume_of lines)) in
     let Rest : List Reading → Type 0 = λ v. IsSurplus part.surplus part.lines room gone v (corner_at room (volume_of lines)) in
     let is_surplus : after.surplus ≡ (if (length (corners_in gone) == room) && nat_lt (length (corners_in gone)) (length (corners_in more)) then Some part.lines else part.surplus) =
-        surplus ∙ ap (λ (n : ℕ). if (n == room) && nat_lt n after_count then Some part.lines else part.surplus) (corners gone going.says)
-        ∙ ap (λ (n : ℕ). if (length (corners_in gone) == room) && nat_lt (length (corners_in gone)) n then Some part.lines else part.surplus) (corners_after more now) in
+    surplus ∙ ap (λ (n : ℕ). if (n == room) && nat_lt n after_count then Some part.lines else part.surplus) (corners gone going.says)
+    ∙ ap (λ (n : ℕ). if (length (corners_in gone) == room) && nat_lt (length (corners_in gone)) n then Some part.lines else part.surplus) (corners_after more now) in
     record {
       gone = more;
       says = now;
@@ -180,18 +183,23 @@ surplus_done : (found : Option ℕ) (count room : ℕ) (gone : List Reading) (pl
 surplus_done None count room gone place told = told.1
 surplus_done (Some at) count room gone place told = told.2
 
+few_done : (found : Option ℕ) (count room : ℕ) (gone : List Reading) (place : Option ℕ) → found ≡ None → IsSurplus found count room gone [] place → length (corners_in gone) ≤ room
+few_done None count room gone place none told = told.0
+few_done (Some at) count room gone place none told = cc
+
 -- all lines of the volume were gone over
 pub going_ends : (text : List ℕ) (lines rest : List Reading) (room : ℕ) (part : Part) (behind : List (List Reading)) → parted rest ≡ ([], behind) → readings_of (drop part.next text) ≡ rest → IsGoing lines rest room part → Fits text lines room part
 going_ends text lines rest room part behind ended left going =
-    let none : volume_of rest ≡ [] = ap (λ (p : List Reading × List (List Reading)). p.0) ended in
-    let all : volume_of lines ≡ going.gone = going.volume ∙ ap (λ (v : List Reading). going.gone ++ v) none ∙ append-nil going.gone in
+    let none_left_over : volume_of rest ≡ [] = ap (λ (p : List Reading × List (List Reading)). p.0) ended in
+    let all : volume_of lines ≡ going.gone = going.volume ∙ ap (λ (v : List Reading). going.gone ++ v) none_left_over ∙ append-nil going.gone in
     let Surplus : List Reading → Type 0 = λ v. IsSurplus part.surplus part.lines room going.gone v (corner_at room (volume_of lines)) in
     let others : (parted lines).1 ≡ behind = going.volumes ∙ ap (λ (p : List Reading × List (List Reading)). p.1) ended in
     record {
       says = subst (λ (v : List Reading). Says part.draft v) (sym all) going.says;
       count = going.count ∙ ap (λ (v : List Reading). length v) (sym all);
-      all_fit = going.misfit ∙ ap (λ (v : List Reading). option_map (λ (k : ℕ). part.lines + k) (misfit_after going.gone v)) none;
-      surplus = surplus_done part.surplus part.lines room going.gone (corner_at room (volume_of lines)) (subst Surplus none going.surplus);
+      all_fit = going.misfit ∙ ap (λ (v : List Reading). option_map (λ (k : ℕ). part.lines + k) (misfit_after going.gone v)) none_left_over;
+      surplus = surplus_done part.surplus part.lines room going.gone (corner_at room (volume_of lines)) (subst Surplus none_left_over going.surplus);
+      few = λ none. subst (λ (v : List Reading). length (corners_in v) ≤ room) (sym all) (few_done part.surplus part.lines room going.gone (corner_at room (volume_of lines)) none (subst Surplus none_left_over going.surplus));
       behind = ap parted left ∙ ended ∙ ap (λ (b : List (List Reading)). ([], b)) (sym others);
     }
 

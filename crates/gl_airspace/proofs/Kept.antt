@@ -1,5 +1,5 @@
 -- What a draft keeps of a volume's lines, when one more stands behind them.
-use Rattle.std.proofs.Common.{◌≡◌, ◌∙◌, refl, sym, ap, subst, ℕ, ◌+◌, length, List, [], ◌∷◌, ◌++◌, map, Option, None, Some, Bool, false, ℤ}
+use Rattle.std.proofs.Common.{◌≡◌, ◌∙◌, refl, sym, ap, subst, ℕ, List, [], ◌∷◌, ◌++◌, map, Option, None, Some, false, ℤ}
 use Rattle.std.specs.Prelude.{is_some, option_map}
 use Rattle.std.specs.List.{filter_map}
 use Rattle.std.specs.Option.{option_or}
@@ -10,9 +10,9 @@ use Rattle.gl_sphere.specs.PlaceText.{place_of}
 use Rattle.gl_sphere.specs.Place.{written_vector}
 use Rattle.gl_airspace.specs.declared.draft.Draft.{Draft}
 use Rattle.gl_airspace.specs.declared.volume.Circle.{Circle}
-use Rattle.gl_airspace.specs.Line.{AirLine, PassedOver, Begins, Names, Floor, Ceiling, Centre, Corner, Circles}
-use Rattle.gl_airspace.specs.Volumes.{Reading, first_of, last_of, floor_of, ceiling_of, centre_of, corner_of, radius_said, floor_in, ceiling_in, centre_in, corners_in, radius_in, circle_in, circle_after}
-use Rattle.gl_airspace.specs.Draft.{Says, IsCircle, IsRound}
+use Rattle.gl_airspace.specs.Line.{PassedOver, Begins, Names, Floor, Ceiling, Centre, Corner, Circles}
+use Rattle.gl_airspace.specs.Volumes.{Reading, first_of, last_of, floor_of, ceiling_of, centre_of, corner_of, radius_said, centre_in, radius_in, circle_in, circle_after}
+use Rattle.gl_airspace.specs.Draft.{Says, IsCircle}
 
 first_of-append : {X : Type 0} (xs ys : List X) → first_of (xs ++ ys) ≡ option_or (first_of xs) (first_of ys)
 first_of-append [] ys = refl

@@ -15,6 +15,7 @@ pub record Fits (text : List ℕ) (lines : List Reading) (room : ℕ) (part : Pa
   pub count : part.lines ≡ length (volume_of lines)
   pub all_fit : misfit_after [] (volume_of lines) ≡ None
   pub surplus : corner_at room (volume_of lines) ≡ part.surplus
+  pub few : part.surplus ≡ None → length (corners_in (volume_of lines)) ≤ room
   pub behind : parted (readings_of (drop part.next text)) ≡ ([], (parted lines).1)
 
 -- a line of a volume doesn't fit; a surplus corner is told where it stands before that line

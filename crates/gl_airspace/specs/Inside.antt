@@ -1,5 +1,5 @@
 -- What is inside a volume of airspace.
-use Rattle.std.specs.Prelude.{ℕ, ◌%◌, Bool, ◌&&◌, nat_le, ◌==◌, if◌then◌else◌, count_by, List, [], ◌∷◌, ℤ, ◌-ℤ◌, ◌*ℤ◌, int_le, int_lt, length, position, slice_index_or, unwrap_or}
+use Rattle.std.specs.Prelude.{ℕ, ◌%◌, Bool, ◌&&◌, nat_le, ◌==◌, if◌then◌else◌, count_by, List, [], ◌∷◌, ◌-ℤ◌, ◌*ℤ◌, int_le, int_lt, length, position, slice_index_or, unwrap_or}
 use Rattle.std.specs.List.{list_any}
 use Rattle.gl_sphere.specs.declared.place.Grid.{Grid}
 use Rattle.gl_sphere.specs.declared.place.Vec3.{Vec3}

@@ -70,8 +70,8 @@ unfoldable pub thousandths_at : ℕ → List ℕ → Option (ℕ × List ℕ)
 thousandths_at most text = do
   whole ← number_at most text
   if starts_with nat_eq whole.1 (codes ".")
-    then (decimals_at (drop 1 whole.1) >>= λ part. Some (whole.0 * 1000 + part.0, part.1))
-    else Some (whole.0 * 1000, whole.1)
+      then (decimals_at (drop 1 whole.1) >>= λ part. Some (whole.0 * 1000 + part.0, part.1))
+      else Some (whole.0 * 1000, whole.1)
 
 -- the size of an angle in 1/100,000 minute that degrees, minutes and perhaps seconds write, the last of which may have
 -- decimals, and what follows it; none where the minutes or the seconds are 60 or more
@@ -84,8 +84,8 @@ unfoldable pub seconds_at : ℕ → ℕ → List ℕ → Option (ℕ × List ℕ
 seconds_at degrees minutes text = do
   seconds ← thousandths_at 2 text
   if nat_lt minutes 60 && nat_lt seconds.0 60_000
-    then Some (degrees * 6_000_000 + minutes * 100_000 + seconds.0 * 5 / 3, seconds.1)
-    else None
+      then Some (degrees * 6_000_000 + minutes * 100_000 + seconds.0 * 5 / 3, seconds.1)
+      else None
 
 unfoldable pub angle_at : List ℕ → Option (ℕ × List ℕ)
 angle_at text = do
@@ -93,8 +93,8 @@ angle_at text = do
   rest ← after (codes ":") degrees.1
   minutes ← number_at 2 rest
   if starts_with nat_eq minutes.1 (codes ":")
-    then seconds_at degrees.0 minutes.0 (drop 1 minutes.1)
-    else minutes_at degrees.0 rest
+      then seconds_at degrees.0 minutes.0 (drop 1 minutes.1)
+      else minutes_at degrees.0 rest
 
 -- an angle of a size, by the letter that follows it after a space or none: plus for the first letter, minus for the
 -- second; none past the limit
@@ -102,10 +102,10 @@ unfoldable pub signed_at : ℕ → List ℕ → List ℕ → ℕ × List ℕ →
 signed_at limit plus minus angle =
     if nat_lt limit angle.0 then None
     else (if starts_with nat_eq (after_space angle.1) plus
-          then Some (pos angle.0, drop 1 (after_space angle.1))
-          else (if starts_with nat_eq (after_space angle.1) minus
-                then Some (neg_ℤ (pos angle.0), drop 1 (after_space angle.1))
-                else None))
+    then Some (pos angle.0, drop 1 (after_space angle.1))
+    else (if starts_with nat_eq (after_space angle.1) minus
+    then Some (neg_ℤ (pos angle.0), drop 1 (after_space angle.1))
+    else None))
 
 -- a latitude, and what follows it
 unfoldable pub latitude_at : List ℕ → Option (ℤ × List ℕ)
@@ -157,8 +157,8 @@ unfoldable pub radius_of : List ℕ → Option ℕ
 radius_of text = do
   thousandths ← thousandths_at 3 text
   if (length thousandths.1 == 0) && nat_le thousandths.0 500_000
-    then Some (thousandths.0 * 1_852 / 10)
-    else None
+      then Some (thousandths.0 * 1_852 / 10)
+      else None
 
 -- what counts for nothing: an empty line, a comment, and a line of a kind that only other programs read
 abbrev pub is_passed_over : List ℕ → Bool

@@ -1,11 +1,11 @@
 -- How the lines of a volume are gone over.
-use Rattle.std.specs.Prelude.{◌≡◌, ℕ, ◌+◌, Bool, true, false, List, [], ◌∷◌, ◌++◌, Option, None, Some, option_map, min, ⊤}
+use Rattle.std.specs.Prelude.{◌≡◌, ℕ, ◌+◌, true, false, List, [], ◌∷◌, ◌++◌, Option, None, Some, option_map, min, ⊤}
 use Rattle.gl_airspace.specs.declared.volume.Volume.{Volume}
 use Rattle.gl_airspace.specs.declared.step.Step as code
 use Rattle.gl_airspace.specs.declared.step.Step.TheVariants.{Begins, Fits, Misfits}
 use Rattle.gl_airspace.specs.declared.error.AirError as code_error
 use Rattle.gl_airspace.specs.declared.error.AirError.TheVariants as error
-use Rattle.gl_airspace.specs.Volumes.{Reading, Refusal, Line, TooMany, begins, fits, lower}
+use Rattle.gl_airspace.specs.Volumes.{Reading, Refusal, Line, TooMany, begins, fits}
 use Rattle.gl_airspace.specs.declared.draft.Draft.{Draft}
 use Rattle.gl_airspace.specs.Draft.{IsVolume, Says}
 

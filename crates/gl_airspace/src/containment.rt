@@ -104,7 +104,10 @@ fn is_inside(volume: &Volume, fix: &Fix) -> bool
 pub fn inside(air: &Airspace, fix: &Fix) -> Option<usize>
     ensures { result ≡ position (λ volume. is_inside volume fix.now) air.now.volumes }
 {
-    air.volumes.as_slice().iter().position(|volume| is_inside(volume, fix))
+    air.volumes
+        .as_slice()
+        .iter()
+        .position(|volume| is_inside(volume, fix))
 }
 
 /// Whether a volume holds the fix.

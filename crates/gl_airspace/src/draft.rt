@@ -80,7 +80,7 @@ impl Draft {
             → IfOk result (λ fit. fit ≡ fits lines (Some (Corner (place_of place)))) }
         ensures says { (lines : List Reading) → Says self.old lines
             → IfOk result (λ fit. IsTrue fit
-                → Says self.new (lines ++ Some (Corner (place_of place)) ∷ [])) }
+            → Says self.new (lines ++ Some (Corner (place_of place)) ∷ [])) }
     {
         if self.circle.is_some() {
             return Ok(false);

@@ -8,6 +8,7 @@ mod draft;
 mod error;
 mod front;
 mod height;
+mod openair;
 mod part;
 mod place_text;
 mod step;
@@ -15,4 +16,5 @@ mod volume;
 
 pub use containment::{cut, inside};
 pub use error::AirError;
+pub use openair::read_openair;
 pub use volume::{Airspace, Circle, Shape, Volume, empty};

@@ -1,4 +1,4 @@
-ghost use Rattle.std.specs.Prelude.{◌≡◌, ◌≤◌, ◌==◌, ◌&&◌, nat_lt, if◌then◌else◌, length, drop, IfOk, Some};
+ghost use Rattle.std.specs.Prelude.{◌≡◌, ◌+◌, ◌≤◌, ◌==◌, ◌&&◌, nat_lt, if◌then◌else◌, length, drop, IfOk, Some};
 ghost use Rattle.gl_airspace.specs.Volumes.{readings_of};
 ghost use Rattle.gl_airspace.specs.Going.{GoesOver};
 
@@ -44,7 +44,8 @@ fn surplus_after(
 /// where so many more corners may come.
 pub fn read_part(alloc: Global, text: &[u8], at: usize, room: usize) -> Result<Part, AllocError>
     requires { at ≤ length text.now }
-    ensures { IfOk result (GoesOver text.now (readings_of (drop at text.now)) room) }
+    ensures goes { IfOk result (GoesOver text.now (readings_of (drop at text.now)) room) }
+    ensures counted { IfOk result (λ part. at + part.lines ≤ part.next) }
 {
     let mut part = Part {
         draft: Draft::new(alloc),

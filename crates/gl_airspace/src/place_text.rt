@@ -8,7 +8,9 @@ use gl_sphere::{Grid, HALF_TURN, QUARTER_TURN};
 
 /// A degree, a minute and a thousandth of a minute, in 1/100,000 minute.
 const DEGREE: u64 = 6_000_000;
+
 const MINUTE: u64 = 100_000;
+
 const THOUSANDTH: u64 = 100;
 
 /// The thousandths of a minute in a degree, or of a second in a minute.

@@ -1,4 +1,4 @@
-use Rattle.std.proofs.Common.{◌≡◌, ◌∙◌, refl, sym, ap, subst, ℕ, ◌++◌, ◌∷◌, [], true, false, length, drop, List, Some, rules, arith}
+use Rattle.std.proofs.Common.{◌≡◌, ◌∙◌, refl, subst, true, drop, List, arith}
 use Rattle.std.proofs.lemmas.Grind.{common_steps}
 use Rattle.gl_airspace.specs.declared.step.Step.{Step}
 use Rattle.gl_airspace.specs.declared.step.Step.TheVariants.{Begins, Fits}
@@ -7,12 +7,12 @@ use Rattle.gl_airspace.specs.Draft.{Says}
 use Rattle.gl_airspace.specs.Line.{reading_of}
 use Rattle.gl_airspace.specs.Parts.{IsStep, SaysAfter}
 use Rattle.gl_airspace.specs.Going.{IsGoing}
-use Rattle.gl_airspace.specs.Volumes.{Reading, begins, corners_in, fits, readings_of}
+use Rattle.gl_airspace.specs.Volumes.{Reading, begins, readings_of}
 use Rattle.gl_airspace.proofs.Goings.{corners_said, going_on, over_at_next, readings_on, same_going}
 use Rattle.gl_airspace.proofs.part.read_part.Goals as goal
 
-pub returns-in-Begins : goal.returns-in-Begins
-returns-in-Begins c =
+pub returns-in-Begins-clause-goes : goal.returns-in-Begins-clause-goes
+returns-in-Begins-clause-goes c =
     let going = c.lines.invariant.going in
     let line = reading_of (Rattle.std.specs.List.slice_range c.args.text.now c.in-Some.line.from c.in-Some.line.to) in
     let after : Part = record c.lines.part { draft = c.take_step.new.draft } in
