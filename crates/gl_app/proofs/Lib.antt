@@ -1,2 +1,3 @@
 pub mod FreeTexts
 pub mod LineTexts
+pub mod NoTask

@@ -1,13 +1,15 @@
 -- The right answer of the free distance of a file.
-use Rattle.std.specs.Prelude.{◌≡◌, ℕ, ◌-◌, ◌≤◌, List, length, map, Option, None, Some, IsSome, pos, nat_lt, MatchBool}
+use Rattle.std.specs.Prelude.{◌≡◌, ℕ, ◌-◌, ◌≤◌, List, length, map, Option, None, Some, Result, Ok, Err, IsOk, pos, nat_lt, MatchBool}
 use Rattle.gl_igc.specs.declared.fix.Fix.{Fix}
-use Rattle.gl_igc.specs.Plain.{Reading, plain_recording}
+use Rattle.gl_igc.specs.Reading.{Reading, recording_of}
+use Rattle.gl_igc.specs.declared.error.IgcError.{IgcError}
+use Rattle.gl_igc.specs.declared.error.IgcError.TheVariants as igc
 use Rattle.gl_igc.specs.Recording.{sighting_of}
 use Rattle.gl_goal.specs.Rule.{Rule, IsReached, IsOptimum, chosen}
 use Rattle.gl_goal.specs.Free.{free_goal}
 use Rattle.gl_app.specs.declared.status.Status.{Status}
 use Rattle.gl_app.specs.declared.status.Status.TheVariants.{Done}
-use Rattle.gl_app.specs.declared.refusal.Refusal.TheVariants.{NotListed, TooLarge, NotPlain}
+use Rattle.gl_app.specs.declared.refusal.Refusal.TheVariants.{NotListed, TooLarge, NotIgc, NoDate, TooManyFixes, NoFix}
 use Rattle.gl_app.specs.Answer.{Answer, saying, refused}
 use Rattle.gl_app.specs.Texts.{free_text}
 
@@ -34,21 +36,27 @@ abbrev pub IsFreeOfReading : Reading → Answer → Type 0
 IsFreeOfReading reading answer =
     (said : List ℕ) × IsFreeText reading said × (answer ≡ saying Done said)
 
--- the answer for what a text reads as: refused where it isn't a plain recording
-abbrev pub IsFreeOfText : List ℕ → Option Reading → Answer → Type 0
-IsFreeOfText file None answer = answer ≡ refused (NotPlain file)
-IsFreeOfText file (Some reading) answer = IsFreeOfReading reading answer
+-- The answer for what a text reads as: a recording, or the refusal of a recording. Without a day of
+-- a task none is of another day.
+abbrev pub IsFreeOfText : List ℕ → Result Reading IgcError → Answer → Type 0
+IsFreeOfText file (Ok reading) answer = IsFreeOfReading reading answer
+IsFreeOfText file (Err igc.NotIgc) answer = answer ≡ refused (NotIgc file)
+IsFreeOfText file (Err igc.NoDate) answer = answer ≡ refused (NoDate file)
+IsFreeOfText file (Err (igc.WrongDay day)) answer = ⊥
+IsFreeOfText file (Err (igc.TooManyFixes line)) answer = answer ≡ refused (TooManyFixes file line)
+IsFreeOfText file (Err igc.NoFix) answer = answer ≡ refused (NoFix file)
+IsFreeOfText file (Err igc.Memory) answer = ⊥
 
 -- The answer for a file and what the tests saw of it: none where it isn't listed, else its bytes.
--- They are made in this order: it is listed; it isn't too large; it is a plain recording.
+-- The tests are made in this order: it is listed; it isn't too large; it is a recording.
 abbrev pub IsFree : List ℕ → Option (List ℕ) → Answer → Type 0
 IsFree file None answer = answer ≡ refused (NotListed file)
 IsFree file (Some bytes) answer =
     MatchBool (nat_lt most_bytes (length bytes))
     (answer ≡ refused (TooLarge file))
-    (IsFreeOfText file (plain_recording bytes) answer)
+    (IsFreeOfText file (recording_of bytes None) answer)
 
 -- a file that passes these tests
 abbrev pub PassesFree : Option (List ℕ) → Type 0
 PassesFree None = ⊥
-PassesFree (Some bytes) = (length bytes ≤ most_bytes) × IsSome (plain_recording bytes)
+PassesFree (Some bytes) = (length bytes ≤ most_bytes) × IsOk (recording_of bytes None)

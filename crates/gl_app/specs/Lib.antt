@@ -12,6 +12,6 @@ pub mod Listed
 pub use Rattle.gl_desk.specs.Desk
 pub use Rattle.gl_goal.specs.Free as FreeGoal
 pub use Rattle.gl_goal.specs.Rule
-pub use Rattle.gl_igc.specs.Plain
+pub use Rattle.gl_igc.specs.Reading
 pub use Rattle.gl_igc.specs.Recording
 pub use Rattle.gl_text.specs.Numbers

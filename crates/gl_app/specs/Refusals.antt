@@ -2,7 +2,7 @@
 use Rattle.std.specs.Prelude.{ℕ, List, [], ◌∷◌, ◌++◌, codes}
 use Rattle.std.specs.Fmt.{decimal}
 use Rattle.gl_app.specs.declared.refusal.Refusal.{Refusal}
-use Rattle.gl_app.specs.declared.refusal.Refusal.TheVariants.{NotListed, TooLarge, NotPlain}
+use Rattle.gl_app.specs.declared.refusal.Refusal.TheVariants.{NotListed, TooLarge, NotIgc, NoDate, TooManyFixes, NoFix}
 
 -- where in a file something is refused: nowhere in particular, at a line, or at a key of a task by
 -- its row, its item and its part
@@ -29,7 +29,11 @@ pub record Parts : Type 0 where
 abbrev pub parts_of : Refusal → Parts
 parts_of (NotListed file) = record { kind = codes "FILE"; number = 1; place = Nowhere; file = file }
 parts_of (TooLarge file) = record { kind = codes "FILE"; number = 3; place = Nowhere; file = file }
-parts_of (NotPlain file) = record { kind = codes "IGC"; number = 9; place = Nowhere; file = file }
+parts_of (NotIgc file) = record { kind = codes "IGC"; number = 1; place = Nowhere; file = file }
+parts_of (NoDate file) = record { kind = codes "IGC"; number = 2; place = Nowhere; file = file }
+parts_of (TooManyFixes file line) =
+    record { kind = codes "IGC"; number = 4; place = AtLine line; file = file }
+parts_of (NoFix file) = record { kind = codes "IGC"; number = 5; place = Nowhere; file = file }
 
 -- the line with these parts: the kind, the number, the place and the name of the file
 unfoldable pub line_with : Parts → List ℕ

@@ -1,6 +1,6 @@
-ghost use Rattle.std.specs.Prelude.{◌≡◌, Err, IfOk};
+ghost use Rattle.std.specs.Prelude.{◌≡◌, None, Err, IfOk};
 ghost use Rattle.gl_desk.specs.Answers.{OnlyReads, stop_of};
-ghost use Rattle.gl_igc.specs.Plain.{plain_recording};
+ghost use Rattle.gl_igc.specs.Reading.{recording_of};
 ghost use Rattle.gl_igc.specs.Recording.{reading_of};
 ghost use Rattle.gl_app.specs.Answer.{answer_of};
 ghost use Rattle.gl_app.specs.Free.{IsFreeOfText, IsFreeText};
@@ -14,8 +14,9 @@ use crate::refusal::Refusal;
 use crate::status::Status;
 use crate::texts::free_lines;
 use gl_desk::{Desk, DeskError, Name};
-use gl_goal::{FreeGoal, fix_numbers, search_all};
+use gl_goal::{FreeGoal, fix_numbers};
 use gl_igc::{IgcError, Recording, read_igc};
+use gl_plain::search_one;
 use std::alloc::{AllocError, Global};
 
 /// The most bytes that a recording may have.
@@ -31,19 +32,18 @@ fn free_of_recording(alloc: Global, recording: &Recording) -> Result<Vec<u8>, Al
     let fixes = recording.fixes.as_slice();
     let last = fixes.len() - 1;
     let goal = FreeGoal::new(alloc, fixes, 0, last as u32, MOST_LOSS)?;
-    match search_all(alloc, &goal)? {
-        Some(best) => {
-            let numbers = fix_numbers(alloc, &goal, &best.tuple)?;
-            free_lines(alloc, best.total, &numbers)
-        }
-        None => unreachable!(),
-    }
+    let found = search_one(alloc, &goal)?;
+    let Some(best) = found.best else {
+        unreachable!()
+    };
+    let numbers = fix_numbers(alloc, &goal, &best.tuple)?;
+    free_lines(alloc, best.total, &numbers)
 }
 
 /// The answer for a recording's text: its best free distance, or what it is refused for.
 fn free_of_text(alloc: Global, file: &Name, text: &[u8]) -> Result<Answer, DeskError>
     ensures right { IfOk result (λ answer.
-        IsFreeOfText file.now (plain_recording text.now) (answer_of answer)) }
+        IsFreeOfText file.now (recording_of text.now None) (answer_of answer)) }
     ensures no_fault { result ≡ Err DeskError.Failed → ⊥ }
 {
     match read_igc(alloc, text, None) {
@@ -51,7 +51,13 @@ fn free_of_text(alloc: Global, file: &Name, text: &[u8]) -> Result<Answer, DeskE
             status: Status::Done,
             text: free_of_recording(alloc, &recording)?,
         }),
-        Err(IgcError::Unbuilt) => Ok(refuse(alloc, &Refusal::NotPlain(file.clone()?))?),
+        Err(IgcError::NotIgc) => Ok(refuse(alloc, &Refusal::NotIgc(file.clone()?))?),
+        Err(IgcError::NoDate) => Ok(refuse(alloc, &Refusal::NoDate(file.clone()?))?),
+        Err(IgcError::WrongDay { .. }) => unreachable!(),
+        Err(IgcError::TooManyFixes { line }) => {
+            Ok(refuse(alloc, &Refusal::TooManyFixes(file.clone()?, line))?)
+        }
+        Err(IgcError::NoFix) => Ok(refuse(alloc, &Refusal::NoFix(file.clone()?))?),
         Err(IgcError::Memory) => Err(DeskError::Memory),
     }
 }

@@ -50,7 +50,10 @@ fn parts_of(refusal: &Refusal) -> Parts<'_>
     match refusal {
         Refusal::NotListed(file) => make_parts("FILE", 1, Place::Nowhere, file),
         Refusal::TooLarge(file) => make_parts("FILE", 3, Place::Nowhere, file),
-        Refusal::NotPlain(file) => make_parts("IGC", 9, Place::Nowhere, file),
+        Refusal::NotIgc(file) => make_parts("IGC", 1, Place::Nowhere, file),
+        Refusal::NoDate(file) => make_parts("IGC", 2, Place::Nowhere, file),
+        Refusal::TooManyFixes(file, line) => make_parts("IGC", 4, Place::AtLine(*line), file),
+        Refusal::NoFix(file) => make_parts("IGC", 5, Place::Nowhere, file),
     }
 }
 

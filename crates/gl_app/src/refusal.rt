@@ -7,6 +7,12 @@ pub enum Refusal {
     NotListed(Name),
     /// The file has more bytes than are read.
     TooLarge(Name),
-    /// The file isn't a plain recording.
-    NotPlain(Name),
+    /// The file is no recording: its first line with a byte doesn't begin with `A`, or none has one.
+    NotIgc(Name),
+    /// The recording has no day of the calendar.
+    NoDate(Name),
+    /// The recording has a 90,001st used fix, on this line.
+    TooManyFixes(Name, u32),
+    /// No fix of the recording is used.
+    NoFix(Name),
 }

@@ -1,2 +1,5 @@
-pub mod Tuples
 pub mod Fives
+pub mod FreeHulls
+pub mod FreeLosses
+pub mod Seen
+pub mod Tuples

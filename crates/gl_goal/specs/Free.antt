@@ -1,47 +1,47 @@
--- The free distance: five fixes in time order, of which the last isn't much lower than the first, worth the four legs between them.
-use Rattle.std.specs.Prelude.{ℕ, zero, suc, ◌+◌, ◌-◌, List, [], ◌∷◌, Option, None, Some, slice_get, slice_index, length, ℤ, pos, ◌-ℤ◌, int_le}
-use Rattle.gl_sphere.specs.declared.place.Vec3.{Vec3}
-use Rattle.gl_sphere.specs.Distance.{squared_chord, written_distance}
+-- The free distance: five fixes in time order, of which the last isn't much lower than the first, worth the four legs
+-- between them.
+use Rattle.std.specs.Prelude.{ℕ, zero, suc, ◌-◌, List, [], ◌∷◌, ℤ, pos, ◌-ℤ◌, int_le, int_lt}
 use Rattle.gl_igc.specs.declared.fix.Fix.{Fix}
+use Rattle.gl_hull.specs.Box.{Box}
+use Rattle.gl_goal.specs.Chain.{fixes_at, greatest_legs, hulls_of, legs, points_of}
 use Rattle.gl_goal.specs.Rule.{Rule}
 
--- the distance between two points along the sphere, in centimetres
-abbrev pub distance : Vec3 → Vec3 → ℕ
-distance a b = written_distance (squared_chord a b)
+-- the last of a first one and others
+abbrev pub last_of : {X : Type 0} → X → List X → X
+last_of first [] = first
+last_of first (next ∷ others) = last_of next others
 
--- the distance between two fixes, 0 where there is no such fix
-abbrev pub leg : Option Fix → Option Fix → ℕ
-leg None b = 0
-leg (Some a) None = 0
-leg (Some a) (Some b) = distance a.at b.at
+-- how much lower the last of some fixes is than the first, in metres
+abbrev pub loss_over : List Fix → ℤ
+loss_over [] = pos 0
+loss_over (fix ∷ fixes) = fix.alt -ℤ (last_of fix fixes).alt
 
--- the legs from one fix to the next, by the numbers of the fixes
-abbrev pub legs : List Fix → List ℕ → ℕ
-legs fixes [] = 0
-legs fixes (n ∷ []) = 0
-legs fixes (n ∷ next ∷ numbers) = leg (slice_get fixes n) (slice_get fixes next) + legs fixes (next ∷ numbers)
-
--- the altitude of a fix in metres, 0 where there is no such fix
-abbrev pub altitude : Option Fix → ℤ
-altitude None = pos 0
-altitude (Some fix) = fix.alt
-
--- how much lower the last of these fixes is than the first, in metres
-abbrev pub loss_over : List Fix → List ℕ → ℤ
-loss_over fixes numbers =
-    altitude (slice_get fixes (slice_index numbers 0)) -ℤ altitude (slice_get fixes (slice_index numbers (length numbers - 1)))
+-- the least that fixes in these boxes can lose: from the lowest altitude of the first box to the highest of the last
+abbrev pub least_loss : List Box → ℤ
+least_loss [] = pos 0
+least_loss (box ∷ boxes) = box.alt.0 -ℤ (last_of box boxes).alt.1
 
 -- so many numbers, from the first one on
 abbrev pub numbers_from : ℕ → ℕ → List ℕ
 numbers_from first zero = []
 numbers_from first (suc count) = first ∷ numbers_from (suc first) count
 
--- the goal of the free distance over the fixes from the first to the last number, with a greatest loss in metres
+-- the numbers from the first to the last
+abbrev pub numbers_between : ℕ → ℕ → List ℕ
+numbers_between first last = numbers_from first (suc (last - first))
+
+-- five axes, each with the numbers from the first to the last
+abbrev pub five_axes : ℕ → ℕ → List (List ℕ)
+five_axes first last =
+    let all = numbers_between first last in all ∷ all ∷ all ∷ all ∷ all ∷ []
+
+-- The goal of the free distance over the fixes from the first to the last number, with a greatest loss in metres. A cell is
+-- shut where its fixes lose more, and its bound is the sum of the greatest legs.
 unfoldable pub free_goal : List Fix → ℕ → ℕ → ℤ → Rule
-free_goal fixes first last loss =
-    let all = numbers_from first (suc (last - first)) in
-    record {
-      axes = all ∷ all ∷ all ∷ all ∷ all ∷ [];
-      allows = λ numbers. int_le (loss_over fixes numbers) loss;
-      worth = λ numbers. legs fixes numbers;
-    }
+free_goal fixes first last loss = record {
+  axes = five_axes first last;
+  allows = λ numbers. int_le (loss_over (fixes_at fixes numbers)) loss;
+  worth = λ numbers. legs (points_of (fixes_at fixes numbers));
+  shut = λ cell. int_lt loss (least_loss (hulls_of fixes (five_axes first last) cell));
+  bound = λ cell. greatest_legs (hulls_of fixes (five_axes first last) cell);
+}

@@ -1,17 +1,63 @@
-ghost use Rattle.std.specs.Prelude.{◌≡◌, ◌^◌, ◌≤◌, ◌<◌, ◌≤ℤ◌, ◌-ℤ◌, pos, [], ◌∷◌, length, IfOk, Some, All, slice_get};
-ghost use Rattle.gl_goal.specs.Free.{altitude, free_goal, leg};
-ghost use Rattle.gl_goal.specs.Rule.{IsGoal, IsLegal, IsTuple, chosen};
+ghost use Rattle.std.specs.Prelude.{◌≡◌, ◌^◌, ◌≤◌, ◌<◌, ◌≤ℤ◌, ◌-ℤ◌, ◌↔◌, pos, [], ◌∷◌, length, map, IfOk, IsTrue, Some, All, slice_get};
+ghost use Rattle.gl_box.specs.Cell.{Covers, spans_of};
+ghost use Rattle.gl_box.specs.Tuple.{places_of};
+ghost use Rattle.gl_hull.specs.Hull.{box_of};
+ghost use Rattle.gl_goal.specs.Chain.{distance, greatest_distance, hulls_of};
+ghost use Rattle.gl_goal.specs.Free.{five_axes, free_goal};
+ghost use Rattle.gl_goal.specs.Rule.{IsGoal, IsInTimeOrder, IsLegal, IsTuple, chosen, whole_cell};
 ghost use Rattle.gl_goal.specs.FreeGoal.{rule_of};
-ghost use Rattle.gl_goal.specs.Laws.{free_goal-is_goal};
+ghost use Rattle.gl_goal.specs.Laws.Free.{free_goal-is_goal};
 
 use crate::free::FreeGoal;
 use crate::goal::Goal;
+use gl_box::{Cell, Tuple};
+use gl_hull::{Hull, Hulls, max_sq};
 use gl_igc::Fix;
 use gl_sphere::{dist, sq};
 use std::alloc::{AllocError, Global};
 
 /// How many fixes a free distance names.
-const FREE_FIXES: usize = 5;
+const FREE_FIXES: u8 = 5;
+
+/// The distance between two fixes, in centimetres.
+fn leg(from: &Fix, to: &Fix) -> u64
+    ensures value { result ≡ distance from.now.at to.now.at }
+    ensures bound { result < 2 ^ 40 }
+{
+    dist(sq(from.at, to.at))
+}
+
+/// The greatest distance of two points, one in each hull, in centimetres.
+#[inline]
+fn leg_at_most(from: &Hull, to: &Hull) -> u64
+    ensures value { result ≡ greatest_distance (box_of from.now) (box_of to.now) }
+    ensures bound { result < 2 ^ 40 }
+{
+    dist(max_sq(from, to))
+}
+
+/// How much lower the second fix is than the first, in metres.
+fn loss(from: &Fix, to: &Fix) -> i32
+    ensures { result ≡ from.now.alt -ℤ to.now.alt }
+{
+    from.alt - to.alt
+}
+
+/// How much lower a fix of the second hull is at least than one of the first, in metres.
+#[inline]
+fn least_loss(from: &Hull, to: &Hull) -> i32
+    ensures { result ≡ from.now.alt_lo -ℤ to.now.alt_hi }
+{
+    from.alt_lo - to.alt_hi
+}
+
+/// Whether no number is below the one before it.
+fn are_in_order(numbers: &[u32; 5]) -> bool
+    ensures { IsTrue result ↔ IsInTimeOrder numbers.now }
+{
+    let [a, b, c, d, e] = *numbers;
+    a <= b && b <= c && c <= d && d <= e
+}
 
 impl FreeGoal {
     /// The goal over the fixes from number `first` to number `last`, with a greatest loss of altitude in metres. The only
@@ -32,8 +78,13 @@ impl FreeGoal {
         // Staying at the first fix is always legal.
         ensures legal { IfOk result (λ goal. IsLegal (rule_of goal) (0 ∷ 0 ∷ 0 ∷ 0 ∷ 0 ∷ [])) }
     {
+        let mut numbers = Vec::with_capacity(alloc, (last - first + 1) as usize)?;
+        for number in first..last + 1 {
+            numbers.push(number)?;
+        }
         Ok(FreeGoal {
             fixes: Vec::from_slice(alloc, fixes)?,
+            hulls: Hulls::new(alloc, fixes, numbers.as_slice())?,
             first,
             last,
             loss,
@@ -48,41 +99,34 @@ impl FreeGoal {
         &self.fixes[number as usize]
     }
 
-    /// The distance between two fixes, in centimetres.
-    fn leg(&self, from: u32, to: u32) -> u64
-        requires from { from ≤ self.now.last }
-        requires to { to ≤ self.now.last }
-        ensures value { result ≡ leg (slice_get self.now.fixes.items from) (slice_get self.now.fixes.items to) }
-        ensures bound { result < 2 ^ 40 }
-    {
-        dist(sq(self.at(from).at, self.at(to).at))
-    }
-
-    /// How much lower the fix `to` is than the fix `from`, in metres.
-    fn loss_between(&self, from: u32, to: u32) -> i32
-        requires from { from ≤ self.now.last }
-        requires to { to ≤ self.now.last }
-        ensures { result ≡ altitude (slice_get self.now.fixes.items from) -ℤ altitude (slice_get self.now.fixes.items to) }
-    {
-        self.at(from).alt - self.at(to).alt
-    }
-
     /// The numbers of the five fixes of a tuple.
-    fn numbers(&self, tuple: &[u32]) -> [u32; FREE_FIXES]
-        requires { IsTuple (rule_of self.now).axes tuple.now }
-        ensures chosen { result ≡ chosen (rule_of self.now).axes tuple.now }
+    fn numbers(&self, tuple: &Tuple) -> [u32; 5]
+        requires { IsTuple (five_axes self.now.first self.now.last) (places_of tuple.now) }
+        ensures chosen { result ≡ chosen (five_axes self.now.first self.now.last) (places_of tuple.now) }
         ensures within { All (λ number. number ≤ self.now.last) result }
     {
-        match tuple {
-            [a, b, c, d, e] => [
-                self.first + a,
-                self.first + b,
-                self.first + c,
-                self.first + d,
-                self.first + e,
-            ],
-            _ => unreachable!(),
-        }
+        [
+            self.first + tuple.places[0],
+            self.first + tuple.places[1],
+            self.first + tuple.places[2],
+            self.first + tuple.places[3],
+            self.first + tuple.places[4],
+        ]
+    }
+
+    /// The hulls of the five spans of a cell.
+    #[inline]
+    fn hulls_of(&self, cell: &Cell) -> [Hull; 5]
+        requires { Covers (whole_cell (five_axes self.now.first self.now.last)) (spans_of cell.now) }
+        ensures { map box_of result ≡ hulls_of self.now.fixes.items (five_axes self.now.first self.now.last) (spans_of cell.now) }
+    {
+        [
+            self.hulls.hull(cell.spans[0]),
+            self.hulls.hull(cell.spans[1]),
+            self.hulls.hull(cell.spans[2]),
+            self.hulls.hull(cell.spans[3]),
+            self.hulls.hull(cell.spans[4]),
+        ]
     }
 }
 
@@ -90,29 +134,56 @@ impl FreeGoal {
 impl Goal for FreeGoal {
     ghost rule = { rule_of };
 
-    ghost well_formed = { λ g. free_goal-is_goal g.fixes.items g.first g.last g.loss };
+    ghost laws = { λ g. free_goal-is_goal g.fixes.items g.first g.last g.loss g.in_order g.within };
 
-    fn axes(&self) -> usize {
+    fn axes(&self) -> u8 {
         FREE_FIXES
     }
 
-    fn len(&self, axis: usize) -> u32 {
+    fn len(&self, axis: u8) -> u32 {
         let _ = axis;
         self.last - self.first + 1
     }
 
-    fn fix(&self, axis: usize, place: u32) -> u32 {
+    fn fix(&self, axis: u8, place: u32) -> u32 {
         let _ = axis;
         self.first + place
     }
 
-    fn allows(&self, tuple: &[u32]) -> bool {
-        let [first, .., last] = self.numbers(tuple);
-        self.loss_between(first, last) <= self.loss
+    fn legal(&self, tuple: &Tuple) -> bool {
+        let numbers = self.numbers(tuple);
+        let [first, .., last] = numbers;
+        are_in_order(&numbers) && loss(self.at(first), self.at(last)) <= self.loss
     }
 
-    fn value(&self, tuple: &[u32]) -> u64 {
+    fn value(&self, tuple: &Tuple) -> u64 {
         let [a, b, c, d, e] = self.numbers(tuple);
-        self.leg(a, b) + self.leg(b, c) + self.leg(c, d) + self.leg(d, e)
+        let [a, b, c, d, e] = [self.at(a), self.at(b), self.at(c), self.at(d), self.at(e)];
+        leg(a, b) + leg(b, c) + leg(c, d) + leg(d, e)
+    }
+
+    #[inline]
+    fn disordered(&self, cell: &Cell) -> bool {
+        let mut latest = 0;
+        for span in &cell.spans[..FREE_FIXES as usize] {
+            if span.hi < latest {
+                return true;
+            }
+            latest = latest.max(span.lo);
+        }
+        false
+    }
+
+    #[inline]
+    fn shut(&self, cell: &Cell) -> bool {
+        let first = self.hulls.hull(cell.spans[0]);
+        let last = self.hulls.hull(cell.spans[4]);
+        least_loss(&first, &last) > self.loss
+    }
+
+    #[inline]
+    fn bound(&self, cell: &Cell) -> u64 {
+        let [a, b, c, d, e] = self.hulls_of(cell);
+        leg_at_most(&a, &b) + leg_at_most(&b, &c) + leg_at_most(&c, &d) + leg_at_most(&d, &e)
     }
 }

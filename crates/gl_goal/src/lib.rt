@@ -1,13 +1,11 @@
-//! What is maximised, and the plain search that tries every choice.
+//! What is maximised: goals, their tests of boxes of choices, and what certifies that no choice was overlooked.
 #![tactic(auto)]
 
 mod free;
 mod free_goal;
 mod goal;
 mod numbers;
-mod plain;
 
 pub use free::FreeGoal;
 pub use goal::Goal;
 pub use numbers::fix_numbers;
-pub use plain::{Best, search_all};

@@ -1,3 +1,9 @@
 pub mod Calendar
-pub mod PlainFixes
+pub mod DeclarationLemmas
+pub mod FinishLemmas
+pub mod GroupLemmas
+pub mod ProgressLemmas
+pub mod ReaderLemmas
 pub mod SecondsLemmas
+pub mod ShiftLemmas
+pub mod TrackLemmas

@@ -3,9 +3,12 @@ use Rattle.std.specs.Prelude.{ℕ, ◌+◌, ◌*◌, nat_le, ◌==◌, ◌&&◌,
 use Rattle.std.specs.Str.{byte}
 use Rattle.gl_text.specs.Digits.{◌>>=◌, columns, number_of}
 
--- the seconds of a day
+-- the seconds of a day, and of half a day
 abbrev pub day : ℕ
 day = 86_400
+
+abbrev pub half_day : ℕ
+half_day = 43_200
 
 -- the second of the day that HHMMSS in columns 2 to 7 says
 unfoldable pub time_of_day : List ℕ → Option ℕ

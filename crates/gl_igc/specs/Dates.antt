@@ -1,6 +1,7 @@
--- The day of a recording.
-use Rattle.std.specs.Prelude.{ℕ, ◌+◌, nat_le, ◌==◌, ◌&&◌, nat_eq, codes, length, if◌then◌else◌, List, Option, None, Some, drop, Bool, ℤ, pos}
+-- The day of a recording, from its date lines.
+use Rattle.std.specs.Prelude.{ℕ, ◌+◌, nat_le, ◌==◌, ◌&&◌, nat_eq, codes, length, if◌then◌else◌, List, [], ◌∷◌, Option, None, Some, take, drop, Bool, ℤ, pos}
 use Rattle.std.specs.List.{starts_with}
+use Rattle.std.specs.Str.{byte}
 use Rattle.jiff_core.specs.Calendar.{days_in_month, days_from_civil}
 use Rattle.gl_text.specs.Digits.{◌>>=◌, columns, number_of}
 
@@ -20,6 +21,20 @@ day_of digits = do
   year ← number_of (columns 5 6 digits)
   day_number (2000 + year) month day
 
--- the day of a line that is HFDTE and six digits and nothing else
-unfoldable pub plain_date : List ℕ → Option ℤ
-plain_date line = if starts_with nat_eq line (codes "HFDTE") && length line == 11 then day_of (drop 5 line) else None
+-- a text without these letters at its front, where they stand there
+abbrev pub after_letters : List ℕ → List ℕ → List ℕ
+after_letters letters text = if starts_with nat_eq text letters then drop (length letters) text else text
+
+-- a text without the spaces at its front
+abbrev pub after_spaces : List ℕ → List ℕ
+after_spaces [] = []
+after_spaces (c ∷ cs) = if c == byte " " then after_spaces cs else c ∷ cs
+
+-- the day that a text begins with
+unfoldable pub leading_day : List ℕ → Option ℤ
+leading_day text = if nat_le 6 (length text) then day_of (take 6 text) else None
+
+-- the day of a date line: HFDTE, perhaps DATE, perhaps a colon, any spaces, then DDMMYY; none of any other line
+unfoldable pub date_of_line : List ℕ → Option ℤ
+date_of_line line =
+    if starts_with nat_eq line (codes "HFDTE") then leading_day (after_spaces (after_letters (codes ":") (after_letters (codes "DATE") (drop 5 line)))) else None

@@ -1,9 +1,16 @@
 pub mod Columns
 pub mod Dates
-pub mod Plain
+pub mod Declaration
+pub mod Extension
+pub mod FirstOf
+pub mod FixLine
+pub mod Parts
+pub mod Progress
+pub mod Reading
 pub mod Recording
 pub mod Refusals
 pub mod Seconds
+pub mod UsedFixes
 pub use Rattle.gl_sphere.specs.Place
 pub use Rattle.gl_sphere.specs.PlaceText
 pub use Rattle.gl_sphere.specs.Range

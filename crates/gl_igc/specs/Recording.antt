@@ -4,7 +4,7 @@ use Rattle.gl_igc.specs.declared.fix.Fix.{Fix}
 use Rattle.gl_igc.specs.declared.recording.Recording.{Recording}
 use Rattle.gl_igc.specs.declared.recording.Declared.{Declared}
 use Rattle.gl_sphere.specs.PlaceText.{place_of}
-use Rattle.gl_igc.specs.Plain.{Sighting, Reading}
+use Rattle.gl_igc.specs.Reading.{Sighting, Reading}
 
 -- what a fix says
 abbrev pub sighting_of : Fix → Sighting

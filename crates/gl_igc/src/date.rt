@@ -1,6 +1,6 @@
 ghost use Rattle.std.specs.Prelude.{◌≡◌, ◌<◌, ◌↔◌, Some, IsNone, length, unsigned_abs};
 ghost use Rattle.jiff_core.specs.Calendar.{IsDate, days_from_civil};
-ghost use Rattle.gl_igc.specs.Dates.{day_number, day_of, plain_date};
+ghost use Rattle.gl_igc.specs.Dates.{day_number, day_of, after_letters, after_spaces, leading_day, date_of_line};
 
 use gl_text::read_digits;
 use jiff::civil::Date;
@@ -39,13 +39,48 @@ fn day(digits: &[u8]) -> Option<i32>
     day_of_numbers(2000 + year, month, day)
 }
 
-/// The day of a line that is `HFDTE` and six digits and nothing else.
-#[tactic(auto, unfolding(crate::specs::Dates::plain_date))]
-pub fn plain_day(line: &[u8]) -> Option<i32>
-    ensures { result ≡ plain_date line.now }
+/// The text without these letters at its front, where they stand there.
+fn after_letters<'a>(letters: &[u8], text: &'a [u8]) -> &'a [u8]
+    ensures { result.now ≡ after_letters letters.now text.now }
 {
-    if line.starts_with(b"HFDTE") && line.len() == 11 {
-        day(&line[5..])
+    if text.starts_with(letters) {
+        &text[letters.len()..]
+    } else {
+        text
+    }
+}
+
+/// The text without the spaces at its front.
+fn after_spaces(text: &[u8]) -> &[u8]
+    ensures { result.now ≡ after_spaces text.now }
+{
+    let mut at = 0;
+    while at < text.len() && text[at] == b' ' {
+        at += 1;
+    }
+    &text[at..]
+}
+
+/// The day that the text begins with, as DDMMYY.
+#[tactic(auto, unfolding(crate::specs::Dates::leading_day))]
+fn leading_day(text: &[u8]) -> Option<i32>
+    ensures { result ≡ leading_day text.now }
+{
+    if text.len() >= 6 {
+        day(&text[..6])
+    } else {
+        None
+    }
+}
+
+/// The day of a date line; `None` of any other line.
+#[tactic(auto, unfolding(crate::specs::Dates::date_of_line))]
+pub fn date_of_line(line: &[u8]) -> Option<i32>
+    ensures { result ≡ date_of_line line.now }
+{
+    if line.starts_with(b"HFDTE") {
+        let rest = after_letters(b":", after_letters(b"DATE", &line[5..]));
+        leading_day(after_spaces(rest))
     } else {
         None
     }

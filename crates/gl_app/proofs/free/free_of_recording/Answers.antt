@@ -12,4 +12,4 @@ returns c =
     let rule = rule_of c.in_ok-goal.goal in
     let same : rule ≡ whole_free_goal fixes = c.in_ok-goal.ensures.rule ∙ ap whole_free_goal c.as_slice-fixes.ensures in
     IfOk-weaker c.free_lines.result _ _ (λ text said.
-    free_text_found (reading_of c.args.recording.now) fixes rule c.in_ok-best.field-0 c.in-Some.best c.deref.result.now c.deref-in-Some.result.now text.items refl same c.in-Some.is c.in_ok-best.ensures.optimum c.in_ok-best.ensures.reached c.deref.ensures.value (c.deref-in-Some.ensures.value ∙ c.in_ok-numbers-in-Some.ensures) said) c.free_lines.ensures
+    free_text_found (reading_of c.args.recording.now) fixes rule c.in_ok-found.found.best c.in-Some.best c.deref.result.now text.items refl same c.in-Some.is c.in_ok-found.ensures.optimum c.in_ok-found.ensures.reached (c.deref.ensures.value ∙ c.in_ok-numbers.ensures) said) c.free_lines.ensures

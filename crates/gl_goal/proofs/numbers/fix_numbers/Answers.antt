@@ -1,4 +1,8 @@
-use Rattle.std.proofs.Common.{◌∙◌, sym}
+use Rattle.std.proofs.Common.{◌∙◌, sym, ap, ℕ, ◌<◌, ◌≤◌, length, arith}
+use Rattle.std.proofs.lemmas.List.{take_all}
+use Rattle.gl_box.specs.Tuple.{places_of}
+use Rattle.gl_box.specs.Laws.Spans.{get_or-places_of, length-places_of}
+use Rattle.gl_goal.specs.Rule.{chosen, fix_at}
 use Rattle.gl_goal.proofs.Tuples.{place_at, chosen-nothing, numbers_more}
 use Rattle.gl_goal.proofs.numbers.fix_numbers.Goals as goal
 
@@ -6,11 +10,29 @@ pub loop-axis-init : goal.loop-axis-init
 loop-axis-init g c = c.in_ok-numbers.ensures.items ∙ sym (chosen-nothing (g.G.Goal.rule c.args.goal.now).axes)
 
 pub fix-requires-clause-axis_in : goal.fix-requires-clause-axis_in
-fix-requires-clause-axis_in g c = (place_at (g.G.Goal.rule c.args.goal.now).axes c.args.tuple.now c.loop-axis.axis c.requires c.loop-axis-test.true).0
+fix-requires-clause-axis_in g c =
+    let tuple = c.args.tuple.now in
+    let inside : c.loop-axis.axis < length (places_of tuple) = omega (arith, length-places_of tuple, c.loop-axis-test.true) in
+    (place_at (g.G.Goal.rule c.args.goal.now).axes (places_of tuple) c.loop-axis.axis c.requires inside).0
 
 pub fix-requires-clause-place_in : goal.fix-requires-clause-place_in
-fix-requires-clause-place_in g c = (place_at (g.G.Goal.rule c.args.goal.now).axes c.args.tuple.now c.loop-axis.axis c.requires c.loop-axis-test.true).1
+fix-requires-clause-place_in g c =
+    let tuple = c.args.tuple.now in
+    let inside : c.loop-axis.axis < length (places_of tuple) = omega (arith, length-places_of tuple, c.loop-axis-test.true) in
+    let there = (place_at (g.G.Goal.rule c.args.goal.now).axes (places_of tuple) c.loop-axis.axis c.requires inside).1 in
+    omega (arith, there, get_or-places_of tuple c.loop-axis.axis c.loop-axis-test.true)
 
 pub loop-axis-preserved : goal.loop-axis-preserved
 loop-axis-preserved g c =
-    numbers_more (g.G.Goal.rule c.args.goal.now).axes c.args.tuple.now c.loop-axis.numbers.items c.push.new.self.items c.loop-axis.axis c.fix.result c.requires c.loop-axis-test.true c.loop-axis.invariant c.fix.ensures c.in_ok-push.ensures.items
+    let tuple = c.args.tuple.now in
+    let axes = (g.G.Goal.rule c.args.goal.now).axes in
+    let axis = c.loop-axis.axis in
+    let inside : axis < length (places_of tuple) = omega (arith, length-places_of tuple, c.loop-axis-test.true) in
+    let fix = c.fix.ensures ∙ sym (ap (λ (place : ℕ). fix_at axes axis place) (get_or-places_of tuple axis c.loop-axis-test.true)) in
+    numbers_more axes (places_of tuple) c.loop-axis.numbers.items c.push.new.self.items axis c.fix.result c.requires inside c.loop-axis.invariant fix c.in_ok-push.ensures.items
+
+pub returns : goal.returns
+returns g c =
+    let tuple = c.args.tuple.now in
+    let all : length (places_of tuple) ≤ c.loop-axis.axis = omega (arith, length-places_of tuple, c.loop-axis-test.false) in
+    c.loop-axis.invariant ∙ ap (chosen (g.G.Goal.rule c.args.goal.now).axes) (take_all c.loop-axis.axis (places_of tuple) all)

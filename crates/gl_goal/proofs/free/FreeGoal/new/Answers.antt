@@ -1,14 +1,60 @@
-use Rattle.std.proofs.Common.{w32, to_z, of_z, pos, arith}
+use Rattle.std.proofs.Common.{◌≡◌, ◌∙◌, ℕ, suc, ◌+◌, ◌-◌, ◌≤◌, ◌++◌, ◌∷◌, [], List, length, slice_get, ap, sym, subst, w32, to_z, of_z, pos, arith}
 use Rattle.std.specs.Prelude.{◌≤ℤ◌}
 use Rattle.std.proofs.lemmas.Int.{ints}
-use Rattle.gl_goal.proofs.Fives.{stay_legal}
-use Rattle.gl_goal.specs.Laws.{free_goal-is_goal}
+use Rattle.gl_igc.specs.declared.fix.Fix.{Fix}
+use Rattle.gl_goal.specs.Chain.{fixes_at}
+use Rattle.gl_goal.specs.Free.{numbers_between, numbers_from}
+use Rattle.gl_goal.specs.Laws.Chain.{AreNamed}
+use Rattle.gl_goal.specs.Laws.Free.{free_goal-is_goal, length-numbers_between, numbers_between-named}
+use Rattle.gl_goal.proofs.FreeLosses.{filter_map-found, numbers_from-more, stay_legal}
 use Rattle.gl_goal.proofs.free.FreeGoal.new.Goals as goal
+use Rattle.gl_goal.proofs.free.FreeGoal.new.Goals.{After-as_slice}
+
+one_more : (first number : ℕ) (numbers pushed : List ℕ) → first ≤ number → pushed ≡ numbers ++ number ∷ [] → numbers ≡ numbers_from first (number - first) → pushed ≡ numbers_from first (number + 1 - first)
+one_more first number numbers pushed low is before =
+    let last : first + (number - first) ≡ number = omega arith in
+    let count : suc (number - first) ≡ number + 1 - first = omega arith in
+    is ∙ ap (λ (ns : List ℕ). ns ++ number ∷ []) before ∙ ap (λ (n : ℕ). numbers_from first (number - first) ++ n ∷ []) (sym last)
+    ∙ sym (numbers_from-more first (number - first)) ∙ ap (numbers_from first) count
+
+pub loop-number-preserved : goal.loop-number-preserved
+loop-number-preserved c =
+    one_more c.args.first c.loop-number.number _ _ (omega arith) c.in_ok-push.ensures.items c.loop-number.invariant
+
+-- the numbers that the hulls are made over
+numbers-are : (c : After-as_slice) → c.as_slice.result.now ≡ numbers_between c.args.first c.args.last
+numbers-are c =
+    let count : c.loop-number.number - c.args.first ≡ suc (c.args.last - c.args.first) = omega arith in
+    c.as_slice.ensures.value ∙ c.loop-number.invariant ∙ ap (numbers_from c.args.first) count
+
+pub new-requires-clause-most : goal.new-requires-clause-most
+new-requires-clause-most c =
+    omega (arith, ap length (numbers-are c), length-numbers_between c.args.first c.args.last)
+
+pub new-requires-clause-named : goal.new-requires-clause-named
+new-requires-clause-named c =
+    let P : List ℕ → Type 0 = AreNamed c.args.fixes.now in
+    subst P (sym (numbers-are c)) (numbers_between-named c.args.fixes.now c.args.first c.args.last c.requires.order c.requires.within)
+
+pub invariant_of-result : goal.invariant_of-result
+invariant_of-result c =
+    let same = c.in_ok-from_slice.ensures.items in
+    let count : c.loop-number.number - c.args.first ≡ suc (c.args.last - c.args.first) = omega arith in
+    let numbers = c.as_slice.ensures.value ∙ c.loop-number.invariant ∙ ap (numbers_from c.args.first) count in
+    let found = filter_map-found (slice_get c.args.fixes.now) c.as_slice.result.now c.in_ok-new.field-0 c.in_ok-new.ensures in
+    record {
+      in_order = c.requires.order;
+      within = omega (arith, c.requires.within, ap length same);
+      at_most_90000 = omega (arith, c.requires.most, ap length same);
+      loss_from_zero = omega (arith, ints);
+      hulled = found ∙ ap (fixes_at c.args.fixes.now) numbers ∙ ap (λ (fixes : List Fix). fixes_at fixes (numbers_between c.args.first c.args.last)) (sym same);
+    }
 
 pub returns-clause-well_formed : goal.returns-clause-well_formed
-returns-clause-well_formed c = free_goal-is_goal _ _ _ _
+returns-clause-well_formed c =
+    free_goal-is_goal _ _ _ _ c.requires.order (omega (arith, c.requires.within, ap length c.in_ok-from_slice.ensures.items))
 
 pub returns-clause-legal : goal.returns-clause-legal
 returns-clause-legal c =
     let low : pos 0 ≤ℤ to_z w32 (of_z w32 c.args.loss) = omega (arith, ints) in
-    stay_legal c.in_ok-from_slice.field-0.items c.args.first c.args.last (to_z w32 (of_z w32 c.args.loss)) low
+    stay_legal c.in_ok-from_slice.field-0.items c.args.first c.args.last (to_z w32 (of_z w32 c.args.loss)) (omega (arith, c.requires.order, c.requires.within, ap length c.in_ok-from_slice.ensures.items)) low

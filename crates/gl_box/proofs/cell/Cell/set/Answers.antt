@@ -1,0 +1,5 @@
+use Rattle.gl_box.specs.Laws.Spans.{spans-set}
+use Rattle.gl_box.proofs.cell.Cell.set.Goals as goal
+
+pub returns-clause-spans : goal.returns-clause-spans
+returns-clause-spans c = spans-set _ _ _ _

@@ -1,0 +1,6 @@
+pub mod Tuple
+pub mod Cell
+pub mod Halves
+pub mod Frontier
+pub mod Closed
+pub mod Laws

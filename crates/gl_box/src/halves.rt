@@ -1,0 +1,61 @@
+ghost use Rattle.std.specs.Prelude.{◌≡◌, ◌↔◌, IfNone, IfSome, IsNone};
+ghost use Rattle.gl_box.specs.Cell.{spans_of};
+ghost use Rattle.gl_box.specs.Halves.{AreHalves, IsSingle, IsWidest};
+
+use crate::cell::Cell;
+use crate::span::Span;
+
+/// The axis with the widest span, the lowest one among equally wide spans.
+fn widest(cell: &Cell) -> usize
+    ensures { IsWidest (spans_of cell.now) result }
+{
+    let mut widest = 0;
+    for axis in 1..cell.axes as usize {
+        if cell.spans[axis].width() > cell.spans[widest].width() {
+            widest = axis;
+        }
+    }
+    widest
+}
+
+/// Cuts a cell in the middle of its widest span: the cell becomes its upper half, and the lower half is handed out.
+/// `None` exactly where the cell holds a single tuple, and then it stays as it is.
+pub fn halve(cell: &mut Cell) -> Option<Cell>
+    ensures halves { IfSome result (λ lower. AreHalves (spans_of cell.old) (spans_of lower) (spans_of cell.new)) }
+    ensures single { IsNone result ↔ IsSingle (spans_of cell.old) }
+    ensures same { IfNone result (cell.new ≡ cell.old) }
+{
+    let axis = widest(cell);
+    let span = cell.spans[axis];
+    if span.lo == span.hi {
+        return None;
+    }
+    let middle = span.lo + (span.hi - span.lo) / 2;
+    let mut lower = *cell;
+    lower.set(
+        axis,
+        Span {
+            lo: span.lo,
+            hi: middle,
+        },
+    );
+    cell.set(
+        axis,
+        Span {
+            lo: middle + 1,
+            hi: span.hi,
+        },
+    );
+    Some(lower)
+}
+
+/// The lower and the upper half of a cell, cut in the middle of its widest span. `None` exactly where the cell holds a
+/// single tuple.
+pub fn split(cell: &Cell) -> Option<(Cell, Cell)>
+    ensures halves { IfSome result (λ halves. AreHalves (spans_of cell.now) (spans_of halves.0) (spans_of halves.1)) }
+    ensures single { IsNone result ↔ IsSingle (spans_of cell.now) }
+{
+    let mut upper = *cell;
+    let lower = halve(&mut upper)?;
+    Some((lower, upper))
+}

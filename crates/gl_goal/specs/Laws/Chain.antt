@@ -1,0 +1,175 @@
+-- What the boxes of a chain say of the fixes in them.
+use Rattle.std.proofs.Common.{◌≡◌, ◌∙◌, sym, ap, refl, subst, ℕ, zero, suc, ◌+◌, ◌-◌, ◌*◌, ◌<◌, ◌≤◌, List, [], ◌∷◌, length, map, drop, get_or, Some, slice_get, ℤ, ◌-ℤ◌, arith}
+use Rattle.std.specs.Prelude.{All, unsigned_abs}
+use Rattle.std.specs.List.{AllZip, cons_option}
+use Rattle.std.proofs.lemmas.Int.{ints}
+use Rattle.std.proofs.lemmas.List.{get_or-drop, get_or-map, get_or-take, length-drop, length-map, length-take}
+use Rattle.std.proofs.lemmas.Option.{get_or_from_slice_get}
+use Rattle.gl_sphere.proofs.Arcs.{written_distance-bound, written_distance-mono}
+use Rattle.gl_sphere.proofs.Chords.{squared_chord-bound}
+use Rattle.gl_sphere.specs.declared.place.Vec3.{Vec3}
+use Rattle.gl_sphere.specs.Distance.{squared_chord, squared_gap, written_distance}
+use Rattle.gl_igc.specs.declared.fix.Fix.{Fix}
+use Rattle.gl_hull.proofs.Spans.{fixes_in-single}
+use Rattle.gl_hull.specs.Box.{AreEnds, Box, IsBetween, IsInside, ends_of, fixes_in, hull_of}
+use Rattle.gl_hull.specs.Chords.{greatest_chord, reach, squared}
+use Rattle.gl_hull.specs.Laws.Boxes.{hull_of-is_least}
+use Rattle.gl_hull.specs.Laws.Chords.{squared_chord-at_most}
+use Rattle.gl_box.specs.Cell.{Covers, Holds, point}
+use Rattle.gl_box.specs.Laws.Held.{holds_parts}
+use Rattle.gl_goal.specs.Rule.{IsTuple, chosen, whole_cell}
+use Rattle.gl_goal.specs.Chain.{distance, fixes_at, greatest_legs, hulls_of, legs, points_of}
+
+-- no legs are longer than the greatest ones from box to box
+pub legs-at_most : (boxes : List Box) (points : List Vec3) → AllZip IsInside boxes points → legs points ≤ greatest_legs boxes
+legs-at_most [] [] inside = omega arith
+legs-at_most [] (p ∷ ps) inside = absurd inside
+legs-at_most (b ∷ bs) [] inside = absurd inside
+legs-at_most (b ∷ []) (p ∷ []) inside = omega arith
+legs-at_most (b ∷ []) (p ∷ q ∷ ps) inside = absurd inside.1
+legs-at_most (b ∷ d ∷ bs) (p ∷ []) inside = absurd inside.1
+legs-at_most (b ∷ d ∷ bs) (p ∷ q ∷ ps) inside =
+    omega (arith, written_distance-mono _ _ (squared_chord-at_most b d p q inside.0 inside.1.0), legs-at_most (d ∷ bs) (q ∷ ps) inside.1)
+
+distance-bound : (a b : Vec3) → distance a b ≤ 7460377693
+distance-bound a b = written_distance-bound (squared_chord a b) (squared_chord-bound a b)
+
+-- what the legs can be worth
+pub legs-limited : (points : List Vec3) → legs points ≤ 7460377693 * length points
+legs-limited [] = omega arith
+legs-limited (a ∷ []) = omega arith
+legs-limited (a ∷ b ∷ points) = omega (arith, distance-bound a b, legs-limited (b ∷ points))
+
+-- each number names a fix
+abbrev pub AreNamed : List Fix → List ℕ → Type 0
+AreNamed fixes numbers = All (λ number. number < length fixes) numbers
+
+-- the fix that a number names
+pub named : (fixes : List Fix) (number : ℕ) → number < length fixes → (fix : Fix) × (slice_get fixes number ≡ Some fix)
+named [] number below = absurd (omega arith)
+named (fix ∷ fixes) zero below = (fix, refl)
+named (fix ∷ fixes) (suc number) below = named fixes number (omega arith)
+
+next_named : (fixes : List Fix) (number : ℕ) (numbers : List ℕ) → AreNamed fixes (number ∷ numbers) → AreNamed fixes numbers
+next_named fixes number numbers all k d below = all (suc k) d (omega arith)
+
+pub fixes_at-cons : (fixes : List Fix) (number : ℕ) (numbers : List ℕ) (fix : Fix) → slice_get fixes number ≡ Some fix → fixes_at fixes (number ∷ numbers) ≡ fix ∷ fixes_at fixes numbers
+fixes_at-cons fixes number numbers fix is = ap (λ found. cons_option found (fixes_at fixes numbers)) is
+
+pub length-fixes_at : (fixes : List Fix) (numbers : List ℕ) → AreNamed fixes numbers → length (fixes_at fixes numbers) ≡ length numbers
+length-fixes_at fixes [] all = refl
+length-fixes_at fixes (number ∷ numbers) all =
+    let fix = named fixes number (all 0 0 (omega arith)) in
+    ap length (fixes_at-cons fixes number numbers fix.0 fix.1) ∙ ap suc (length-fixes_at fixes numbers (next_named fixes number numbers all))
+
+-- the fix at a place of a list of numbers
+pub get_or-fixes_at : (fixes : List Fix) (numbers : List ℕ) (place : ℕ) (d : Fix) → AreNamed fixes numbers → place < length numbers → get_or (fixes_at fixes numbers) place d ≡ get_or fixes (get_or numbers place 0) d
+get_or-fixes_at fixes [] place d all below = absurd (omega arith)
+get_or-fixes_at fixes (number ∷ numbers) zero d all below =
+    let fix = named fixes number (all 0 0 (omega arith)) in
+    ap (λ fs. get_or fs 0 d) (fixes_at-cons fixes number numbers fix.0 fix.1) ∙ sym (get_or_from_slice_get fixes number fix.0 d fix.1)
+get_or-fixes_at fixes (number ∷ numbers) (suc place) d all below =
+    let fix = named fixes number (all 0 0 (omega arith)) in
+    ap (λ fs. get_or fs (suc place) d) (fixes_at-cons fixes number numbers fix.0 fix.1) ∙ get_or-fixes_at fixes numbers place d (next_named fixes number numbers all) (omega arith)
+
+-- a box holds a fix, by its point and its altitude
+pub record IsHeld (box : Box) (fix : Fix) : Type 0 where
+  pub inside : IsInside box fix.at
+  pub altitude : IsBetween box.alt fix.alt
+
+component-between : (f : Fix → ℤ) (fixes : List Fix) (k : ℕ) (fix : Fix) (ends : ℤ × ℤ) → AreEnds ends (map f fixes) → k < length fixes → get_or fixes k fix ≡ fix → IsBetween ends (f fix)
+component-between f fixes k fix ends are below is =
+    let P : ℤ → Type 0 = IsBetween ends in
+    subst P (get_or-map f fixes k fix (f fix) below ∙ ap f is) (are.between k (f fix) (omega (arith, length-map fixes f)))
+
+-- the hull of a span holds the fix at each of its places
+pub hull_of-holds : (fixes : List Fix) (span : ℕ × ℕ) (place : ℕ) (fix : Fix) → span.0 ≤ place → place ≤ span.1 → span.1 < length fixes → get_or fixes place fix ≡ fix → IsHeld (hull_of (fixes_in fixes span)) fix
+hull_of-holds fixes span place fix low high within is =
+    let seen = fixes_in fixes span in
+    let at = place - span.0 in
+    let size : length seen ≡ span.1 + 1 - span.0 = omega (arith, length-take (span.1 + 1 - span.0) (drop span.0 fixes), length-drop span.0 fixes) in
+    let below : at < length seen = omega arith in
+    let there : get_or seen at fix ≡ fix = get_or-take (span.1 + 1 - span.0) (drop span.0 fixes) at fix (omega arith) ∙ get_or-drop span.0 fixes at fix ∙ ap (λ k. get_or fixes k fix) (omega arith) ∙ is in
+    let least = hull_of-is_least seen (omega arith) in
+    record {
+      inside = record {
+        x = component-between (λ f. f.at.x) seen at fix _ least.x below there;
+        y = component-between (λ f. f.at.y) seen at fix _ least.y below there;
+        z = component-between (λ f. f.at.z) seen at fix _ least.z below there;
+      };
+      altitude = component-between (λ f. f.alt) seen at fix _ least.alt below there;
+    }
+
+next_all : (P : List ℕ → Type 0) (axis : List ℕ) (axes : List (List ℕ)) → All P (axis ∷ axes) → All P axes
+next_all P axis axes all k d below = all (suc k) d (omega arith)
+
+-- the fix of an axis and a place there
+pub named_at : (fixes : List Fix) (axis : List ℕ) (place : ℕ) → AreNamed fixes axis → place < length axis → (fix : Fix) × (slice_get fixes (get_or axis place 0) ≡ Some fix) × (get_or (fixes_at fixes axis) place fix ≡ fix)
+named_at fixes axis place all below =
+    let fix = named fixes (get_or axis place 0) (all place 0 below) in
+    (fix.0, fix.1, get_or-fixes_at fixes axis place fix.0 all below ∙ get_or_from_slice_get fixes (get_or axis place 0) fix.0 fix.0 fix.1)
+
+-- the hulls of a cell hold the fixes of each tuple in it
+pub hulls_of-hold : (fixes : List Fix) (axes : List (List ℕ)) (cell : List (ℕ × ℕ)) (tuple : List ℕ) → All (AreNamed fixes) axes → Covers (whole_cell axes) cell → Holds cell tuple → IsTuple axes tuple → AllZip IsHeld (hulls_of fixes axes cell) (fixes_at fixes (chosen axes tuple))
+hulls_of-hold fixes [] [] [] all covers held fits = tt
+hulls_of-hold fixes [] [] (place ∷ places) all covers held fits = absurd fits
+hulls_of-hold fixes [] (span ∷ spans) tuple all covers held fits = absurd covers
+hulls_of-hold fixes (axis ∷ axes) [] tuple all covers held fits = absurd covers
+hulls_of-hold fixes (axis ∷ axes) (span ∷ spans) [] all covers held fits = absurd fits
+hulls_of-hold fixes (axis ∷ axes) (span ∷ spans) (place ∷ places) all covers held fits =
+    let parts = holds_parts span spans place places held in
+    let here = all 0 [] (omega arith) in
+    let fix = named_at fixes axis place here fits.0 in
+    let one : IsHeld (hull_of (fixes_in (fixes_at fixes axis) span)) fix.0 = hull_of-holds (fixes_at fixes axis) span place fix.0 parts.0 parts.1 (omega (arith, length-fixes_at fixes axis here, covers.1, fits.0)) fix.2 in
+    let rest = hulls_of-hold fixes axes spans places (next_all (AreNamed fixes) axis axes all) covers.2 parts.2 fits.1 in
+    let P : List Fix → Type 0 = AllZip IsHeld (hulls_of fixes (axis ∷ axes) (span ∷ spans)) in
+    subst P (sym (fixes_at-cons fixes (get_or axis place 0) (chosen axes places) fix.0 fix.1)) (one, rest)
+
+-- boxes that hold fixes hold their points
+pub points-inside : (boxes : List Box) (fixes : List Fix) → AllZip IsHeld boxes fixes → AllZip IsInside boxes (points_of fixes)
+points-inside [] [] held = tt
+points-inside [] (fix ∷ fixes) held = absurd held
+points-inside (box ∷ boxes) [] held = absurd held
+points-inside (box ∷ boxes) (fix ∷ fixes) held = (held.0.inside, points-inside boxes fixes held.1)
+
+-- the box of a single fix
+abbrev pub fix_box : Fix → Box
+fix_box fix = record {
+  x = (fix.at.x, fix.at.x);
+  y = (fix.at.y, fix.at.y);
+  z = (fix.at.z, fix.at.z);
+  alt = (fix.alt, fix.alt);
+}
+
+hull_of-single : (fix : Fix) → hull_of (fix ∷ []) ≡ fix_box fix
+unfolding ends_of
+hull_of-single fix = refl
+
+-- the hulls of a single tuple are the boxes of its fixes
+pub hulls_of-point : (fixes : List Fix) (axes : List (List ℕ)) (tuple : List ℕ) → All (AreNamed fixes) axes → IsTuple axes tuple → hulls_of fixes axes (point tuple) ≡ map fix_box (fixes_at fixes (chosen axes tuple))
+hulls_of-point fixes [] [] all fits = refl
+hulls_of-point fixes [] (place ∷ places) all fits = absurd fits
+hulls_of-point fixes (axis ∷ axes) [] all fits = absurd fits
+hulls_of-point fixes (axis ∷ axes) (place ∷ places) all fits =
+    let here = all 0 [] (omega arith) in
+    let fix = named_at fixes axis place here fits.0 in
+    let one : hull_of (fixes_in (fixes_at fixes axis) (place, place)) ≡ fix_box fix.0 =
+    ap hull_of (fixes_in-single (fixes_at fixes axis) place fix.0 (omega (arith, length-fixes_at fixes axis here, fits.0)) ∙ ap (λ f. f ∷ []) fix.2) ∙ hull_of-single fix.0 in
+    let rest = hulls_of-point fixes axes places (next_all (AreNamed fixes) axis axes all) fits.1 in
+    ap (λ box. box ∷ hulls_of fixes axes (point places)) one ∙ ap (λ boxes. fix_box fix.0 ∷ boxes) rest
+    ∙ sym (ap (map fix_box) (fixes_at-cons fixes (get_or axis place 0) (chosen axes places) fix.0 fix.1))
+
+reach-point : (a b : ℤ) → squared (reach (a, a) (b, b)) ≡ squared_gap a b
+unfolding reach squared_gap
+reach-point a b = let same : reach (a, a) (b, b) ≡ unsigned_abs (a -ℤ b) = omega (arith, ints) in ap squared same
+
+greatest_chord-point : (a b : Fix) → greatest_chord (fix_box a) (fix_box b) ≡ squared_chord a.at b.at
+unfolding greatest_chord squared_chord
+greatest_chord-point a b = let x = reach-point a.at.x b.at.x in let y = reach-point a.at.y b.at.y in let z = reach-point a.at.z b.at.z in cc
+
+-- the greatest legs of single fixes are their legs
+pub greatest_legs-point : (fixes : List Fix) → greatest_legs (map fix_box fixes) ≡ legs (points_of fixes)
+greatest_legs-point [] = refl
+greatest_legs-point (a ∷ []) = refl
+greatest_legs-point (a ∷ b ∷ fixes) =
+    ap (λ q. written_distance q + greatest_legs (map fix_box (b ∷ fixes))) (greatest_chord-point a b) ∙ ap (λ n. distance a.at b.at + n) (greatest_legs-point (b ∷ fixes))

@@ -1,0 +1,7 @@
+pub mod Attained
+pub mod Ends
+pub mod Entries
+pub mod Gaps
+pub mod Kept
+pub mod LeastBoxes
+pub mod Spans

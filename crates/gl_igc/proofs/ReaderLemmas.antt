@@ -1,0 +1,31 @@
+-- The answer for the lines of a whole text.
+use Rattle.std.proofs.Common.{◌≡◌, ◌≢◌, ◌∙◌, sym, ap, ℕ, ℤ, List, [], ◌++◌, drop, append-nil, Option}
+use Rattle.std.specs.Prelude.{Ok, Err, Result, MatchResult, IfOk, IfErr}
+use Rattle.gl_text.specs.Lines.{lines_of}
+use Rattle.gl_igc.specs.Reading.{recording_of, recording_of_lines}
+use Rattle.gl_igc.specs.Recording.{reading_of}
+use Rattle.gl_igc.specs.declared.error.IgcError.{IgcError}
+use Rattle.gl_igc.specs.declared.error.IgcError.TheVariants.{Memory}
+use Rattle.gl_igc.specs.declared.recording.Recording.{Recording}
+
+abbrev pub Lines : Type 0
+Lines = List (List ℕ)
+
+-- no line is left
+pub whole : (text : List ℕ) (at : ℕ) (lines : Lines) → lines ++ lines_of (drop at text) ≡ lines_of text → lines_of (drop at text) ≡ [] → lines ≡ lines_of text
+whole text at lines split over =
+    sym (append-nil lines) ∙ ap (λ (rest : Lines). lines ++ rest) (sym over) ∙ split
+
+abbrev pub IsAnswer : Lines → Option ℤ → Result Recording IgcError → Type 0
+IsAnswer lines task_day result =
+    MatchResult result (λ recording. recording_of_lines lines task_day ≡ Ok (reading_of recording)) (λ e. recording_of_lines lines task_day ≡ Err e)
+
+pub answer_ok : (text : List ℕ) (task_day : Option ℤ) (lines : Lines) (result : Result Recording IgcError) → lines ≡ lines_of text → IsAnswer lines task_day result → IfOk result (λ recording. recording_of text task_day ≡ Ok (reading_of recording))
+unfolding recording_of
+answer_ok text task_day lines (Ok recording) same is = ap (λ (lines : Lines). recording_of_lines lines task_day) (sym same) ∙ is
+answer_ok text task_day lines (Err e) same is = tt
+
+pub answer_refused : (text : List ℕ) (task_day : Option ℤ) (lines : Lines) (result : Result Recording IgcError) → lines ≡ lines_of text → IsAnswer lines task_day result → IfErr result (λ e. e ≢ Memory → recording_of text task_day ≡ Err e)
+unfolding recording_of
+answer_refused text task_day lines (Ok recording) same is = tt
+answer_refused text task_day lines (Err e) same is = λ _. ap (λ (lines : Lines). recording_of_lines lines task_day) (sym same) ∙ is

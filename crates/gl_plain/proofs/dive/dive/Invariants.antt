@@ -1,0 +1,8 @@
+use Rattle.gl_plain.specs.Candidate.{AreWithin}
+use Rattle.gl_plain.specs.Search.{IsSound}
+use Rattle.gl_plain.proofs.dive.dive.Given as goal
+
+abbrev pub invariant-loop : goal.invariant-loop
+invariant-loop g l =
+    let rule = g.G.Goal.rule l.goal in
+    record { sound : IsSound rule l.best; within : AreWithin rule l.candidates.items }

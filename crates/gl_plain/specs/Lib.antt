@@ -1,0 +1,4 @@
+pub mod Candidate
+pub mod Search
+pub mod Steps
+pub mod Verdict

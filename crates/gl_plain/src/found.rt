@@ -1,0 +1,36 @@
+ghost use Rattle.std.specs.Prelude.{◌≡◌, ◌⊎◌};
+
+use gl_box::{Closed, Tuple};
+
+/// The greatest value found, in centimetres, and a legal tuple that is worth it.
+#[derive(Clone, Copy, Debug, PartialEq, Eq)]
+pub struct Best {
+    pub total: u64,
+    pub tuple: Tuple,
+}
+
+/// The optimum of a goal, `None` where no tuple is legal, and the boxes that show that no legal tuple is worth more: in the
+/// order of the split tree they part all tuples.
+#[derive(Debug, Drop)]
+pub struct Found {
+    pub best: Option<Best>,
+    pub closed: Vec<Closed>,
+}
+
+/// Whether a total is above what was found. Anything is, where nothing was.
+pub(crate) fn beats(total: u64, best: &Option<Best>) -> bool {
+    match best {
+        Some(known) => total > known.total,
+        None => true,
+    }
+}
+
+/// The one that is worth more.
+pub(crate) fn better(one: Option<Best>, other: Option<Best>) -> Option<Best>
+    ensures { (result ≡ one) ⊎ (result ≡ other) }
+{
+    match other {
+        Some(known) if beats(known.total, &one) => other,
+        _ => one,
+    }
+}

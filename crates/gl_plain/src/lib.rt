@@ -1,0 +1,14 @@
+//! The search on one thread: the optimum of a goal, with boxes that certify that no choice was overlooked.
+#![tactic(auto)]
+
+mod climb;
+mod dive;
+mod found;
+mod search;
+mod spaced;
+mod verdict;
+mod warm;
+
+pub use found::{Best, Found};
+pub use search::search_one;
+pub use warm::warm_start;

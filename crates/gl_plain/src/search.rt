@@ -1,0 +1,116 @@
+ghost use Rattle.std.specs.Prelude.{◌≡◌, ◌<◌, ◌↔◌, [], ◌∷◌, All, IfOk, IsNone, OnOk, ℕ, List, map, vec_len};
+ghost use Rattle.gl_box.specs.Cell.{spans_of};
+ghost use Rattle.gl_box.specs.Closed.{box_of};
+ghost use Rattle.gl_goal.specs.Rule.{IsLegal, IsOptimum, whole_cell};
+ghost use Rattle.gl_goal.specs.Certificate.{IsCertificate};
+ghost use Rattle.gl_plain.specs.Search.{IsNeeded, IsNoLess, IsSound, fixes_of, total_of};
+ghost use Rattle.gl_plain.specs.Steps.{Advances, Closes, IsUnderWay};
+
+use crate::found::{Best, Found};
+use crate::verdict::{Verdict, test};
+use crate::warm::warm_start;
+use gl_box::{Cell, Closed, Span, Tuple, Why, halve};
+use gl_goal::Goal;
+use std::alloc::{AllocError, Global};
+
+/// Room for open cells: each cut adds one, and a cell can be cut at most 32 times on each axis.
+const OPEN_ROOM: usize = 512;
+
+/// Room for closed boxes at the start.
+const CLOSED_ROOM: usize = 65_536;
+
+/// The cell with each place of each axis.
+pub(crate) fn whole<G: Goal>(goal: &G) -> Cell
+    ensures { spans_of result ≡ whole_cell (G.rule goal.now).axes }
+{
+    let axes = goal.axes();
+    let mut cell = Cell::point(&Tuple::first(axes));
+    for axis in 0..axes {
+        let span = Span {
+            lo: 0,
+            hi: goal.len(axis) - 1,
+        };
+        cell.set(axis as usize, span);
+    }
+    cell
+}
+
+/// Closes the last open cell. The only error is want of memory.
+fn close(cells: &mut Vec<Cell>, boxes: &mut Vec<Closed>, why: Why) -> Result<(), AllocError>
+    requires { 0 < vec_len cells.old }
+    ensures { OnOk result (Closes cells.old.items cells.new.items boxes.old.items boxes.new.items why) }
+{
+    if let Some(cell) = cells.pop() {
+        boxes.push(Closed { cell, why })?;
+    }
+    Ok(())
+}
+
+/// One step of the search at the last open cell: it is closed, or gives way to its halves, the lower one last. The only
+/// error is want of memory.
+fn advance<G: Goal>(
+    goal: &G,
+    best: &mut Option<Best>,
+    cells: &mut Vec<Cell>,
+    boxes: &mut Vec<Closed>,
+) -> Result<(), AllocError>
+    requires some { 0 < vec_len cells.old }
+    requires needed { All (λ cell. IsNeeded (G.rule goal.now) (spans_of cell)) cells.old.items }
+    requires sound { IsSound (G.rule goal.now) best.old }
+    ensures step { OnOk result (Advances (G.rule goal.now) (total_of best.new) cells.old.items cells.new.items boxes.old.items boxes.new.items) }
+    ensures sound { OnOk result (IsSound (G.rule goal.now) best.new) }
+    ensures grows { OnOk result (IsNoLess (total_of best.old) (total_of best.new)) }
+{
+    let top = cells.len() - 1;
+    match test(goal, &cells[top], best) {
+        Verdict::Closed(why) => close(cells, boxes, why)?,
+        Verdict::Open(bound) => match halve(&mut cells[top]) {
+            Some(lower) => cells.push(lower)?,
+            None => {
+                *best = Some(Best {
+                    total: bound,
+                    tuple: cells[top].lowest(),
+                });
+                close(cells, boxes, Why::Bound)?;
+            }
+        },
+    }
+    Ok(())
+}
+
+/// Goes on until no cell is open. The only error is want of memory.
+fn run<G: Goal>(
+    goal: &G,
+    best: &mut Option<Best>,
+    cells: &mut Vec<Cell>,
+    boxes: &mut Vec<Closed>,
+) -> Result<(), AllocError>
+    requires { IsUnderWay (G.rule goal.now) best.old cells.old.items boxes.old.items }
+    ensures { OnOk result (IsUnderWay (G.rule goal.now) best.new [] boxes.new.items) }
+{
+    while !cells.is_empty() {
+        advance(goal, best, cells, boxes)?;
+    }
+    Ok(())
+}
+
+/// The optimum of a goal, and boxes that certify it: in the order of the split tree they are a frontier of the whole cell,
+/// and each is closed for the total by its reason. `best` is `None` exactly where no tuple is legal. No cell is cut that is
+/// disordered or shut. The only error is want of memory.
+pub fn search_one<G: Goal>(alloc: Global, goal: &G) -> Result<Found, AllocError>
+    ensures certificate { IfOk result (λ found. IsCertificate (G.rule goal.now) (total_of found.best) (fixes_of (G.rule goal.now) found.best) (map box_of found.closed.items)) }
+    ensures reached { IfOk result (λ found. IsSound (G.rule goal.now) found.best) }
+    ensures optimum { IfOk result (λ found. IsOptimum (G.rule goal.now) (total_of found.best)) }
+    ensures none { IfOk result (λ found. IsNone found.best ↔ ((tuple : List ℕ) → IsLegal (G.rule goal.now) tuple → ⊥)) }
+    ensures needed { IfOk result (λ found. All (λ closed. IsNeeded (G.rule goal.now) (spans_of closed.cell)) found.closed.items) }
+{
+    let mut best = warm_start(alloc, goal)?;
+    let mut cells = Vec::with_capacity(alloc, OPEN_ROOM)?;
+    let mut boxes = Vec::with_capacity(alloc, CLOSED_ROOM)?;
+    cells.push(whole(goal))?;
+    run(goal, &mut best, &mut cells, &mut boxes)?;
+    Ok(Found {
+        best,
+        closed: boxes,
+    })
+}

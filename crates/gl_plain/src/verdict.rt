@@ -1,0 +1,59 @@
+ghost use Rattle.std.specs.Prelude.{◌≡◌};
+ghost use Rattle.gl_box.specs.Tuple.{places_of};
+ghost use Rattle.gl_box.specs.Cell.{Covers, spans_of};
+ghost use Rattle.gl_goal.specs.Rule.{IsTuple, whole_cell};
+ghost use Rattle.gl_plain.specs.Search.{IsSound, total_of};
+ghost use Rattle.gl_plain.specs.Verdict.{IsVerdict};
+
+use crate::found::Best;
+use gl_box::{Cell, Tuple, Why};
+use gl_goal::Goal;
+
+/// What a goal's tests say of a cell.
+pub(crate) enum Verdict {
+    /// Nothing in it has to be looked at any more.
+    Closed(Why),
+    /// It may hold a legal tuple that is worth this much, more than what was found.
+    Open(u64),
+}
+
+/// Tests a cell against what was found.
+pub(crate) fn test<G: Goal>(goal: &G, cell: &Cell, best: &Option<Best>) -> Verdict
+    requires { Covers (whole_cell (G.rule goal.now).axes) (spans_of cell.now) }
+    ensures { IsVerdict (G.rule goal.now) (total_of best.now) (spans_of cell.now) result }
+{
+    if goal.disordered(cell) {
+        return Verdict::Closed(Why::Disordered);
+    }
+    if goal.shut(cell) {
+        return Verdict::Closed(Why::Shut);
+    }
+    let bound = goal.bound(cell);
+    if let Some(known) = best
+        && bound <= known.total
+    {
+        return Verdict::Closed(Why::Bound);
+    }
+    Verdict::Open(bound)
+}
+
+/// Keeps a tuple where it is legal and worth more than what was found.
+pub(crate) fn consider<G: Goal>(goal: &G, tuple: &Tuple, best: &mut Option<Best>)
+    requires fits { IsTuple (G.rule goal.now).axes (places_of tuple.now) }
+    requires sound { IsSound (G.rule goal.now) best.old }
+    ensures { IsSound (G.rule goal.now) best.new }
+{
+    if !goal.legal(tuple) {
+        return;
+    }
+    let total = goal.value(tuple);
+    if let Some(known) = best
+        && total <= known.total
+    {
+        return;
+    }
+    *best = Some(Best {
+        total,
+        tuple: *tuple,
+    });
+}

@@ -1,0 +1,55 @@
+ghost use Rattle.std.specs.Prelude.{Contains, IfOk, IfSome};
+ghost use Rattle.gl_plain.specs.Search.{IsSound};
+
+use crate::climb::climb;
+use crate::found::{Best, beats, better};
+use crate::spaced::spaced_tuples;
+use gl_goal::Goal;
+use std::alloc::{AllocError, Global};
+
+/// Room for the cells of a dive.
+const CANDIDATE_ROOM: usize = 512;
+
+/// From how many tuples the search climbs over pairs of axes.
+const MOST_CLIMBS: u32 = 4;
+
+/// The best of some tuples that are worth less than the limit, if there is a limit.
+fn best_below(kept: &[Option<Best>], limit: Option<u64>) -> Option<Best>
+    ensures { IfSome result (λ found. Contains kept.now (Some found)) }
+{
+    let mut found = None;
+    for best in kept {
+        if let Some(best) = best
+            && limit.is_none_or(|limit| best.total < limit)
+            && beats(best.total, &found)
+        {
+            found = Some(*best);
+        }
+    }
+    found
+}
+
+/// A legal tuple of a goal and its value, a good one if there is one to be found soon, or none. The only error is want of
+/// memory.
+pub fn warm_start<G: Goal>(alloc: Global, goal: &G) -> Result<Option<Best>, AllocError>
+    ensures { IfOk result (λ best. IsSound (G.rule goal.now) best) }
+{
+    let mut kept = spaced_tuples(alloc, goal)?;
+    let mut candidates = Vec::with_capacity(alloc, CANDIDATE_ROOM)?;
+    for best in kept.iter_mut() {
+        climb(goal, best, 1, &mut candidates)?;
+    }
+    let mut greatest = None;
+    let mut limit = None;
+    for _ in 0..MOST_CLIMBS {
+        let Some(next) = best_below(&kept, limit) else {
+            break;
+        };
+        limit = Some(next.total);
+        let mut best = Some(next);
+        climb(goal, &mut best, 2, &mut candidates)?;
+        greatest = better(greatest, best);
+    }
+    climb(goal, &mut greatest, 3, &mut candidates)?;
+    Ok(greatest)
+}
