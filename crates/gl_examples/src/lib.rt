@@ -3,6 +3,8 @@
 #![tactic(auto)]
 
 #[cfg(test)]
+mod airspace;
+#[cfg(test)]
 mod desk;
 #[cfg(test)]
 mod drawn;
