@@ -17,7 +17,8 @@ struct Run {
     said: Result<(), DeskError>,
 }
 
-/// Lists the names, reads from the second byte of `given` on, appends to `made`, and says something.
+/// Lists the names, reads from the second byte of `given` on, appends to `made`, and says
+/// something.
 fn four_calls<D: Desk>(alloc: Global, desk: &mut D, given: &Name, made: &Name) -> Run
     requires { HasFile (D.told desk.old).folder given.now }
 {
@@ -114,7 +115,8 @@ fn entries<R: Files>(rt: &R, alloc: Global) -> io::Result<usize> {
     Ok(fs::read_dir(&(rt, alloc), ".")?.count())
 }
 
-/// The names that are listed where `unnamed` entries without a name come after those of the current folder.
+/// The names that are listed where `unnamed` entries without a name come after those of the current
+/// folder.
 fn listed<R: Files + Drop>(real: R, alloc: Global, unnamed: usize) -> Result<Vec<Name>, DeskError> {
     let mut system = OddSystem::new(real);
     system.unnamed = unnamed;
@@ -236,7 +238,8 @@ fn a_piece_is_said_in_parts(rt: HostRuntime) -> Result<(), Fail> {
     Ok(())
 }
 
-/// What a file holds to which a piece was appended by writes of at most `most` bytes, or why it wasn't.
+/// What a file holds to which a piece was appended by writes of at most `most` bytes, or why it
+/// wasn't.
 fn appended<R: Files + Drop>(
     real: R,
     alloc: Global,

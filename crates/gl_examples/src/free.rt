@@ -1,15 +1,12 @@
 use crate::setting::{Ended, NORTH, ORIGIN, recording, run};
 use gl_app::Status;
-use std::alloc::Global;
+use std::alloc::{AllocError, Global};
 use std::process::Abort;
 use std::test::Fail;
 
 /// The line for words that are of no form.
 const USAGE: &str =
     "usage: free FILE | triangle FILE | score TASK PROOF WORKERS | check TASK PROOF | replay FILE SCHEDULE WORKERS | demo NUMBER\n";
-
-/// What a recording is refused with that isn't plain.
-const NOT_PLAIN: &str = "REFUSED IGC 9 - A.IGC\n";
 
 /// What is said of a recording whose every choice stays at one fix.
 const NO_DISTANCE: &str = "FREE 0.00 m\nFIXES 0 0 0 0 0\n";
@@ -44,6 +41,15 @@ fn expect(
     Ok(())
 }
 
+/// Runs `free A.IGC` over the bytes, and wants a text that begins with this line.
+fn expect_total(rt: &impl Abort, alloc: Global, bytes: Vec<u8>, line: &str) -> Result<(), Fail> {
+    let ended = run(alloc, "free A.IGC", bytes, &[])?;
+    assert_eq!(rt; ended.status, Status::Done);
+    let said = ended.said.as_str();
+    assert!(rt; said.starts_with(line), "said {said}");
+    Ok(())
+}
+
 #[test]
 fn distances_of_one_and_of_five_fixes(rt: HostRuntime) -> Result<(), Fail> {
     let five = recording(rt.alloc(), &TO_AND_FRO)?;
@@ -62,8 +68,8 @@ fn expect_flight(
     expect(rt, alloc, recording(alloc, fixes)?, Status::Done, text)
 }
 
-/// Flights between places drawn from the whole globe, with their greatest distances by an independent program, which
-/// tries every choice in whole numbers without width.
+/// Flights between places drawn from the whole globe, with their greatest distances by an
+/// independent program, which tries every choice in whole numbers without width.
 #[test]
 fn wandering_flights(rt: HostRuntime) -> Result<(), Fail> {
     let first = [
@@ -140,67 +146,114 @@ fn a_loss_of_a_thousand_metres_is_allowed_and_no_more(rt: HostRuntime) -> Result
     Ok(())
 }
 
+/// To and fro between two places a degree apart, forty times: any four legs of a degree do.
 #[test]
-fn forty_fixes_read_and_forty_one_do_not(rt: HostRuntime) -> Result<(), Fail> {
-    let cases = [
-        (40, Status::Done, NO_DISTANCE),
-        (41, Status::Refused, NOT_PLAIN),
-    ];
-    for (count, status, text) in cases {
-        let fixes = vec![in rt.alloc(); (ORIGIN, "01000"); count]?;
-        let bytes = recording(rt.alloc(), &fixes)?;
-        expect(&rt, rt.alloc(), bytes, status, text)?;
+fn forty_one_fixes(rt: HostRuntime) -> Result<(), Fail> {
+    let mut fixes = Vec::new(rt.alloc());
+    for number in 0..41 {
+        let place = if number % 2 == 0 { ORIGIN } else { NORTH };
+        fixes.push((place, "01000"))?;
     }
-    Ok(())
+    let bytes = recording(rt.alloc(), &fixes)?;
+    expect_total(&rt, rt.alloc(), bytes, "FREE 444779.68 m\n")
 }
 
+/// A recording that never leaves one place, one that jumps across 180 degrees and over a pole, and
+/// altitudes at both ends of their range.
 #[test]
-fn texts_that_are_no_plain_recordings(rt: HostRuntime) -> Result<(), Fail> {
+fn odd_flights(rt: HostRuntime) -> Result<(), Fail> {
+    let still = vec![in rt.alloc(); (NORTH, "01000"); 600]?;
+    let across = [
+        ("0000000N17959000E", "01000"),
+        ("0000000N17959000W", "01000"),
+        ("8959000N00000000E", "01000"),
+        ("8959000N18000000E", "01000"),
+    ];
+    let steep = [(ORIGIN, "32767"), (NORTH, "-9999"), (ORIGIN, "31767")];
+    let still = recording(rt.alloc(), &still)?;
+    expect_total(&rt, rt.alloc(), still, "FREE 0.00 m\n")?;
+    let across = recording(rt.alloc(), &across)?;
+    expect_total(&rt, rt.alloc(), across, "FREE 9989224.61 m\n")?;
+    let steep = recording(rt.alloc(), &steep)?;
+    expect_total(&rt, rt.alloc(), steep, "FREE 222389.84 m\n")
+}
+
+/// A text and what it is refused for.
+#[test]
+fn texts_that_are_no_recordings(rt: HostRuntime) -> Result<(), Fail> {
+    let not_igc = "REFUSED IGC 1 - A.IGC\n";
+    let no_date = "REFUSED IGC 2 - A.IGC\n";
+    let no_fix = "REFUSED IGC 5 - A.IGC\n";
     let texts = [
-        "",
+        ("", not_igc),
+        ("\n\r\n\n", not_igc),
+        ("\nHFDTE010724\n", not_igc),
+        (
+            "XXXXABC\nHFDTE010724\nB1000000000000N00000000EA0100001000\n",
+            not_igc,
+        ),
         // the calendar has no 31 June, and no 29 February 2023
-        "AXXXABC\nHFDTE310624\nB1000000000000N00000000EA0100001000\n",
-        "AXXXABC\nHFDTE290223\nB1000000000000N00000000EA0100001000\n",
-        "AXXXABC\nHFDTE010724 \nB1000000000000N00000000EA0100001000\n",
-        "AXXXABC\nHFDTEDATE:010724,01\nB1000000000000N00000000EA0100001000\n",
-        "XXXXABC\nHFDTE010724\nB1000000000000N00000000EA0100001000\n",
-        "AXXXABC\nHFDTE010724\n",
-        "AXXXABC\nHFDTE010724\n\n",
-        "AXXXABC\nHFDTE010724\nLXXX\n",
-        "AXXXABC\nHFDTE010724\nB1000000000000N00000000EV0100001000\n",
-        "AXXXABC\nHFDTE010724\nB1000000000000N00000000EA01000010000\n",
-        "AXXXABC\nHFDTE010724\nB2400000000000N00000000EA0100001000\n",
-        "AXXXABC\nHFDTE010724\nB1060000000000N00000000EA0100001000\n",
-        "AXXXABC\nHFDTE010724\nB1000600000000N00000000EA0100001000\n",
-        "AXXXABC\nHFDTE010724\nB1000000060000N00000000EA0100001000\n",
-        "AXXXABC\nHFDTE010724\nB1000009000001N00000000EA0100001000\n",
-        "AXXXABC\nHFDTE010724\nB1000000000000X00000000EA0100001000\n",
-        "AXXXABC\nHFDTE010724\nB1000000000000N18000001EA0100001000\n",
-        "AXXXABC\nHFDTE010724\nB1000000000000N00000000EA0x00001000\n",
-        "AXXXABC\nHFDTE010724\nB1000000000000N00000000EA0100032768\n",
-        // the second fix isn't later than the first
-        "AXXXABC\nHFDTE010724\nB1000000000000N00000000EA0100001000\nB1000000000000N00000000EA0100001000\n",
+        (
+            "AXXXABC\nHFDTE310624\nB1000000000000N00000000EA0100001000\n",
+            no_date,
+        ),
+        (
+            "AXXXABC\nHFDTE290223\nB1000000000000N00000000EA0100001000\n",
+            no_date,
+        ),
+        ("AXXXABC\nB1000000000000N00000000EA0100001000\n", no_date),
+        ("AXXXABC\nHFDTE010724\n", no_fix),
+        ("AXXXABC\nHFDTE010724\nLXXX\n", no_fix),
+        (
+            "AXXXABC\nHFDTE010724\nB1000000000000N00000000EV0100001000\n",
+            no_fix,
+        ),
+        (
+            "AXXXABC\nHFDTE010724\nB2400000000000N00000000EA0100001000\n",
+            no_fix,
+        ),
     ];
-    for text in texts {
+    for (text, refusal) in texts {
         let bytes = Vec::from_slice(rt.alloc(), text.as_bytes())?;
-        expect(&rt, rt.alloc(), bytes, Status::Refused, NOT_PLAIN)?;
+        expect(&rt, rt.alloc(), bytes, Status::Refused, refusal)?;
     }
     Ok(())
 }
 
 #[test]
-fn plain_recordings_at_the_bounds(rt: HostRuntime) -> Result<(), Fail> {
+fn recordings_at_the_bounds(rt: HostRuntime) -> Result<(), Fail> {
     let texts = [
         "A\nHFDTE290224\nB2359590000000N00000000EA0100001000",
         "A\r\nHFDTE311299\r\nB1000009000000N00000000EA0100032767\r\n",
         "AXXXABC\nHFDTE010100\nB1000009000000S18000000WA-0001-9999\r",
-        "AXXXABC\nHFDTE010724\nB1000000059999N00059999EA9999900000\n",
+        "AXXXABC\nB1000000059999N00059999EA9999900000GARBLED\n\nHFDTEDATE:010724,01\nGAB\n",
     ];
     for text in texts {
         let bytes = Vec::from_slice(rt.alloc(), text.as_bytes())?;
         expect(&rt, rt.alloc(), bytes, Status::Done, NO_DISTANCE)?;
     }
     Ok(())
+}
+
+/// A recording of fixes a second apart from midnight on, across the next one, at one place.
+fn long_recording(alloc: Global, fixes: u32) -> Result<Vec<u8>, AllocError> {
+    let mut text = Vec::from_slice(alloc, b"AXXXABC\nHFDTE010724\n")?;
+    for second in 0..fixes {
+        let time = second % 86_400;
+        let (hour, minute, second) = (time / 3_600, time / 60 % 60, time % 60);
+        let line = format!(in alloc; "B{hour:02}{minute:02}{second:02}{ORIGIN}A0100001000\n")?;
+        text.extend_from_slice(line.as_bytes())?;
+    }
+    Ok(text)
+}
+
+#[test]
+fn ninety_thousand_fixes_and_one_more(rt: HostRuntime) -> Result<(), Fail> {
+    let many = long_recording(rt.alloc(), 90_000)?;
+    expect_total(&rt, rt.alloc(), many, "FREE 0.00 m\n")?;
+    let too_many = long_recording(rt.alloc(), 90_001)?;
+    let refusal = "REFUSED IGC 4 90003 A.IGC\n";
+    expect(&rt, rt.alloc(), too_many, Status::Refused, refusal)
 }
 
 #[test]
@@ -234,7 +287,7 @@ fn files_that_are_missing_or_too_large(rt: HostRuntime) -> Result<(), Fail> {
     let cases = [
         ("free NONE.IGC", 5, "REFUSED FILE 1 - NONE.IGC\n"),
         ("free A.IGC", 16_777_217, "REFUSED FILE 3 - A.IGC\n"),
-        ("free A.IGC", 16_777_216, NOT_PLAIN),
+        ("free A.IGC", 16_777_216, "REFUSED IGC 2 - A.IGC\n"),
     ];
     for (line, size, text) in cases {
         let bytes = vec![in rt.alloc(); b'A'; size]?;
@@ -245,8 +298,8 @@ fn files_that_are_missing_or_too_large(rt: HostRuntime) -> Result<(), Fail> {
     Ok(())
 }
 
-/// The run lists the names, reads twice and says once, so its fifth call is the first that it doesn't make. The text has
-/// 33 bytes, of which a failing call says 16.
+/// The run lists the names, reads twice and says once, so its fifth call is the first that it
+/// doesn't make. The text has 33 bytes, of which a failing call says 16.
 #[test]
 fn each_call_of_the_desk_fails_in_turn(rt: HostRuntime) -> Result<(), Fail> {
     let cases = [

@@ -1,15 +1,17 @@
-//! Worked examples: whole runs of the commands over folders in memory, with the answers that were computed by hand, and
-//! runs of the desks.
+//! Worked examples: whole runs of the commands over folders in memory, with the answers that were
+//! computed by hand, and runs of the desks.
 #![tactic(auto)]
 
 #[cfg(test)]
+mod airspace;
+#[cfg(test)]
 mod desk;
+#[cfg(test)]
+mod drawn;
 #[cfg(test)]
 mod free;
 #[cfg(test)]
 mod setting;
-#[cfg(test)]
-mod shared;
 #[cfg(test)]
 mod status;
 #[cfg(test)]

@@ -20,7 +20,8 @@ fn words(alloc: Global, line: &str) -> Result<Vec<Name>, AllocError> {
     Ok(names)
 }
 
-/// A recording of 1 July 2024 with one fix a minute from 10:00:00 on, each a place and five digits of altitude.
+/// A recording of 1 July 2024 with one fix a minute from 10:00:00 on, each a place and five digits
+/// of altitude.
 pub fn recording(alloc: Global, fixes: &[(&str, &str)]) -> Result<Vec<u8>, AllocError> {
     let mut text = Vec::from_slice(alloc, b"AXXXABC\nHFDTE010724\n")?;
     for (minute, (place, altitude)) in fixes.iter().enumerate() {

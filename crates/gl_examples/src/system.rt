@@ -63,7 +63,8 @@ fn check(broken: Broken, part: Broken, kind: ErrorKind) -> io::Result<()> {
     Ok(())
 }
 
-/// What a listing has behind the real entries: names that aren't UTF-8, each ended by a zero, and then perhaps an error.
+/// What a listing has behind the real entries: names that aren't UTF-8, each ended by a zero, and
+/// then perhaps an error.
 #[derive(Drop)]
 pub struct Unnamed {
     left: usize,

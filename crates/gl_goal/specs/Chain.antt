@@ -44,4 +44,5 @@ points_of fixes = map (λ fix. fix.at) fixes
 abbrev pub hulls_of : List Fix → List (List ℕ) → List (ℕ × ℕ) → List Box
 hulls_of fixes [] spans = []
 hulls_of fixes (axis ∷ axes) [] = []
-hulls_of fixes (axis ∷ axes) (span ∷ spans) = hull_of (fixes_in (fixes_at fixes axis) span) ∷ hulls_of fixes axes spans
+hulls_of fixes (axis ∷ axes) (span ∷ spans) =
+    hull_of (fixes_in (fixes_at fixes axis) span) ∷ hulls_of fixes axes spans

@@ -30,6 +30,10 @@ numbers_from first (suc count) = first ∷ numbers_from (suc first) count
 abbrev pub numbers_between : ℕ → ℕ → List ℕ
 numbers_between first last = numbers_from first (suc (last - first))
 
+-- the fixes from the first to the last number
+abbrev pub fixes_between : List Fix → ℕ → ℕ → List Fix
+fixes_between fixes first last = fixes_at fixes (numbers_between first last)
+
 -- five axes, each with the numbers from the first to the last
 abbrev pub five_axes : ℕ → ℕ → List (List ℕ)
 five_axes first last =

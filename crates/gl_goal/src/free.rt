@@ -1,7 +1,6 @@
 ghost use Rattle.std.specs.Prelude.{◌≡◌, ◌<◌, ◌≤◌, ◌≤ℤ◌, pos, length};
 ghost use Rattle.std.specs.Coded.{Coded-set};
-ghost use Rattle.gl_goal.specs.Chain.{fixes_at};
-ghost use Rattle.gl_goal.specs.Free.{numbers_between};
+ghost use Rattle.gl_goal.specs.Free.{fixes_between};
 
 use gl_hull::Hulls;
 use gl_igc::Fix;
@@ -19,5 +18,5 @@ pub struct FreeGoal {
     pub ghost within: { last < length fixes.items },
     pub ghost at_most_90000: { length fixes.items ≤ 90_000 },
     pub ghost loss_from_zero: { pos 0 ≤ℤ loss },
-    pub ghost hulled: { hulls ≡ fixes_at fixes.items (numbers_between first last) } by { Coded-set hulls-code hulls (fixes_at fixes.items (numbers_between first last)) },
+    pub ghost hulled: { hulls ≡ fixes_between fixes.items first last } by { Coded-set hulls-code hulls (fixes_between fixes.items first last) },
 }

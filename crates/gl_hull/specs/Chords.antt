@@ -19,11 +19,13 @@ squared n = n * n
 
 -- the greatest squared chord of two points, one in each box
 unfoldable pub greatest_chord : Box → Box → ℕ
-greatest_chord one other = squared (reach one.x other.x) + squared (reach one.y other.y) + squared (reach one.z other.z)
+greatest_chord one other =
+    squared (reach one.x other.x) + squared (reach one.y other.y) + squared (reach one.z other.z)
 
 -- the least squared chord
 unfoldable pub least_chord : Box → Box → ℕ
-least_chord one other = squared (gap one.x other.x) + squared (gap one.y other.y) + squared (gap one.z other.z)
+least_chord one other =
+    squared (gap one.x other.x) + squared (gap one.y other.y) + squared (gap one.z other.z)
 
 -- two points, one in each box, have this squared chord
 pub record IsChord (one other : Box) (chord : ℕ) : Type 0 where
@@ -36,9 +38,9 @@ pub record IsChord (one other : Box) (chord : ℕ) : Type 0 where
 -- two points have this squared chord, and no two have a greater one
 pub record IsGreatestChord (one other : Box) (chord : ℕ) : Type 0 where
   pub reached : IsChord one other chord
-  pub greatest : (from to : Vec3) → IsInside one from → IsInside other to → squared_chord from to ≤ chord
+  pub greatest : (a b : Vec3) → IsInside one a → IsInside other b → squared_chord a b ≤ chord
 
 -- two points have this squared chord, and no two have a lesser one
 pub record IsLeastChord (one other : Box) (chord : ℕ) : Type 0 where
   pub reached : IsChord one other chord
-  pub least : (from to : Vec3) → IsInside one from → IsInside other to → chord ≤ squared_chord from to
+  pub least : (a b : Vec3) → IsInside one a → IsInside other b → chord ≤ squared_chord a b

@@ -21,9 +21,8 @@ pub struct Hull {
 }
 
 impl Hull {
-    ghost use Rattle.std.specs.Prelude.{◌≡◌, [], ◌∷◌, ◌++◌, List};
-    ghost use Rattle.gl_igc.specs.declared.fix.Fix.{Fix};
-    ghost use Rattle.gl_hull.specs.Box.{IsLeastBox, point_box};
+    ghost use Rattle.std.specs.Prelude.{◌≡◌, [], ◌∷◌};
+    ghost use Rattle.gl_hull.specs.Box.{IsLeastBox, Joins, point_box};
     ghost use Rattle.gl_hull.specs.Hull.{box_of};
 
     /// The hull of a single point, at altitude 0.
@@ -52,7 +51,7 @@ impl Hull {
 
     /// The least hull that holds both.
     pub(crate) fn join(&self, other: &Hull) -> Hull
-        ensures { (fixes more : List Fix) → IsLeastBox (box_of self.now) fixes → IsLeastBox (box_of other.now) more → IsLeastBox (box_of result) (fixes ++ more) }
+        ensures { Joins (box_of self.now) (box_of other.now) (box_of result) }
     {
         Hull {
             lo: lower(self.lo, other.lo),

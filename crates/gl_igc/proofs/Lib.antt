@@ -2,6 +2,7 @@ pub mod Calendar
 pub mod DeclarationLemmas
 pub mod FinishLemmas
 pub mod GroupLemmas
+pub mod LawLemmas
 pub mod ProgressLemmas
 pub mod ReaderLemmas
 pub mod SecondsLemmas

@@ -1,12 +1,14 @@
 -- The answer for the lines of a whole text.
-use Rattle.std.proofs.Common.{◌≡◌, ◌≢◌, ◌∙◌, sym, ap, ℕ, ℤ, List, [], ◌++◌, drop, append-nil, Option}
-use Rattle.std.specs.Prelude.{Ok, Err, Result, MatchResult, IfOk, IfErr}
+use Rattle.std.proofs.Common.{◌≡◌, ◌≢◌, ◌∙◌, sym, ap, subst, ℕ, ℤ, List, [], ◌++◌, drop, append-nil, Option}
+use Rattle.std.specs.Prelude.{Ok, Err, Result, MatchResult, IfOk, IfErr, map}
 use Rattle.gl_text.specs.Lines.{lines_of}
 use Rattle.gl_igc.specs.Reading.{recording_of, recording_of_lines}
-use Rattle.gl_igc.specs.Recording.{reading_of}
+use Rattle.gl_igc.specs.Laws.{AreOfLines}
+use Rattle.gl_igc.specs.Recording.{reading_of, sighting_of}
 use Rattle.gl_igc.specs.declared.error.IgcError.{IgcError}
 use Rattle.gl_igc.specs.declared.error.IgcError.TheVariants.{Memory}
 use Rattle.gl_igc.specs.declared.recording.Recording.{Recording}
+use Rattle.gl_igc.proofs.LawLemmas.{fixes_are_seen}
 
 abbrev pub Lines : Type 0
 Lines = List (List ℕ)
@@ -29,3 +31,8 @@ pub answer_refused : (text : List ℕ) (task_day : Option ℤ) (lines : Lines) (
 unfolding recording_of
 answer_refused text task_day lines (Ok recording) same is = tt
 answer_refused text task_day lines (Err e) same is = λ _. ap (λ (lines : Lines). recording_of_lines lines task_day) (sym same) ∙ is
+
+pub answer_seen : (text : List ℕ) (task_day : Option ℤ) (lines : Lines) (result : Result Recording IgcError) → lines ≡ lines_of text → IsAnswer lines task_day result → IfOk result (λ recording. AreOfLines (lines_of text) (map sighting_of recording.fixes))
+answer_seen text task_day lines (Ok recording) same is =
+    subst (λ (lines : Lines). AreOfLines lines (map sighting_of recording.fixes)) same (fixes_are_seen lines task_day (reading_of recording) is)
+answer_seen text task_day lines (Err e) same is = tt

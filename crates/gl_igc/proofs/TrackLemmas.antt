@@ -14,7 +14,7 @@ use Rattle.std.proofs.Math.Seq.{get_or-append_seam}
 use Rattle.gl_igc.specs.Columns.{day}
 use Rattle.gl_igc.specs.Extension.{Extension, no_extension}
 use Rattle.gl_igc.specs.FixLine.{Observation, is_fix_line, observation_of}
-use Rattle.gl_igc.specs.Parts.{IsTrackOf, own_sighting, extension_view, observation_view}
+use Rattle.gl_igc.specs.Parts.{IsTrackOf, own_sighting, extension_view, observation_view, extension_held}
 use Rattle.gl_igc.specs.Reading.{capped, most_fixes}
 use Rattle.gl_igc.specs.Recording.{sighting_of}
 use Rattle.gl_igc.specs.UsedFixes.{UsedFix, last_own, own_second, may_follow, with_line, seconds_limit}
@@ -164,20 +164,16 @@ some_is : (o : Option ℕ) → is_some o ≡ true → (n : ℕ) × (o ≡ Some n
 some_is None some = absurd (false≢true some)
 some_is (Some n) some = (n, refl)
 
--- the fields that hold below some lines, as the code keeps them
-abbrev pub held : Option Fields → Extension
-held fields = unwrap_or (option_map extension_view fields) no_extension
-
 -- past the limit, a line more
-pub take-past : (used : List UsedFix) (lines number : ℕ) (fields : Option Fields) (line : List ℕ) (track : Track) → is_some track.excess ≡ true → IsTrackOf used lines track → IsTrackOf (with_line number (observation_of (held fields) line) used) (lines + (if is_fix_line line then 1 else 0)) track
+pub take-past : (used : List UsedFix) (lines number : ℕ) (fields : Option Fields) (line : List ℕ) (track : Track) → is_some track.excess ≡ true → IsTrackOf used lines track → IsTrackOf (with_line number (observation_of (extension_held fields) line) used) (lines + (if is_fix_line line then 1 else 0)) track
 take-past used lines number fields line track past of =
     let (n, is) = some_is track.excess past in
-    track-stays used lines number (if is_fix_line line then 1 else 0) (observation_of (held fields) line) track n is of
+    track-stays used lines number (if is_fix_line line then 1 else 0) (observation_of (extension_held fields) line) track n is of
 
 -- a line that is no B line
-pub take-other : (used : List UsedFix) (lines number : ℕ) (fields : Option Fields) (line : List ℕ) (track : Track) → is_fix_line line ≡ false → IsTrackOf used lines track → IsTrackOf (with_line number (observation_of (held fields) line) used) (lines + (if is_fix_line line then 1 else 0)) track
+pub take-other : (used : List UsedFix) (lines number : ℕ) (fields : Option Fields) (line : List ℕ) (track : Track) → is_fix_line line ≡ false → IsTrackOf used lines track → IsTrackOf (with_line number (observation_of (extension_held fields) line) used) (lines + (if is_fix_line line then 1 else 0)) track
 take-other used lines number fields line track other of =
-    let none = observation_of-other (held fields) line other in
+    let none = observation_of-other (extension_held fields) line other in
     let same : lines + 0 ≡ lines = omega arith in
     rw (other, none, with_line-none, same) of
 
@@ -186,7 +182,7 @@ empty_other [] empty = refl
 empty_other (c ∷ cs) empty = absurd (omega arith)
 
 -- a B line
-pub take-line : (used : List UsedFix) (lines number : ℕ) (fields : Option Fields) (line : List ℕ) (seen : Option Observation) (track : Track) → is_fix_line line ≡ true → seen ≡ observation_of (held fields) line → IsTrackOf (with_line number seen used) (lines + 1) track → IsTrackOf (with_line number (observation_of (held fields) line) used) (lines + (if is_fix_line line then 1 else 0)) track
+pub take-line : (used : List UsedFix) (lines number : ℕ) (fields : Option Fields) (line : List ℕ) (seen : Option Observation) (track : Track) → is_fix_line line ≡ true → seen ≡ observation_of (extension_held fields) line → IsTrackOf (with_line number seen used) (lines + 1) track → IsTrackOf (with_line number (observation_of (extension_held fields) line) used) (lines + (if is_fix_line line then 1 else 0)) track
 take-line used lines number fields line seen track is_b same of =
     rw is_b (subst (λ (seen : Option Observation). IsTrackOf (with_line number seen used) (lines + 1) track) same of)
 
@@ -195,6 +191,6 @@ on_ok (Ok x) f h = f h
 on_ok (Err e) f h = h
 
 -- what the code reads is what the definition reads
-pub take-sees : (fields : Option Fields) (none merged : Fields) (line : List ℕ) (read : Option Seen) → extension_view none ≡ no_extension → merged ≡ unwrap_or fields none → option_map observation_view read ≡ observation_of (extension_view merged) line → option_map observation_view read ≡ observation_of (held fields) line
+pub take-sees : (fields : Option Fields) (none merged : Fields) (line : List ℕ) (read : Option Seen) → extension_view none ≡ no_extension → merged ≡ unwrap_or fields none → option_map observation_view read ≡ observation_of (extension_view merged) line → option_map observation_view read ≡ observation_of (extension_held fields) line
 take-sees fields none merged line read empty is_merged reads =
     reads ∙ ap (λ (fields : Extension). observation_of fields line) (ap extension_view is_merged ∙ fields_view fields none empty)

@@ -16,10 +16,12 @@ time_of_day line = do
   hours ← number_of (columns 2 3 line)
   minutes ← number_of (columns 4 5 line)
   seconds ← number_of (columns 6 7 line)
-  if nat_le hours 23 && nat_le minutes 59 && nat_le seconds 59 then Some (3600 * hours + 60 * minutes + seconds) else None
+  if nat_le hours 23 && nat_le minutes 59 && nat_le seconds 59
+      then Some (3600 * hours + 60 * minutes + seconds) else None
 
 -- an altitude in metres of five columns: five digits, or a minus sign and four digits
 unfoldable pub altitude_of : List ℕ → Option ℤ
 altitude_of [] = None
 altitude_of (c ∷ cs) =
-    if c == byte "-" then (number_of cs >>= λ n. Some (neg_ℤ (pos n))) else (number_of (c ∷ cs) >>= λ n. Some (pos n))
+    if c == byte "-" then (number_of cs >>= λ n. Some (neg_ℤ (pos n)))
+    else (number_of (c ∷ cs) >>= λ n. Some (pos n))

@@ -24,15 +24,17 @@ pub record Extension : Type 0 where
 abbrev pub first_free_column : ℕ
 first_free_column = 36
 
--- the group that a text begins with: two digits start, two digits finish, three letters; none where it is cut, a digit
--- is wanting, the start is below 36 or the finish below the start
+-- the group that a text begins with: two digits start, two digits finish, three letters; none where
+-- it is cut, a digit is wanting, the start is below 36 or the finish below the start
 unfoldable pub group_of : List ℕ → Option Group
 group_of text =
     if nat_le 7 (length text) then
     (do
       start ← number_of (columns 1 2 text)
       finish ← number_of (columns 3 4 text)
-      if nat_le first_free_column start && nat_le start finish then Some (record { code = columns 5 7 text; span = record { start = start; finish = finish } }) else None)
+      let span : Span = record { start = start; finish = finish } in
+          if nat_le first_free_column start && nat_le start finish
+          then Some (record { code = columns 5 7 text; span = span }) else None)
     else None
 
 -- the first n groups of a text
@@ -46,7 +48,8 @@ groups_of (suc n) text = do
 -- the columns of the first group with this code
 abbrev pub span_of : List ℕ → List Group → Option Span
 span_of code [] = None
-span_of code (group ∷ groups) = if starts_with nat_eq group.code code then Some group.span else span_of code groups
+span_of code (group ∷ groups) =
+    if starts_with nat_eq group.code code then Some group.span else span_of code groups
 
 -- the fields of some groups
 abbrev pub extension_of : List Group → Extension

@@ -10,7 +10,8 @@ use Rattle.gl_sphere.specs.PlaceText.{latitude_of, longitude_of}
 use Rattle.gl_igc.specs.Columns.{time_of_day, altitude_of}
 use Rattle.gl_igc.specs.Extension.{Span, Extension}
 
--- what a B line says: its second of the day, its place in 1/100,000 minute, its altitude in metres and its engine noise
+-- what a B line says: its second of the day, its place in 1/100,000 minute, its altitude in metres
+-- and its engine noise
 pub record Observation : Type 0 where
   pub time : ℕ
   pub lat : ℤ
@@ -29,11 +30,15 @@ is_fix_line line = slice_index line 0 == byte "B"
 unfoldable pub field_digits : Option Span → List ℕ → Option (List ℕ)
 field_digits None line = None
 field_digits (Some span) line =
-    if nat_le span.finish (length line) && list_all is_ascii_digit (columns span.start span.finish line) then Some (columns span.start span.finish line) else None
+    let field = columns span.start span.finish line in
+    if nat_le span.finish (length line) && list_all is_ascii_digit field then Some field else None
 
--- the decimals of a field of LAD or LOD: its first two digits, of which one counts ten times; 0 without a field
+-- the decimals of a field of LAD or LOD: its first two digits, of which one counts ten times; 0
+-- without a field
 unfoldable pub decimals_of : Option Span → List ℕ → ℕ
-decimals_of span line = option_map_or (λ digits. digits_value 10 (take 2 (digits ++ codes "0"))) (field_digits span line) 0
+decimals_of span line =
+    let value : List ℕ → ℕ = λ digits. digits_value 10 (take 2 (digits ++ codes "0")) in
+    option_map_or value (field_digits span line) 0
 
 -- the engine noise, which has three digits
 unfoldable pub noise_of : Option Span → List ℕ → Option ℕ
@@ -41,7 +46,8 @@ noise_of span line = do
   digits ← field_digits span line
   if length digits == 3 then number_of digits else None
 
--- what an undamaged B line with validity A says; none of any other line. Its pressure altitude has to read and isn't kept.
+-- what an undamaged B line with validity A says; none of any other line. Its pressure altitude has
+-- to read and isn't kept.
 unfoldable pub observation_of : Extension → List ℕ → Option Observation
 observation_of extension line =
     if nat_le 35 (length line) && is_fix_line line && (slice_index line 24 == byte "A") then
@@ -51,5 +57,7 @@ observation_of extension line =
       lon ← longitude_of (decimals_of extension.lod line) (columns 16 24 line)
       pressure ← altitude_of (columns 26 30 line)
       alt ← altitude_of (columns 31 35 line)
-      if int_le alt highest then Some (record { time = time; lat = lat; lon = lon; alt = alt; enl = noise_of extension.enl line }) else None)
+      let enl = noise_of extension.enl line in
+          if int_le alt highest
+          then Some (record { time = time; lat = lat; lon = lon; alt = alt; enl = enl }) else None)
     else None

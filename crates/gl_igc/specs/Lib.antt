@@ -4,6 +4,7 @@ pub mod Declaration
 pub mod Extension
 pub mod FirstOf
 pub mod FixLine
+pub mod Laws
 pub mod Parts
 pub mod Progress
 pub mod Reading

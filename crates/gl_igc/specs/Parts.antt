@@ -1,11 +1,11 @@
 -- What the parts of the code that reads a recording stand for, as plain data.
-use Rattle.std.specs.Prelude.{◌≡◌, ℕ, ◌-◌, ◌≤◌, nat_eq, codes, if◌then◌else◌, List, [], ◌∷◌, ◌++◌, length, map, take, reverse, slice_get, Option, None, Some, option_map, ℤ, pos, ◌+ℤ◌}
+use Rattle.std.specs.Prelude.{◌≡◌, ℕ, ◌-◌, ◌≤◌, nat_eq, codes, if◌then◌else◌, List, [], ◌∷◌, ◌++◌, length, map, take, reverse, slice_get, Option, None, Some, option_map, unwrap_or, ℤ, pos, ◌+ℤ◌}
 use Rattle.std.specs.List.{starts_with}
 use Rattle.std.specs.Option.{option_or}
 use Rattle.gl_sphere.specs.PlaceText.{place_of}
 use Rattle.gl_sphere.specs.declared.place.Grid.{Grid}
 use Rattle.gl_igc.specs.Declaration.{declared_by, declared_count, places_of}
-use Rattle.gl_igc.specs.Extension.{Span, Group, Extension}
+use Rattle.gl_igc.specs.Extension.{Span, Group, Extension, no_extension}
 use Rattle.gl_igc.specs.FixLine.{Observation}
 use Rattle.gl_igc.specs.Reading.{Sighting, capped, most_fixes}
 use Rattle.gl_igc.specs.Recording.{sighting_of}
@@ -28,8 +28,18 @@ extension_view fields = record {
   enl = option_map span_view fields.enl;
 }
 
+-- the fields that hold, where the code keeps those of the first undamaged I line
+abbrev pub extension_held : Option Fields → Extension
+extension_held fields = unwrap_or (option_map extension_view fields) no_extension
+
 abbrev pub observation_view : Seen → Observation
-observation_view seen = record { time = seen.time; lat = seen.grid.lat; lon = seen.grid.lon; alt = seen.alt; enl = seen.enl }
+observation_view seen = record {
+  time = seen.time;
+  lat = seen.grid.lat;
+  lon = seen.grid.lon;
+  alt = seen.alt;
+  enl = seen.enl;
+}
 
 -- the columns of a group where it has the code
 abbrev pub span_if : List ℕ → Group → Option Span
@@ -43,15 +53,19 @@ with_group fields group = record {
   enl = option_or fields.enl (span_if (codes "ENL") group);
 }
 
+-- what a B line says, with an own second
+abbrev pub sighting_at_own : ℕ → Observation → Sighting
+sighting_at_own own seen = record {
+  second = pos own;
+  lat = seen.lat;
+  lon = seen.lon;
+  alt = seen.alt;
+  enl = seen.enl;
+}
+
 -- a used fix with its own second
 abbrev pub own_sighting : UsedFix → Sighting
-own_sighting fix = record {
-  second = pos fix.own;
-  lat = fix.seen.lat;
-  lon = fix.seen.lon;
-  alt = fix.seen.alt;
-  enl = fix.seen.enl;
-}
+own_sighting fix = sighting_at_own fix.own fix.seen
 
 -- a sighting with its second moved
 abbrev pub shifted : ℤ → Sighting → Sighting
@@ -64,12 +78,15 @@ pub record IsKept (used : List UsedFix) (lines : ℕ) (track : Track) : Type 0 w
   pub skipped : track.skipped ≡ capped (lines - length used)
   pub within : length used ≤ lines
 
--- The track stands for these used fixes: it keeps them, unless there is one past the limit, of which it keeps the line.
+-- The track stands for these used fixes: it keeps them, unless there is one past the limit, of
+-- which it keeps the line.
 pub record IsTrackOf (used : List UsedFix) (lines : ℕ) (track : Track) : Type 0 where
-  pub excess : track.excess ≡ option_map (λ fix. capped fix.line) (slice_get (reverse used) most_fixes)
+  pub excess : track.excess
+      ≡ option_map (λ fix. capped fix.line) (slice_get (reverse used) most_fixes)
   pub kept : track.excess ≡ None → IsKept used lines track
 
--- The heading of these C lines declares so many places, and these points are those of the lines after it that count so far.
+-- The heading of these C lines declares so many places, and these points are those of the lines
+-- after it that count so far.
 pub record IsRead (count : ℕ) (lines : List (List ℕ)) (points : List Grid) : Type 0 where
   pub heading : List ℕ
   pub rest : List (List ℕ)

@@ -11,7 +11,8 @@ use Rattle.gl_igc.specs.UsedFixes.{UsedFix, used_fixes, event_seconds}
 use Rattle.gl_igc.specs.declared.error.IgcError.{IgcError}
 use Rattle.gl_igc.specs.declared.error.IgcError.TheVariants.{NotIgc, NoDate, WrongDay, TooManyFixes, NoFix}
 
--- what a fix says: its second, its place in 1/100,000 minute, its altitude in metres and its engine noise
+-- what a fix says: its second, its place in 1/100,000 minute, its altitude in metres and its engine
+-- noise
 pub record Sighting : Type 0 where
   pub second : ℤ
   pub lat : ℤ
@@ -19,8 +20,8 @@ pub record Sighting : Type 0 where
   pub alt : ℤ
   pub enl : Option ℕ
 
--- what a recording says: its day number from 1970-01-01, its fixes, the seconds of its events, the places that it
--- declares and how many B lines gave no fix
+-- what a recording says: its day number from 1970-01-01, its fixes, the seconds of its events, the
+-- places that it declares and how many B lines gave no fix
 pub record Reading : Type 0 where
   pub date : ℤ
   pub fixes : List Sighting
@@ -41,7 +42,8 @@ unfoldable pub opening_of_line : List ℕ → Option Bool
 opening_of_line [] = None
 opening_of_line (c ∷ cs) = Some (c == byte "A")
 
--- the seconds from the beginning of the task day, or of the recording's own day, to that of the recording's day
+-- the seconds from the beginning of the task day, or of the recording's own day, to that of the
+-- recording's day
 unfoldable pub shift_of : ℤ → Option ℤ → ℤ
 shift_of date None = pos 0
 shift_of date (Some task_day) = pos day *ℤ (date -ℤ task_day)
@@ -85,17 +87,22 @@ reading_of_fixes None date shift lines =
 unfoldable pub reading_of_day : Option ℤ → Option ℤ → List (List ℕ) → Result Reading IgcError
 reading_of_day None task_day lines = Err NoDate
 reading_of_day (Some date) task_day lines =
-    if is_wrong_day date task_day then Err (WrongDay date) else reading_of_fixes (slice_get (used_fixes lines) most_fixes) date (shift_of date task_day) lines
+    if is_wrong_day date task_day then Err (WrongDay date)
+    else
+    (let shift = shift_of date task_day in
+    reading_of_fixes (slice_get (used_fixes lines) most_fixes) date shift lines)
 
 -- the test of the first line that isn't empty, which has to be there and to begin with A
 unfoldable pub reading_of_opening : Option Bool → Option ℤ → List (List ℕ) → Result Reading IgcError
 reading_of_opening None task_day lines = Err NotIgc
 reading_of_opening (Some false) task_day lines = Err NotIgc
-reading_of_opening (Some true) task_day lines = reading_of_day (first_of date_of_line lines) task_day lines
+reading_of_opening (Some true) task_day lines =
+    reading_of_day (first_of date_of_line lines) task_day lines
 
 -- the recording of a text's lines, or its refusal: that of the first test that fails
 unfoldable pub recording_of_lines : List (List ℕ) → Option ℤ → Result Reading IgcError
-recording_of_lines lines task_day = reading_of_opening (first_of opening_of_line lines) task_day lines
+recording_of_lines lines task_day =
+    reading_of_opening (first_of opening_of_line lines) task_day lines
 
 -- the recording of a text, or its refusal
 unfoldable pub recording_of : List ℕ → Option ℤ → Result Reading IgcError

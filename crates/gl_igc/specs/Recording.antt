@@ -8,7 +8,13 @@ use Rattle.gl_igc.specs.Reading.{Sighting, Reading}
 
 -- what a fix says
 abbrev pub sighting_of : Fix → Sighting
-sighting_of fix = record { second = fix.second; lat = fix.grid.lat; lon = fix.grid.lon; alt = fix.alt; enl = fix.enl }
+sighting_of fix = record {
+  second = fix.second;
+  lat = fix.grid.lat;
+  lon = fix.grid.lon;
+  alt = fix.alt;
+  enl = fix.enl;
+}
 
 -- the declared places
 abbrev pub declared_of : Option Declared → Option (List (ℤ × ℤ))

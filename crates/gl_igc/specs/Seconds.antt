@@ -1,5 +1,6 @@
 -- The seconds of the fixes of a recording.
 use Rattle.std.specs.Prelude.{◌≡◌, ℕ, ◌<◌, ◌≤◌, ◌&&◌, List, [], ◌∷◌, length, slice_get, Bool, true, IsTrue, Option, None, Some, option_map, ℤ, pos, int_lt, ◌≤ℤ◌, ◌<ℤ◌}
+use Rattle.gl_igc.specs.Reading.{most_fixes}
 use Rattle.gl_igc.specs.UsedFixes.{seconds_limit}
 
 -- each second is above the one before
@@ -16,11 +17,14 @@ last_second (second ∷ next ∷ seconds) = last_second (next ∷ seconds)
 
 -- each second lies from 0 up to a limit
 abbrev pub AreBelow : ℕ → List ℤ → Type 0
-AreBelow limit seconds = (k : ℕ) (second : ℤ) → slice_get seconds k ≡ Some second → (pos 0 ≤ℤ second) × (second <ℤ pos limit)
+AreBelow limit seconds =
+    (k : ℕ) (second : ℤ) → slice_get seconds k ≡ Some second
+    → (pos 0 ≤ℤ second) × (second <ℤ pos limit)
 
--- What the code keeps of the own seconds of used fixes: there are at most 90,000, they rise, and the last one is known.
+-- What the code keeps of the own seconds of used fixes: there are at most 90,000, they rise, and
+-- the last one is known.
 pub record AreOwnSeconds (seconds : List ℤ) (last : Option ℕ) : Type 0 where
-  pub few : length seconds ≤ 90_000
+  pub few : length seconds ≤ most_fixes
   pub rising : IsTrue (is_rising seconds)
   pub latest : last_second seconds ≡ option_map pos last
   pub below : AreBelow seconds_limit seconds

@@ -1,5 +1,5 @@
--- The used fixes and the events of a recording. Each line is judged by the lines above it, which are listed upwards here:
--- the nearest line comes first, and so does the latest fix.
+-- The used fixes and the events of a recording. Each line is judged by the lines above it, which
+-- are listed upwards here: the nearest line comes first, and so does the latest fix.
 use Rattle.std.specs.Prelude.{ℕ, ◌+◌, ◌*◌, ◌/◌, ◌%◌, nat_lt, ◌==◌, ◌&&◌, codes, nat_eq, if◌then◌else◌, List, [], ◌∷◌, ◌++◌, length, drop, reverse, slice_index, option_map, unwrap_or, Option, None, Some, Bool, true}
 use Rattle.std.specs.List.{starts_with}
 use Rattle.std.specs.Option.{option_to_list}
@@ -9,7 +9,8 @@ use Rattle.gl_igc.specs.Extension.{Extension, extension_of_line, no_extension}
 use Rattle.gl_igc.specs.FirstOf.{first_of}
 use Rattle.gl_igc.specs.FixLine.{Observation, observation_of}
 
--- a used fix: the number of its line, where the text's first line is 1; its own second; and what its line says
+-- a used fix: the number of its line, where the text's first line is 1; its own second; and what
+-- its line says
 pub record UsedFix : Type 0 where
   pub line : ℕ
   pub own : ℕ
@@ -19,8 +20,8 @@ pub record UsedFix : Type 0 where
 abbrev pub seconds_limit : ℕ
 seconds_limit = 300_000
 
--- the own second of a time of day, where that of the last used fix is given: on the same day, or on the next one where
--- the time is more than half a day earlier
+-- the own second of a time of day, where that of the last used fix is given: on the same day, or on
+-- the next one where the time is more than half a day earlier
 unfoldable pub own_second : Option ℕ → ℕ → ℕ
 own_second None time = time
 own_second (Some last) time =
@@ -41,7 +42,8 @@ unfoldable pub with_line : ℕ → Option Observation → List UsedFix → List 
 with_line number None used = used
 with_line number (Some seen) used =
     let own = own_second (last_own used) seen.time in
-    if may_follow (last_own used) own then record { line = number; own = own; seen = seen } ∷ used else used
+    if may_follow (last_own used) own
+    then record { line = number; own = own; seen = seen } ∷ used else used
 
 -- the fields that hold below some lines: those of their first undamaged I line
 unfoldable pub extension_below : List (List ℕ) → Extension
@@ -51,7 +53,8 @@ extension_below lines = unwrap_or (first_of extension_of_line lines) no_extensio
 unfoldable pub used_upwards : List (List ℕ) → List UsedFix
 used_upwards [] = []
 used_upwards (line ∷ above) =
-    with_line (length above + 1) (observation_of (extension_below (reverse above)) line) (used_upwards above)
+    let extension = extension_below (reverse above) in
+    with_line (length above + 1) (observation_of extension line) (used_upwards above)
 
 -- the used fixes of a text's lines
 unfoldable pub used_fixes : List (List ℕ) → List UsedFix
@@ -60,13 +63,15 @@ used_fixes lines = reverse (used_upwards (reverse lines))
 -- the time of day of a PEV event; none of any other line
 unfoldable pub event_time : List ℕ → Option ℕ
 event_time line =
-    if (slice_index line 0 == byte "E") && starts_with nat_eq (drop 7 line) (codes "PEV") then time_of_day line else None
+    if (slice_index line 0 == byte "E") && starts_with nat_eq (drop 7 line) (codes "PEV")
+    then time_of_day line else None
 
 -- the own seconds of the events of a line and those above it, each by the last used fix above it
 unfoldable pub events_upwards : List (List ℕ) → List ℕ
 events_upwards [] = []
 events_upwards (line ∷ above) =
-    option_to_list (option_map (own_second (last_own (used_upwards above))) (event_time line)) ++ events_upwards above
+    let last = last_own (used_upwards above) in
+    option_to_list (option_map (own_second last) (event_time line)) ++ events_upwards above
 
 -- the own seconds of the events of a text's lines
 unfoldable pub event_seconds : List (List ℕ) → List ℕ

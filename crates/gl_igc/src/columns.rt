@@ -27,7 +27,8 @@ pub fn time(line: &[u8]) -> Option<u32>
 pub fn altitude(columns: &[u8]) -> Option<i32>
     requires { length columns.now ≡ 5 }
     ensures value { result ≡ altitude_of columns.now }
-    ensures bound { IfSome result (λ metres. (neg_ℤ (pos 9_999) ≤ℤ metres) × (metres ≤ℤ pos 99_999)) }
+    ensures bound { IfSome result (λ metres.
+        (neg_ℤ (pos 9_999) ≤ℤ metres) × (metres ≤ℤ pos 99_999)) }
 {
     if columns[0] == b'-' {
         read_digits(&columns[1..]).map(|metres| -(metres as i32))

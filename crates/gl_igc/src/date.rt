@@ -7,7 +7,8 @@ use jiff::civil::Date;
 
 /// The day number, from 1970-01-01, of a day; `None` where the calendar hasn't the day.
 fn civil_day(year: i16, month: i8, day: i8) -> Option<i32>
-    ensures some { IsDate year month day → result ≡ Some (days_from_civil year (unsigned_abs month) (unsigned_abs day)) }
+    ensures some { IsDate year month day
+        → result ≡ Some (days_from_civil year (unsigned_abs month) (unsigned_abs day)) }
     ensures none { IsNone result ↔ ¬ IsDate year month day }
 {
     match Date::new(year, month, day) {
@@ -26,8 +27,8 @@ fn day_of_numbers(year: u32, month: u32, day: u32) -> Option<i32>
     civil_day(year as i16, month as i8, day as i8)
 }
 
-/// The day number, from 1970-01-01, of the day that DDMMYY says, in the years 2000 to 2099. `None` where a byte is no
-/// digit or the calendar hasn't the day.
+/// The day number, from 1970-01-01, of the day that DDMMYY says, in the years 2000 to 2099. `None`
+/// where a byte is no digit or the calendar hasn't the day.
 #[tactic(auto, unfolding(crate::specs::Dates::day_of))]
 fn day(digits: &[u8]) -> Option<i32>
     requires { length digits.now ≡ 6 }

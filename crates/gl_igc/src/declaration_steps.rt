@@ -17,7 +17,8 @@ use std::alloc::AllocError;
 /// The columns of a heading that hold digits end here.
 const HEADING_LENGTH: usize = 25;
 
-/// How many places the heading declares; `None` where it is short or one of columns 2 to 25 has no digit.
+/// How many places the heading declares; `None` where it is short or one of columns 2 to 25 has no
+/// digit.
 #[tactic(auto, unfolding(crate::specs::Declaration::declared_count))]
 fn read_count(heading: &[u8]) -> Option<Count>
     ensures { option_map (λ count. count.places) result ≡ declared_count heading.now }

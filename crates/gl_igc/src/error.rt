@@ -4,7 +4,8 @@ ghost use Rattle.gl_igc.specs.declared.error.IgcError.TheVariants.{Memory};
 use std::alloc::{AllocError, AllocFailed};
 use thiserror::Error;
 
-/// Why a text gave no recording. Of the refusals the first that holds, in this order, is the answer.
+/// Why a text gave no recording. Of the refusals the first that holds, in this order, is the
+/// answer.
 #[derive(Debug, PartialEq, Eq, Drop, Error)]
 pub enum IgcError {
     /// No line has a byte, or the first that has one doesn't begin with `A`.

@@ -1,4 +1,4 @@
-ghost use Rattle.std.specs.Prelude.{◌≡◌, ◌<◌, ◌++◌, None, IfSome, OnOk, option_map, pos};
+ghost use Rattle.std.specs.Prelude.{◌≡◌, ◌<◌, ◌++◌, None, IfSome, IsSome, OnOk, option_map, pos};
 ghost use Rattle.std.specs.Option.{option_to_list};
 ghost use Rattle.gl_igc.specs.Columns.{day};
 ghost use Rattle.gl_igc.specs.UsedFixes.{event_time, own_second};
@@ -21,10 +21,14 @@ fn event_time(line: &[u8]) -> Option<u32>
     time(line)
 }
 
-/// Takes a line, where the track of the lines above it is given. Past the limit of fixes no event is kept.
+/// Takes a line, where the track of the lines above it is given. Past the limit of fixes no event
+/// is kept.
 pub fn take_event(events: &mut Events, track: &Track, line: &[u8]) -> Result<(), AllocError>
-    ensures { OnOk result (track.now.excess ≡ None → events.new.seconds.items ≡ events.old.seconds.items
-        ++ option_to_list (option_map (λ time. pos (own_second track.now.last time)) (event_time line.now))) }
+    ensures past { IsSome track.now.excess → events.new.seconds.items ≡ events.old.seconds.items }
+    ensures kept { OnOk result (track.now.excess ≡ None
+        → events.new.seconds.items ≡ events.old.seconds.items
+        ++ option_to_list (option_map (λ time. pos (own_second track.now.last time))
+        (event_time line.now))) }
 {
     if track.excess.is_some() {
         return Ok(());

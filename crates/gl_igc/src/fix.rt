@@ -7,7 +7,8 @@ use gl_sphere::{Grid, Vec3};
 /// One used fix of a recording.
 #[derive(Clone, Copy, Debug, PartialEq, Eq)]
 pub struct Fix {
-    /// Seconds from 00:00 UTC of the task day, or of the recording's own day where there is no task.
+    /// Seconds from 00:00 UTC of the task day, or of the recording's own day where there is no
+    /// task.
     pub second: i32,
     /// The place, in 1/100,000 minute.
     pub grid: Grid,

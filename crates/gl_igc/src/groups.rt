@@ -14,13 +14,14 @@ const FIRST_FREE_COLUMN: u32 = 36;
 /// The bytes of a group: two digits start, two digits finish, three letters.
 const GROUP_LENGTH: usize = 7;
 
-/// The field of the group that the text begins with; `None` where a digit is wanting, the start is below column 36 or
-/// the finish below the start.
+/// The field of the group that the text begins with; `None` where a digit is wanting, the start is
+/// below column 36 or the finish below the start.
 #[tactic(auto, unfolding(crate::specs::Extension::group_of))]
 fn read_field(text: &[u8]) -> Option<Field>
     requires { 7 ≤ length text.now }
     ensures { group_of text.now
-        ≡ option_map (λ field. record { code = columns 5 7 text.now; span = span_view field }) result }
+        ≡ option_map (λ field.
+        record { code = columns 5 7 text.now; span = span_view field }) result }
 {
     let start = read_digits(&text[..2])?;
     let finish = read_digits(&text[2..4])?;
@@ -58,7 +59,8 @@ fn with_group(fields: Fields, code: &[u8], field: Field) -> Fields
 
 /// The fields of so many groups at the text's front; `None` where a group is cut or damaged.
 fn read_groups(count: u32, text: &[u8]) -> Option<Fields>
-    ensures { option_map extension_view result ≡ option_map extension_of (groups_of count text.now) }
+    ensures { option_map extension_view result
+        ≡ option_map extension_of (groups_of count text.now) }
 {
     let mut fields = Fields {
         lad: None,

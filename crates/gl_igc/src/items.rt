@@ -2,7 +2,8 @@ ghost use Rattle.std.specs.Prelude.{◌≡◌, ◌==◌, List, length};
 
 use std::marker::Model;
 
-/// A list of values, which contracts see as its items. It is made from a `Vec` and gives it back, and takes no memory.
+/// A list of values, which contracts see as its items. It is made from a `Vec` and gives it back,
+/// and takes no memory.
 #[derive(Debug, Drop)]
 pub struct Items<T> {
     items: Vec<T>,

@@ -1,5 +1,5 @@
-//! Recordings of flights: the text that a flight recorder writes, read into a day, a list of fixes, the pilot's events and
-//! the declared places, or refused by its rule.
+//! Recordings of flights: the text that a flight recorder writes, read into a day, a list of fixes,
+//! the pilot's events and the declared places, or refused by its rule.
 #![tactic(auto)]
 
 mod columns;
@@ -30,3 +30,6 @@ pub use fix::Fix;
 pub use items::Items;
 pub use reader::read_igc;
 pub use recording::{Declared, Recording};
+
+#[cfg(test)]
+mod tests;

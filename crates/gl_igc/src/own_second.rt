@@ -12,8 +12,8 @@ const HALF_DAY: u32 = 43_200;
 /// Own seconds are below this.
 const SECONDS_LIMIT: u32 = 300_000;
 
-/// The own second of a time of day, where that of the last used fix is given: on the same day, or on the next one where
-/// the time is more than half a day earlier.
+/// The own second of a time of day, where that of the last used fix is given: on the same day, or
+/// on the next one where the time is more than half a day earlier.
 #[inline]
 #[tactic(auto, unfolding(crate::specs::UsedFixes::own_second))]
 pub fn own_second(last: Option<u32>, time: u32) -> u32

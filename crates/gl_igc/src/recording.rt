@@ -1,11 +1,13 @@
 ghost use Rattle.std.specs.Prelude.{◌≤◌, IsTrue, length, map};
+ghost use Rattle.gl_igc.specs.Reading.{most_fixes};
 ghost use Rattle.gl_igc.specs.Seconds.{is_rising};
 
 use crate::fix::Fix;
 use crate::items::Items;
 use gl_sphere::Grid;
 
-/// The places that a pilot declared before the flight: take-off, start, turn points, finish and landing, in order.
+/// The places that a pilot declared before the flight: take-off, start, turn points, finish and
+/// landing, in order.
 #[derive(Debug, Drop)]
 pub struct Declared {
     pub points: Items<Grid>,
@@ -27,6 +29,6 @@ pub struct Recording {
     /// How many B lines gave no fix.
     pub skipped: u32,
     pub ghost some_fix: { 1 ≤ length fixes },
-    pub ghost at_most_90000: { length fixes ≤ 90_000 },
+    pub ghost at_most_90000: { length fixes ≤ most_fixes },
     pub ghost rising: { IsTrue (is_rising (map (λ fix. fix.second) fixes)) },
 }

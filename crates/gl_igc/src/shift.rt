@@ -45,8 +45,8 @@ fn moved(second: i32, shift: i32) -> i32
     second + shift
 }
 
-/// The seconds from the beginning of the task day, or of the recording's own day, to that of the recording's day; `None`
-/// where that is more than one day.
+/// The seconds from the beginning of the task day, or of the recording's own day, to that of the
+/// recording's day; `None` where that is more than one day.
 #[tactic(auto, unfolding(crate::specs::Reading::is_wrong_day, crate::specs::Reading::shift_of))]
 pub fn day_shift(date: i32, task_day: Option<i32>) -> Option<i32>
     ensures value { result

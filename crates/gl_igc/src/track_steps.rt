@@ -1,7 +1,6 @@
-ghost use Rattle.std.specs.Prelude.{◌≡◌, ◌+◌, ◌<◌, ℕ, List, Some, None, OnOk, if◌then◌else◌, option_map, unwrap_or, pos};
-ghost use Rattle.gl_igc.specs.Extension.{no_extension};
+ghost use Rattle.std.specs.Prelude.{◌≡◌, ◌+◌, ◌<◌, ℕ, List, Some, None, OnOk, if◌then◌else◌};
 ghost use Rattle.gl_igc.specs.FixLine.{is_fix_line, observation_of};
-ghost use Rattle.gl_igc.specs.Parts.{IsTrackOf, extension_view, observation_view};
+ghost use Rattle.gl_igc.specs.Parts.{IsTrackOf, extension_held, observation_view, sighting_at_own};
 ghost use Rattle.gl_igc.specs.Reading.{capped};
 ghost use Rattle.gl_igc.specs.Recording.{sighting_of};
 ghost use Rattle.gl_igc.specs.UsedFixes.{UsedFix, with_line};
@@ -29,7 +28,7 @@ const NO_FIELDS: Fields = Fields {
 #[inline]
 fn fix_at(own: u32, seen: Seen) -> Fix
     requires { own < 500_000 }
-    ensures { sighting_of result ≡ record { second = pos own; lat = seen.grid.lat; lon = seen.grid.lon; alt = seen.alt; enl = seen.enl } }
+    ensures { sighting_of result ≡ sighting_at_own own (observation_view seen) }
 {
     Fix {
         second: signed(own),
@@ -77,9 +76,9 @@ pub fn take_fix(
     number: u32,
     line: &[u8],
 ) -> Result<(), AllocError>
-    ensures { OnOk result ((used : List UsedFix) (lines line_number : ℕ) → number ≡ capped line_number
+    ensures { OnOk result ((used : List UsedFix) (lines n : ℕ) → number ≡ capped n
         → IsTrackOf used lines track.old
-        → IsTrackOf (with_line line_number (observation_of (unwrap_or (option_map extension_view fields) no_extension) line.now) used)
+        → IsTrackOf (with_line n (observation_of (extension_held fields) line.now) used)
         (lines + (if is_fix_line line.now then 1 else 0)) track.new) }
 {
     if track.excess.is_some() || line.is_empty() || line[0] != b'B' {

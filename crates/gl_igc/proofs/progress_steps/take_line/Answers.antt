@@ -25,6 +25,6 @@ returns c = λ lines of.
       track = track;
       events = λ none.
           let before = no_excess_before lines line old.fields (length (filter is_fix_line lines)) (length (filter is_fix_line (lines ++ line ∷ []))) old.track c.take_fix.new.track of.fields of.track track none in
-          c.in_ok-take_event.ensures before ∙ ap (λ (seconds : List ℤ). seconds ++ option_to_list (option_map (λ time. pos (own_second old.track.last time)) (event_time line))) (of.events before) ∙ sym (events-push lines line old.track.last (of.track.kept before).last);
+          c.in_ok-take_event.ensures.kept before ∙ ap (λ (seconds : List ℤ). seconds ++ option_to_list (option_map (λ time. pos (own_second old.track.last time)) (event_time line))) (of.events before) ∙ sym (events-push lines line old.track.last (of.track.kept before).last);
       declaration = subst (λ (lines : Lines). IsDeclarationOf lines c.take_declared.new.declaration) (sym (declared-push lines line)) (c.in_ok-take_declared.ensures (filter is_declaration_line lines) of.declaration);
     }

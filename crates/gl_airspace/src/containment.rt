@@ -1,0 +1,136 @@
+ghost use Rattle.std.specs.Prelude.{◌≡◌, ◌*ℤ◌, ◌-ℤ◌, position, count_by};
+ghost use Rattle.std.specs.List.{list_any};
+ghost use Rattle.gl_airspace.specs.Inside.{counts, counts_upwards, edges_to, fixes_before_airspace, is_in_circle, is_in_polygon, is_in_shape, is_inside, is_level, is_west_of};
+
+use crate::volume::{Airspace, Circle, Shape, Volume};
+use gl_igc::Fix;
+use gl_sphere::{Grid, Vec3, dist, sq};
+
+/// How far `east` lies east of a place, times how far `north` lies north of it.
+fn rectangle(from: Grid, east: Grid, north: Grid) -> i64
+    ensures { result ≡ (east.lon -ℤ from.lon) *ℤ (north.lat -ℤ from.lat) }
+{
+    let along = i64::from(east.lon) - i64::from(from.lon);
+    let up = i64::from(north.lat) - i64::from(from.lat);
+    along * up
+}
+
+/// Whether a place is on a level with an edge: from its lower end on, and below its upper one.
+fn is_level(lower: Grid, upper: Grid, place: Grid) -> bool
+    ensures { result ≡ is_level lower upper place }
+{
+    lower.lat <= place.lat && place.lat < upper.lat
+}
+
+/// Whether a place lies west of an edge on a level with it.
+fn is_west_of(lower: Grid, upper: Grid, place: Grid) -> bool
+    ensures { result ≡ is_west_of lower upper place }
+{
+    let along = rectangle(lower, place, upper);
+    let across = rectangle(lower, upper, place);
+    along < across
+}
+
+/// Whether an edge from its lower end to its upper one counts for a place.
+fn counts_upwards(lower: Grid, upper: Grid, place: Grid) -> bool
+    ensures { result ≡ counts_upwards lower upper place }
+{
+    is_level(lower, upper, place) && is_west_of(lower, upper, place)
+}
+
+/// Whether an edge counts for a place.
+fn counts(place: Grid, from: Grid, to: Grid) -> bool
+    ensures { result ≡ counts place (from, to) }
+{
+    if from.lat <= to.lat {
+        counts_upwards(from, to, place)
+    } else {
+        counts_upwards(to, from, place)
+    }
+}
+
+/// How many edges count for a place: from each corner to the next, and from the last to `first`.
+fn count_edges(first: Grid, corners: &[Grid], place: Grid) -> usize
+    ensures { result ≡ count_by (counts place) (edges_to first corners.now) }
+{
+    let mut count = 0;
+    let mut rest = corners;
+    'edges: while let Some((&corner, others)) = rest.split_first() {
+        let next = others.first().copied().unwrap_or(first);
+        if counts(place, corner, next) {
+            count += 1;
+        }
+        rest = others;
+    }
+    count
+}
+
+/// Whether a place is in the polygon with these corners.
+#[tactic(auto, unfolding(crate::specs::Inside::is_in_polygon))]
+fn is_in_polygon(corners: &[Grid], place: Grid) -> bool
+    ensures { result ≡ is_in_polygon corners.now place }
+{
+    match corners.first() {
+        Some(&first) => count_edges(first, corners, place) % 2 == 1,
+        None => false,
+    }
+}
+
+/// Whether a point is in a circle.
+fn is_in_circle(circle: &Circle, at: Vec3) -> bool
+    ensures { result ≡ is_in_circle circle.now at }
+{
+    dist(sq(at, circle.centre)) <= circle.radius
+}
+
+/// Whether a fix is in a shape on the map.
+fn is_in_shape(shape: &Shape, fix: &Fix) -> bool
+    ensures { result ≡ is_in_shape shape.now fix.now }
+{
+    match shape {
+        Shape::Polygon(corners) => is_in_polygon(corners.as_slice(), fix.grid),
+        Shape::Circle(circle) => is_in_circle(circle, fix.at),
+    }
+}
+
+/// Whether a fix is inside a volume.
+fn is_inside(volume: &Volume, fix: &Fix) -> bool
+    ensures { result ≡ is_inside volume.now fix.now }
+{
+    volume.floor <= fix.alt && fix.alt <= volume.ceiling && is_in_shape(&volume.shape, fix)
+}
+
+/// The number of the first volume that holds the fix, from 0; `None` exactly where no volume does.
+pub fn inside(air: &Airspace, fix: &Fix) -> Option<usize>
+    ensures { result ≡ position (λ volume. is_inside volume fix.now) air.now.volumes }
+{
+    air.volumes
+        .as_slice()
+        .iter()
+        .position(|volume| is_inside(volume, fix))
+}
+
+/// Whether a volume holds the fix.
+fn is_forbidden(air: &Airspace, fix: &Fix) -> bool
+    ensures { result ≡ list_any (λ volume. is_inside volume fix.now) air.now.volumes }
+{
+    air.volumes
+        .as_slice()
+        .iter()
+        .any(|volume| is_inside(volume, fix))
+}
+
+/// The number of the first fix inside a volume.
+fn first_inside(air: &Airspace, fixes: &[Fix]) -> Option<usize>
+    ensures { result ≡ position
+        (λ fix. list_any (λ volume. is_inside volume fix) air.now.volumes) fixes.now }
+{
+    fixes.iter().position(|fix| is_forbidden(air, fix))
+}
+
+/// How many fixes stand before the first one inside a volume, or all of them.
+pub fn cut(air: &Airspace, fixes: &[Fix]) -> usize
+    ensures { result ≡ fixes_before_airspace air.now.volumes fixes.now }
+{
+    first_inside(air, fixes).unwrap_or(fixes.len())
+}

@@ -1,0 +1,45 @@
+ghost use Rattle.std.specs.Prelude.{◌≡◌, []};
+
+use gl_igc::Items;
+use gl_sphere::{Grid, Vec3};
+use std::alloc::Global;
+
+/// A circle on the sphere: the point of its centre, and its radius in centimetres.
+#[derive(Clone, Copy, Debug, PartialEq, Eq)]
+pub struct Circle {
+    pub centre: Vec3,
+    pub radius: u64,
+}
+
+/// The shape of a volume on the map.
+#[derive(Debug, Drop)]
+pub enum Shape {
+    /// A polygon by its corners, the last of which is joined to the first, in the plane of longitude
+    /// and latitude.
+    Polygon(Items<Grid>),
+    /// A circle.
+    Circle(Circle),
+}
+
+/// A volume of airspace: from its floor to its ceiling, both inside, in metres, over its shape.
+#[derive(Debug, Drop)]
+pub struct Volume {
+    pub floor: i32,
+    pub ceiling: i32,
+    pub shape: Shape,
+}
+
+/// The volumes that flights may not enter, in the order of their text.
+#[derive(Debug, Drop)]
+pub struct Airspace {
+    pub volumes: Items<Volume>,
+}
+
+/// Airspace without a volume. It takes no memory.
+pub fn empty(alloc: Global) -> Airspace
+    ensures { result.volumes ≡ [] }
+{
+    Airspace {
+        volumes: Items::from_vec(Vec::new(alloc)),
+    }
+}
