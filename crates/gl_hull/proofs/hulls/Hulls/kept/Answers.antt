@@ -1,7 +1,4 @@
-use Rattle.std.proofs.Common.{List, length, ap, sym, subst, ◌∙◌, arith}
-use Rattle.gl_igc.specs.declared.fix.Fix.{Fix}
-use Rattle.gl_hull.specs.Box.{IsLeastBox, fixes_in}
-use Rattle.gl_hull.specs.Hull.{box_of}
+use Rattle.std.proofs.Common.{length, ap, sym, subst, arith}
 use Rattle.gl_hull.specs.Table.{IsEntry}
 use Rattle.gl_hull.specs.declared.entry.Entry.{Entry}
 use Rattle.gl_hull.proofs.Entries.{entry-serves}
