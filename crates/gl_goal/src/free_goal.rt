@@ -144,7 +144,10 @@ impl FreeGoal {
         ensures value { result.most ≡ most_between self.now.hulls (ends from) (ends to) }
         ensures leg { IsLeg self.now result }
     {
-        let most = leg_at_most(&self.hulls.hull(from), &self.hulls.hull(to));
+        let most = match (self.hulls.kept(from), self.hulls.kept(to)) {
+            (Some(near), Some(far)) => leg_at_most(near, far),
+            _ => leg_at_most(&self.hulls.hull(from), &self.hulls.hull(to)),
+        };
         Leg { from, to, most }
     }
 

@@ -27,7 +27,7 @@ impl Model for Hulls {
 }
 
 impl Hulls {
-    ghost use Rattle.std.specs.Prelude.{◌≡◌, ◌≤◌, ◌<◌, length, map, All, IfOk, Some, slice_get};
+    ghost use Rattle.std.specs.Prelude.{◌≡◌, ◌≤◌, ◌<◌, length, map, All, IfOk, IfSome, Some, slice_get};
     ghost use Rattle.gl_box.specs.Cell.{ends};
     ghost use Rattle.gl_hull.specs.Box.{IsLeastBox, fixes_in, hull_of};
     ghost use Rattle.gl_hull.specs.Hull.{box_of};
@@ -60,6 +60,20 @@ impl Hulls {
         ensures { result ≡ length self.now }
     {
         self.fixes.len()
+    }
+
+    /// The least hull of the fixes of a span, where it is kept.
+    #[inline]
+    pub fn kept(&self, span: Span) -> Option<&Hull>
+        requires { span.hi < length self.now }
+        ensures { IfSome result (λ hull. box_of hull.now ≡ hull_of (fixes_in self.now (ends span))) }
+    {
+        let entry = &self.table[index_of(span)];
+        if entry.span == span {
+            Some(&entry.hull)
+        } else {
+            None
+        }
     }
 
     /// The least hull of the fixes of a span. Takes no memory.
