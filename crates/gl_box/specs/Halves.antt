@@ -9,20 +9,25 @@ span_at cell axis = slice_index_or cell axis (0, 0)
 abbrev pub width : ℕ × ℕ → ℕ
 width span = span.1 - span.0
 
--- a cell has the widest span on this axis, the lowest of such axes where several spans are equally wide
+-- a cell has the widest span on this axis, the lowest of such axes where several spans are equally
+-- wide
 pub record IsWidest (cell : List (ℕ × ℕ)) (axis : ℕ) : Type 0 where
   pub inside : axis < length cell
   pub widest : (other : ℕ) → width (span_at cell other) ≤ width (span_at cell axis)
   pub lowest : (other : ℕ) → other < axis → width (span_at cell other) < width (span_at cell axis)
 
--- A cell is cut on the axis of its widest span, which has more than one place: the lower half has its places up to the
--- middle, and the upper half the rest.
+-- A cell is cut on the axis of its widest span, which has more than one place: the lower half has
+-- its places up to the middle, and the upper half the rest.
 pub record AreHalves (cell lower upper : List (ℕ × ℕ)) : Type 0 where
   pub axis : ℕ
   pub widest : IsWidest cell axis
   pub wide : 0 < width (span_at cell axis)
-  pub lower_is : lower ≡ slice_set cell axis ((span_at cell axis).0, ((span_at cell axis).0 + (span_at cell axis).1) / 2)
-  pub upper_is : upper ≡ slice_set cell axis (((span_at cell axis).0 + (span_at cell axis).1) / 2 + 1, (span_at cell axis).1)
+  pub lower_is : lower
+      ≡ slice_set cell axis
+      ((span_at cell axis).0, ((span_at cell axis).0 + (span_at cell axis).1) / 2)
+  pub upper_is : upper
+      ≡ slice_set cell axis
+      (((span_at cell axis).0 + (span_at cell axis).1) / 2 + 1, (span_at cell axis).1)
 
 -- one of the halves of a cell
 pub record IsHalf (cell half : List (ℕ × ℕ)) : Type 0 where

@@ -3,8 +3,8 @@ ghost use Rattle.std.specs.Prelude.{◌≡◌, ◌≤◌, All, drop, length};
 use crate::span::Span;
 use crate::tuple::{MOST_AXES, Tuple};
 
-/// All tuples whose place on each axis lies in the axis's span. There are 1 to 10 axes; the spans of those that aren't
-/// there are 0 to 0.
+/// All tuples whose place on each axis lies in the axis's span. There are 1 to 10 axes; the spans
+/// of those that aren't there are 0 to 0.
 #[derive(Clone, Copy, Debug, PartialEq, Eq)]
 pub struct Cell {
     pub axes: u8,

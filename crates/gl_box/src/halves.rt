@@ -19,8 +19,9 @@ fn widest(cell: &Cell) -> usize
     widest
 }
 
-/// Cuts a cell in the middle of its widest span: the cell becomes its upper half, and the lower half is handed out.
-/// `None` exactly where the cell holds a single tuple, and then it stays as it is.
+/// Cuts a cell in the middle of its widest span: the cell becomes its upper half, and the lower
+/// half is handed out. `None` exactly where the cell holds a single tuple, and then it stays as it
+/// is.
 #[inline]
 pub fn halve(cell: &mut Cell) -> Option<Cell>
     ensures halves { IfSome result
@@ -52,8 +53,8 @@ pub fn halve(cell: &mut Cell) -> Option<Cell>
     Some(lower)
 }
 
-/// The lower and the upper half of a cell, cut in the middle of its widest span. `None` exactly where the cell holds a
-/// single tuple.
+/// The lower and the upper half of a cell, cut in the middle of its widest span. `None` exactly
+/// where the cell holds a single tuple.
 pub fn split(cell: &Cell) -> Option<(Cell, Cell)>
     ensures halves { IfSome result
         (λ halves. AreHalves (spans_of cell.now) (spans_of halves.0) (spans_of halves.1)) }

@@ -1,5 +1,5 @@
-//! Boxes of choices: on each axis a span of places. A cell is cut into halves, again and again, and the cells that are
-//! left part its tuples: each tuple lies in exactly one of them.
+//! Boxes of choices: on each axis a span of places. A cell is cut into halves, again and again, and
+//! the cells that are left part its tuples: each tuple lies in exactly one of them.
 #![tactic(auto)]
 
 mod cell;

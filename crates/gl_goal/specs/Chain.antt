@@ -1,5 +1,6 @@
--- Chains of legs: from each of some points to the next along the sphere; and how long the legs can be at most where of each
--- point no more is known than a box that it lies in. A fixed end of a chain is a point, whose box is that point's.
+-- Chains of legs: from each of some points to the next along the sphere; and how long the legs can
+-- be at most where of each point no more is known than a box that it lies in. A fixed end of a
+-- chain is a point, whose box is that point's.
 use Rattle.std.specs.Prelude.{ℕ, ◌+◌, List, [], ◌∷◌, map, slice_get}
 use Rattle.std.specs.List.{filter_map}
 use Rattle.gl_sphere.specs.declared.place.Vec3.{Vec3}

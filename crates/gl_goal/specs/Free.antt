@@ -1,5 +1,5 @@
--- The free distance: five fixes in time order, of which the last isn't much lower than the first, worth the four legs
--- between them.
+-- The free distance: five fixes in time order, of which the last isn't much lower than the first,
+-- worth the four legs between them.
 use Rattle.std.specs.Prelude.{ℕ, zero, suc, ◌-◌, List, [], ◌∷◌, ℤ, pos, ◌-ℤ◌, int_le, int_lt}
 use Rattle.gl_igc.specs.declared.fix.Fix.{Fix}
 use Rattle.gl_hull.specs.Box.{Box}
@@ -16,7 +16,8 @@ abbrev pub loss_over : List Fix → ℤ
 loss_over [] = pos 0
 loss_over (fix ∷ fixes) = fix.alt -ℤ (last_of fix fixes).alt
 
--- the least that fixes in these boxes can lose: from the lowest altitude of the first box to the highest of the last
+-- the least that fixes in these boxes can lose: from the lowest altitude of the first box to the
+-- highest of the last
 abbrev pub least_loss : List Box → ℤ
 least_loss [] = pos 0
 least_loss (box ∷ boxes) = box.alt.0 -ℤ (last_of box boxes).alt.1
@@ -39,8 +40,9 @@ abbrev pub five_axes : ℕ → ℕ → List (List ℕ)
 five_axes first last =
     let all = numbers_between first last in all ∷ all ∷ all ∷ all ∷ all ∷ []
 
--- The goal of the free distance over the fixes from the first to the last number, with a greatest loss in metres. A cell is
--- shut where its fixes lose more, and its bound is the sum of the greatest legs.
+-- The goal of the free distance over the fixes from the first to the last number, with a greatest
+-- loss in metres. A cell is shut where its fixes lose more, and its bound is the sum of the
+-- greatest legs.
 unfoldable pub free_goal : List Fix → ℕ → ℕ → ℤ → Rule
 free_goal fixes first last loss = record {
   axes = five_axes first last;

@@ -9,7 +9,8 @@ use Rattle.gl_goal.specs.Chain.{greatest_distance}
 
 -- the greatest distance from a fix in one span to a fix in another, by their hulls
 abbrev pub most_between : List Fix → ℕ × ℕ → ℕ × ℕ → ℕ
-most_between fixes from to = greatest_distance (hull_of (fixes_in fixes from)) (hull_of (fixes_in fixes to))
+most_between fixes from to =
+    greatest_distance (hull_of (fixes_in fixes from)) (hull_of (fixes_in fixes to))
 
 -- a leg was measured over the fixes of this goal
 abbrev pub IsLeg : FreeGoal → Leg → Type 0

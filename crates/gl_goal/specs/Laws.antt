@@ -1,5 +1,5 @@
--- Lemmas and no definitions: that a certificate's total is the optimum, that each goal has a certificate, and that the
--- goals that are written here meet the laws of a goal.
+-- Lemmas and no definitions: that a certificate's total is the optimum, that each goal has a
+-- certificate, and that the goals that are written here meet the laws of a goal.
 pub mod Order
 pub mod Optimum
 pub mod Existence

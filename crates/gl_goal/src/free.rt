@@ -5,8 +5,8 @@ ghost use Rattle.gl_goal.specs.Free.{fixes_between};
 use gl_hull::Hulls;
 use gl_igc::Fix;
 
-/// The free distance over some fixes of a recording: five fixes in time order, worth the four legs between them, of
-/// which the last is at most `loss` metres lower than the first.
+/// The free distance over some fixes of a recording: five fixes in time order, worth the four legs
+/// between them, of which the last is at most `loss` metres lower than the first.
 #[derive(Debug, Drop)]
 pub struct FreeGoal {
     pub(crate) fixes: Vec<Fix>,
@@ -18,5 +18,7 @@ pub struct FreeGoal {
     pub ghost within: { last < length fixes.items },
     pub ghost at_most_90000: { length fixes.items ≤ 90_000 },
     pub ghost loss_from_zero: { pos 0 ≤ℤ loss },
-    pub ghost hulled: { hulls ≡ fixes_between fixes.items first last } by { Coded-set hulls-code hulls (fixes_between fixes.items first last) },
+    pub ghost hulled: { hulls
+        ≡ fixes_between fixes.items first last } by { Coded-set hulls-code hulls
+            (fixes_between fixes.items first last) },
 }

@@ -62,8 +62,8 @@ fn are_in_order(numbers: &[u32; 5]) -> bool
 }
 
 impl FreeGoal {
-    /// The goal over the fixes from number `first` to number `last`, with a greatest loss of altitude in metres. The only
-    /// error is want of memory.
+    /// The goal over the fixes from number `first` to number `last`, with a greatest loss of
+    /// altitude in metres. The only error is want of memory.
     pub fn new(
         alloc: Global,
         fixes: &[Fix],
@@ -104,7 +104,8 @@ impl FreeGoal {
     /// The numbers of the five fixes of a tuple.
     fn numbers(&self, tuple: &Tuple) -> [u32; 5]
         requires { IsTuple (five_axes self.now.first self.now.last) (places_of tuple.now) }
-        ensures chosen { result ≡ chosen (five_axes self.now.first self.now.last) (places_of tuple.now) }
+        ensures chosen { result
+            ≡ chosen (five_axes self.now.first self.now.last) (places_of tuple.now) }
         ensures within { All (λ number. number ≤ self.now.last) result }
     {
         [
@@ -119,8 +120,11 @@ impl FreeGoal {
     /// The hulls of the five spans of a cell.
     #[inline]
     fn hulls_of(&self, cell: &Cell) -> [Hull; 5]
-        requires { Covers (whole_cell (five_axes self.now.first self.now.last)) (spans_of cell.now) }
-        ensures { map box_of result ≡ hulls_of self.now.fixes.items (five_axes self.now.first self.now.last) (spans_of cell.now) }
+        requires { Covers (whole_cell (five_axes self.now.first self.now.last))
+            (spans_of cell.now) }
+        ensures { map box_of result
+            ≡ hulls_of self.now.fixes.items (five_axes self.now.first self.now.last)
+            (spans_of cell.now) }
     {
         [
             self.hulls.hull(cell.spans[0]),
@@ -147,7 +151,8 @@ impl FreeGoal {
         Leg { from, to, most }
     }
 
-    /// The greatest distance from one span to another. It is known where the leg is that, and else the leg becomes it.
+    /// The greatest distance from one span to another. It is known where the leg is that, and else
+    /// the leg becomes it.
     #[inline]
     fn most_by(&self, from: Span, to: Span, leg: &mut Leg) -> u64
         requires from { from.hi < length self.now.hulls }

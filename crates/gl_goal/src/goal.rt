@@ -7,8 +7,9 @@ ghost use Rattle.gl_goal.specs.Rule.{Rule, IsDisordered, IsGoal, IsLegal, IsTupl
 use crate::leg::{Leg, MOST_LEGS};
 use gl_box::{Cell, Tuple};
 
-/// A maximum to be found: on each axis a list of fix numbers, of which a tuple chooses one place each. A cell is a box of
-/// tuples, and its tests say what is known of all of them at once. No call takes memory.
+/// A maximum to be found: on each axis a list of fix numbers, of which a tuple chooses one place
+/// each. A cell is a box of tuples, and its tests say what is known of all of them at once. No call
+/// takes memory.
 pub trait Goal {
     /// The goal as the rules say it.
     ghost rule: { Self → Rule };
@@ -60,8 +61,8 @@ pub trait Goal {
     fn legs(&self) -> [Leg; MOST_LEGS]
         ensures { are_legs self.now result };
 
-    /// The same as `bound`, sooner where most of the legs are those of the last cell: only the others are measured. The
-    /// legs become those of this cell.
+    /// The same as `bound`, sooner where most of the legs are those of the last cell: only the
+    /// others are measured. The legs become those of this cell.
     fn bound_by(&self, cell: &Cell, legs: &mut [Leg; MOST_LEGS]) -> u64
         requires covers { Covers (whole_cell (rule self.now).axes) (spans_of cell.now) }
         requires legs { are_legs self.now legs.old }

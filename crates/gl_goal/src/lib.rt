@@ -1,4 +1,5 @@
-//! What is maximised: goals, their tests of boxes of choices, and what certifies that no choice was overlooked.
+//! What is maximised: goals, their tests of boxes of choices, and what certifies that no choice was
+//! overlooked.
 #![tactic(auto)]
 
 mod free;

@@ -6,7 +6,8 @@ use crate::goal::Goal;
 use gl_box::Tuple;
 use std::alloc::{AllocError, Global};
 
-/// The numbers of the fixes that a tuple names, in the order of the axes. The only error is want of memory.
+/// The numbers of the fixes that a tuple names, in the order of the axes. The only error is want of
+/// memory.
 pub fn fix_numbers<G: Goal>(alloc: Global, goal: &G, tuple: &Tuple) -> Result<Vec<u32>, AllocError>
     requires { IsTuple (G.rule goal.now).axes (places_of tuple.now) }
     ensures { IfOk result

@@ -4,7 +4,8 @@ use Rattle.std.specs.Int.{int_min, int_max}
 use Rattle.gl_sphere.specs.declared.place.Vec3.{Vec3}
 use Rattle.gl_igc.specs.declared.fix.Fix.{Fix}
 
--- the lowest and the highest value of each component of a point, in centimetres, and of an altitude, in metres
+-- the lowest and the highest value of each component of a point, in centimetres, and of an
+-- altitude, in metres
 pub record Box : Type 0 where
   pub x : ℤ × ℤ
   pub y : ℤ × ℤ

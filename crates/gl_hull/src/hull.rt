@@ -5,7 +5,8 @@ use crate::extent::Extent;
 use gl_igc::Fix;
 use gl_sphere::Vec3;
 
-/// A box of points, from `lo` to `hi` on each component, with altitudes from `alt_lo` to `alt_hi` metres; all ends inside.
+/// A box of points, from `lo` to `hi` on each component, with altitudes from `alt_lo` to `alt_hi`
+/// metres; all ends inside.
 #[derive(Clone, Copy, Debug, PartialEq, Eq)]
 pub struct Hull {
     pub lo: Vec3,

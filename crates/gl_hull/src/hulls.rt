@@ -6,8 +6,8 @@ use gl_igc::Fix;
 use std::alloc::{AllocError, Global};
 use std::marker::Model;
 
-/// The hulls of the spans of a list of fixes, which contracts see as that list. Those of the whole, of its halves, of their
-/// halves and so on are kept, and found at once.
+/// The hulls of the spans of a list of fixes, which contracts see as that list. Those of the whole,
+/// of its halves, of their halves and so on are kept, and found at once.
 #[derive(Debug, Drop)]
 pub struct Hulls {
     fixes: Vec<Fix>,

@@ -1,5 +1,5 @@
-//! Hulls: the least box that holds the fixes of a span, and how far apart and how near two points of two boxes can be.
-//! So many choices of fixes are judged at once, by their spans alone.
+//! Hulls: the least box that holds the fixes of a span, and how far apart and how near two points
+//! of two boxes can be. So many choices of fixes are judged at once, by their spans alone.
 #![tactic(auto)]
 
 mod chords;

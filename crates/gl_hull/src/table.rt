@@ -10,8 +10,8 @@ use gl_box::Span;
 use gl_igc::Fix;
 use std::alloc::{AllocError, Global};
 
-/// Where a table has the hull of a span that comes from halving the whole again and again: a single place at an even
-/// index, and a longer span between its halves.
+/// Where a table has the hull of a span that comes from halving the whole again and again: a single
+/// place at an even index, and a longer span between its halves.
 #[inline]
 pub(crate) fn index_of(span: Span) -> usize
     ensures { result ≤ 2 * span.hi }
@@ -54,7 +54,8 @@ pub(crate) fn singles(alloc: Global, fixes: &[Fix]) -> Result<Vec<Entry>, AllocE
     Ok(table)
 }
 
-/// Writes the hulls of a span, of its halves, of their halves and so on into a table. Answers that of the span.
+/// Writes the hulls of a span, of its halves, of their halves and so on into a table. Answers that
+/// of the span.
 pub(crate) fn fill(fixes: &[Fix], table: &mut [Entry], span: Span) -> Hull
     requires inside { span.hi < length fixes.now }
     requires table { IsTable fixes.now table.old }

@@ -4,10 +4,10 @@ use gl_igc::Fix;
 use gl_sphere::{Grid, Vec3, vector};
 use std::test::Fail;
 
-// Takes what threads may share.
+/// Takes what threads may share.
 fn share<T: Send + Sync>(_value: &T) {}
 
-// A fix at this place and altitude.
+/// A fix at this place and altitude.
 fn fix_at(second: i32, grid: Grid, alt: i16) -> Fix {
     Fix {
         second,
@@ -18,7 +18,7 @@ fn fix_at(second: i32, grid: Grid, alt: i16) -> Fix {
     }
 }
 
-// Three fixes on the axes of the sphere, at 1,000, -20 and 300 metres.
+/// Three fixes on the axes of the sphere, at 1,000, -20 and 300 metres.
 fn three_fixes() -> [Fix; 3] {
     [
         fix_at(0, Grid { lat: 0, lon: 0 }, 1_000),

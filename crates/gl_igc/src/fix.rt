@@ -18,7 +18,8 @@ pub struct Fix {
     pub alt: i32,
     /// The engine noise that the recorder measured, from 0 to 999.
     pub enl: Option<u16>,
-    pub ghost placed: { at ≡ written_vector grid } by { Coded-set at-code at (written_vector grid) },
+    pub ghost placed: { at
+        ≡ written_vector grid } by { Coded-set at-code at (written_vector grid) },
     pub ghost above: { neg_ℤ (pos 9_999) ≤ℤ alt },
     pub ghost below: { alt ≤ℤ pos 32_767 },
 }

@@ -6,4 +6,5 @@ use Rattle.gl_plain.specs.declared.dive.Candidate.{Candidate}
 
 -- each lies in the whole cell
 abbrev pub AreWithin : Rule → List Candidate → Type 0
-AreWithin rule candidates = All (λ candidate. Covers (whole_cell rule.axes) (spans_of candidate.cell)) candidates
+AreWithin rule candidates =
+    All (λ candidate. Covers (whole_cell rule.axes) (spans_of candidate.cell)) candidates

@@ -9,7 +9,9 @@ use Rattle.gl_plain.specs.Search.{IsNeeded, fixes_of, total_of}
 
 -- its boxes certify the total and the fixes that were found
 abbrev pub IsCertified : Rule → Found → Type 0
-IsCertified rule found = IsCertificate rule (total_of found.best) (fixes_of rule found.best) (map box_of found.closed.items)
+IsCertified rule found =
+    IsCertificate rule (total_of found.best) (fixes_of rule found.best)
+    (map box_of found.closed.items)
 
 -- each box is the whole cell, or a half of a node that had to be cut
 abbrev pub AreNeeded : Rule → Found → Type 0

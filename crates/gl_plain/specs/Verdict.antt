@@ -6,7 +6,8 @@ use Rattle.gl_plain.specs.declared.verdict.Verdict.{Verdict}
 use Rattle.gl_plain.specs.declared.verdict.Verdict.TheVariants.{Closed, Open}
 
 -- a cell that passes its tests has a bound above each total that was found
-pub record Promises (rule : Rule) (total : Option ℕ) (cell : List (ℕ × ℕ)) (bound : ℕ) : Type 0 where
+pub record Promises (rule : Rule) (total : Option ℕ) (cell : List (ℕ × ℕ))
+    (bound : ℕ) : Type 0 where
   pub is_open : IsOpen rule cell
   pub is_bound : bound ≡ rule.bound cell
   pub above : (found : ℕ) → total ≡ Some found → found < bound

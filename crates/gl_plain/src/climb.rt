@@ -31,7 +31,8 @@ fn around<G: Goal>(goal: &G, tuple: &Tuple, free: u32) -> Cell
     cell
 }
 
-/// Dives into the cell round the best tuple in which the axes whose bits are set are free. The only error is want of memory.
+/// Dives into the cell round the best tuple in which the axes whose bits are set are free. The only
+/// error is want of memory.
 fn climb_over<G: Goal>(
     goal: &G,
     best: &mut Option<Best>,
@@ -53,8 +54,8 @@ fn climb_over<G: Goal>(
     }
 }
 
-/// Climbs from the best tuple over each set of so many axes in turn, until none of them finds a better one. The only error
-/// is want of memory.
+/// Climbs from the best tuple over each set of so many axes in turn, until none of them finds a
+/// better one. The only error is want of memory.
 pub(crate) fn climb<G: Goal>(
     goal: &G,
     best: &mut Option<Best>,

@@ -62,8 +62,8 @@ fn is_greater(one: &Option<Candidate>, other: &Option<Candidate>) -> bool {
     }
 }
 
-/// Puts the halves of a cell that may hold a better tuple on top, the one with the greater bound last. A cell of a single
-/// tuple is considered. The only error is want of memory.
+/// Puts the halves of a cell that may hold a better tuple on top, the one with the greater bound
+/// last. A cell of a single tuple is considered. The only error is want of memory.
 fn look<G: Goal>(
     goal: &G,
     cell: &Cell,
@@ -95,8 +95,9 @@ fn look<G: Goal>(
     Ok(())
 }
 
-/// Searches a cell depth first for better tuples, the half with the greater bound first, and stops after a fixed number of
-/// looks. `candidates` is room to work in. The only error is want of memory.
+/// Searches a cell depth first for better tuples, the half with the greater bound first, and stops
+/// after a fixed number of looks. `candidates` is room to work in. The only error is want of
+/// memory.
 pub(crate) fn dive<G: Goal>(
     goal: &G,
     cell: &Cell,

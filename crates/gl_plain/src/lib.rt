@@ -1,4 +1,5 @@
-//! The search on one thread: the optimum of a goal, with boxes that certify that no choice was overlooked.
+//! The search on one thread: the optimum of a goal, with boxes that certify that no choice was
+//! overlooked.
 #![tactic(auto)]
 
 mod climb;

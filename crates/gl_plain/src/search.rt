@@ -47,8 +47,8 @@ fn close(cells: &mut Vec<Cell>, boxes: &mut Vec<Closed>, why: Why) -> Result<(),
     Ok(())
 }
 
-/// One step of the search at the last open cell: it is closed, or gives way to its halves, the lower one last. The only
-/// error is want of memory.
+/// One step of the search at the last open cell: it is closed, or gives way to its halves, the
+/// lower one last. The only error is want of memory.
 #[inline]
 fn advance<G: Goal>(
     goal: &G,
@@ -102,9 +102,10 @@ fn run<G: Goal>(
     Ok(())
 }
 
-/// The optimum of a goal, and boxes that certify it: in the order of the split tree they are a frontier of the whole cell,
-/// and each is closed for the total by its reason. `best` is `None` exactly where no tuple is legal. No cell is cut that is
-/// disordered or shut. The only error is want of memory.
+/// The optimum of a goal, and boxes that certify it: in the order of the split tree they are a
+/// frontier of the whole cell, and each is closed for the total by its reason. `best` is `None`
+/// exactly where no tuple is legal. No cell is cut that is disordered or shut. The only error is
+/// want of memory.
 pub fn search_one<G: Goal>(alloc: Global, goal: &G) -> Result<Found, AllocError>
     ensures certificate { IfOk result (IsCertified (G.rule goal.now)) }
     ensures reached { IfOk result (λ found. IsSound (G.rule goal.now) found.best) }

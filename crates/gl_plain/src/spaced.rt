@@ -24,7 +24,8 @@ fn places_per_axis(axes: u8) -> usize
     }
 }
 
-/// One of `count` places that are evenly spaced over a list, the first and the last place among them.
+/// One of `count` places that are evenly spaced over a list, the first and the last place among
+/// them.
 fn spaced(len: u32, count: usize, index: usize) -> u32
     requires some { 1 ≤ len }
     requires two { 2 ≤ count }
@@ -35,8 +36,8 @@ fn spaced(len: u32, count: usize, index: usize) -> u32
     (index as u64 * u64::from(len - 1) / (count as u64 - 1)) as u32
 }
 
-/// Tries each tuple in time order that goes on with evenly spaced places on the axes from `axis` on, and keeps the best
-/// legal one for each place of the middle axis.
+/// Tries each tuple in time order that goes on with evenly spaced places on the axes from `axis`
+/// on, and keeps the best legal one for each place of the middle axis.
 fn extend<G: Goal>(
     goal: &G,
     tuple: &mut Tuple,
@@ -71,8 +72,8 @@ fn extend<G: Goal>(
     }
 }
 
-/// For each of some evenly spaced places of the middle axis the best legal tuple of evenly spaced places, if there is one.
-/// The only error is want of memory.
+/// For each of some evenly spaced places of the middle axis the best legal tuple of evenly spaced
+/// places, if there is one. The only error is want of memory.
 pub(crate) fn spaced_tuples<G: Goal>(
     alloc: Global,
     goal: &G,

@@ -29,8 +29,8 @@ fn best_below(kept: &[Option<Best>], limit: Option<u64>) -> Option<Best>
     found
 }
 
-/// A legal tuple of a goal and its value, a good one if there is one to be found soon, or none. The only error is want of
-/// memory.
+/// A legal tuple of a goal and its value, a good one if there is one to be found soon, or none. The
+/// only error is want of memory.
 pub fn warm_start<G: Goal>(alloc: Global, goal: &G) -> Result<Option<Best>, AllocError>
     ensures { IfOk result (λ best. IsSound (G.rule goal.now) best) }
 {
