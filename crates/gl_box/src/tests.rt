@@ -16,6 +16,22 @@ fn two_axes(first: Option<Span>, second: Option<Span>) -> Option<Cell> {
     Some(cell)
 }
 
+/// Takes what workers can be given and share.
+fn share<T: Send + Sync>(_value: &T) {}
+
+#[test]
+fn workers_can_share_boxes() {
+    let tuple = Tuple::first(2);
+    let cell = Cell::point(&tuple);
+    share(&cell);
+    share(&Closed {
+        cell,
+        why: Why::Bound,
+    });
+    share(&tuple);
+    share(&Span::point(0));
+}
+
 #[test]
 fn a_cell_is_cut_on_its_first_widest_axis(rt: HostRuntime) -> Result<(), Fail> {
     let cell = two_axes(span(0, 3), span(0, 3)).ok_or("spans")?;
