@@ -11,7 +11,7 @@ ghost use Rattle.gl_goal.specs.Laws.Free.{free_goal-is_goal};
 
 use crate::free::FreeGoal;
 use crate::goal::Goal;
-use crate::leg::{Leg, MOST_LEGS};
+use crate::leg::Leg;
 use gl_box::{Cell, Span, Tuple};
 use gl_hull::{Hull, Hulls, max_sq};
 use gl_igc::Fix;
@@ -136,6 +136,17 @@ impl FreeGoal {
     }
 }
 
+/// Where among so many legs the one from one span to another stands, if it does.
+#[inline]
+fn slot_of(from: Span, to: Span, slots: usize) -> usize
+    requires { 0 < slots }
+    ensures { result < slots }
+{
+    let near = from.lo.wrapping_add(from.hi).wrapping_mul(0x9E37_79B1);
+    let far = to.lo.wrapping_add(to.hi).wrapping_mul(0x85EB_CA77);
+    ((near ^ far) >> 8) as usize & (slots - 1)
+}
+
 impl FreeGoal {
     /// Measures the leg from one span to another.
     fn measured(&self, from: Span, to: Span) -> Leg
@@ -151,20 +162,25 @@ impl FreeGoal {
         Leg { from, to, most }
     }
 
-    /// The greatest distance from one span to another. It is known where the leg is that, and else
-    /// the leg becomes it.
+    /// The greatest distance from one span to another. It is known where it is among the legs that
+    /// were measured, and else joins them.
     #[inline]
-    fn most_by(&self, from: Span, to: Span, leg: &mut Leg) -> u64
+    fn most_by(&self, from: Span, to: Span, legs: &mut [Leg]) -> u64
         requires from { from.hi < length self.now.hulls }
         requires to { to.hi < length self.now.hulls }
-        requires leg { IsLeg self.now leg.old }
+        requires some { 0 < length legs.old }
+        requires legs { All (IsLeg self.now) legs.old }
         ensures value { result ≡ most_between self.now.hulls (ends from) (ends to) }
         ensures bound { result < 2 ^ 40 }
-        ensures leg { IsLeg self.now leg.new }
+        ensures legs { All (IsLeg self.now) legs.new }
     {
-        if leg.from != from || leg.to != to {
-            *leg = self.measured(from, to);
+        let slot = slot_of(from, to, legs.len());
+        let leg = legs[slot];
+        if leg.from == from && leg.to == to {
+            return leg.most;
         }
+        let leg = self.measured(from, to);
+        legs[slot] = leg;
         leg.most
     }
 }
@@ -226,26 +242,20 @@ impl Goal for FreeGoal {
         leg_at_most(&a, &b) + leg_at_most(&b, &c) + leg_at_most(&c, &d) + leg_at_most(&d, &e)
     }
 
-    ghost are_legs = { λ g legs. All (IsLeg g) legs };
+    ghost are_legs = { λ g legs. (0 < length legs) × All (IsLeg g) legs };
 
-    fn legs(&self) -> [Leg; MOST_LEGS] {
+    fn leg(&self) -> Leg {
         let first = Span::point(0);
-        let hull = self.hulls.hull(first);
-        let leg = Leg {
-            from: first,
-            to: first,
-            most: leg_at_most(&hull, &hull),
-        };
-        [leg; MOST_LEGS]
+        self.measured(first, first)
     }
 
     #[inline]
-    fn bound_by(&self, cell: &Cell, legs: &mut [Leg; MOST_LEGS]) -> u64 {
+    fn bound_by(&self, cell: &Cell, legs: &mut [Leg]) -> u64 {
         let [a, b, c, d, e, ..] = cell.spans;
-        let first = self.most_by(a, b, &mut legs[0]);
-        let second = self.most_by(b, c, &mut legs[1]);
-        let third = self.most_by(c, d, &mut legs[2]);
-        let fourth = self.most_by(d, e, &mut legs[3]);
+        let first = self.most_by(a, b, legs);
+        let second = self.most_by(b, c, legs);
+        let third = self.most_by(c, d, legs);
+        let fourth = self.most_by(d, e, legs);
         first + second + third + fourth
     }
 }

@@ -1,10 +1,10 @@
-ghost use Rattle.std.specs.Prelude.{◌≡◌, ◌<◌, ◌↔◌, IsTrue, List, length, slice_index_or, []};
+ghost use Rattle.std.specs.Prelude.{◌≡◌, ◌<◌, ◌↔◌, IsTrue, ℕ, List, length, replicate, slice_index_or, []};
 ghost use Rattle.gl_box.specs.Tuple.{places_of};
 ghost use Rattle.gl_box.specs.Cell.{Covers, spans_of};
 ghost use Rattle.gl_goal.specs.declared.leg.Leg.{Leg};
 ghost use Rattle.gl_goal.specs.Rule.{Rule, IsDisordered, IsGoal, IsLegal, IsTuple, fix_at, value, whole_cell};
 
-use crate::leg::{Leg, MOST_LEGS};
+use crate::leg::Leg;
 use gl_box::{Cell, Tuple};
 
 /// A maximum to be found: on each axis a list of fix numbers, of which a tuple chooses one place
@@ -14,7 +14,7 @@ pub trait Goal {
     /// The goal as the rules say it.
     ghost rule: { Self → Rule };
 
-    /// The legs that a search hands on from cell to cell are legs of this goal.
+    /// The legs that a search has measured are legs of this goal, and there is room for one at least.
     ghost are_legs: { Self → List Leg → Type 0 };
 
     /// How many axes there are, from 1 to 10.
@@ -57,13 +57,13 @@ pub trait Goal {
         requires { Covers (whole_cell (rule self.now).axes) (spans_of cell.now) }
         ensures { result ≡ (rule self.now).bound (spans_of cell.now) };
 
-    /// Legs to begin with, for `bound_by`.
-    fn legs(&self) -> [Leg; MOST_LEGS]
-        ensures { are_legs self.now result };
+    /// A leg to fill a list of legs with, for `bound_by`.
+    fn leg(&self) -> Leg
+        ensures { (count : ℕ) → 0 < count → are_legs self.now (replicate count result) };
 
-    /// The same as `bound`, sooner where most of the legs are those of the last cell: only the
-    /// others are measured. The legs become those of this cell.
-    fn bound_by(&self, cell: &Cell, legs: &mut [Leg; MOST_LEGS]) -> u64
+    /// The same as `bound`, sooner where some of the legs are among those that were measured: only the
+    /// others are measured, and join them.
+    fn bound_by(&self, cell: &Cell, legs: &mut [Leg]) -> u64
         requires covers { Covers (whole_cell (rule self.now).axes) (spans_of cell.now) }
         requires legs { are_legs self.now legs.old }
         ensures bound { result ≡ (rule self.now).bound (spans_of cell.now) }

@@ -10,5 +10,5 @@ mod numbers;
 
 pub use free::FreeGoal;
 pub use goal::Goal;
-pub use leg::{Leg, MOST_LEGS};
+pub use leg::Leg;
 pub use numbers::fix_numbers;

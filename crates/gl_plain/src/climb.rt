@@ -7,7 +7,7 @@ ghost use Rattle.gl_plain.specs.Search.{IsSound};
 use crate::dive::{Candidate, dive};
 use crate::found::Best;
 use gl_box::{Cell, Span, Tuple};
-use gl_goal::{Goal, Leg, MOST_LEGS};
+use gl_goal::{Goal, Leg};
 use std::alloc::AllocError;
 
 /// How many rounds a climb makes at most.
@@ -38,7 +38,7 @@ fn climb_over<G: Goal>(
     best: &mut Option<Best>,
     free: u32,
     candidates: &mut Vec<Candidate>,
-    legs: &mut [Leg; MOST_LEGS],
+    legs: &mut [Leg],
 ) -> Result<(), AllocError>
     requires sound { IsSound (G.rule goal.now) best.old }
     requires legs { G.are_legs goal.now legs.old }
@@ -61,7 +61,7 @@ pub(crate) fn climb<G: Goal>(
     best: &mut Option<Best>,
     free_axes: u32,
     candidates: &mut Vec<Candidate>,
-    legs: &mut [Leg; MOST_LEGS],
+    legs: &mut [Leg],
 ) -> Result<(), AllocError>
     requires sound { IsSound (G.rule goal.now) best.old }
     requires legs { G.are_legs goal.now legs.old }

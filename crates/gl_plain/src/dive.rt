@@ -8,7 +8,7 @@ ghost use Rattle.gl_plain.specs.Candidate.{AreWithin};
 use crate::found::{Best, beats};
 use crate::verdict::{Verdict, consider, test};
 use gl_box::{Cell, split};
-use gl_goal::{Goal, Leg, MOST_LEGS};
+use gl_goal::{Goal, Leg};
 use std::alloc::AllocError;
 
 /// How many cells a dive looks at at most; each look tests two cells.
@@ -26,7 +26,7 @@ fn tested<G: Goal>(
     goal: &G,
     cell: &Cell,
     best: &Option<Best>,
-    legs: &mut [Leg; MOST_LEGS],
+    legs: &mut [Leg],
 ) -> Option<Candidate>
     requires covers { Covers (whole_cell (G.rule goal.now).axes) (spans_of cell.now) }
     requires legs { G.are_legs goal.now legs.old }
@@ -69,7 +69,7 @@ fn look<G: Goal>(
     cell: &Cell,
     best: &mut Option<Best>,
     candidates: &mut Vec<Candidate>,
-    legs: &mut [Leg; MOST_LEGS],
+    legs: &mut [Leg],
 ) -> Result<(), AllocError>
     requires covers { Covers (whole_cell (G.rule goal.now).axes) (spans_of cell.now) }
     requires sound { IsSound (G.rule goal.now) best.old }
@@ -103,7 +103,7 @@ pub(crate) fn dive<G: Goal>(
     cell: &Cell,
     best: &mut Option<Best>,
     candidates: &mut Vec<Candidate>,
-    legs: &mut [Leg; MOST_LEGS],
+    legs: &mut [Leg],
 ) -> Result<(), AllocError>
     requires covers { Covers (whole_cell (G.rule goal.now).axes) (spans_of cell.now) }
     requires sound { IsSound (G.rule goal.now) best.old }

@@ -9,7 +9,7 @@ use crate::found::{Best, Found};
 use crate::verdict::{Verdict, test};
 use crate::warm::warm_start;
 use gl_box::{Cell, Closed, Span, Tuple, Why, halve};
-use gl_goal::{Goal, Leg, MOST_LEGS};
+use gl_goal::{Goal, Leg};
 use std::alloc::{AllocError, Global};
 
 /// Room for open cells: each cut adds one, and a cell can be cut at most 32 times on each axis.
@@ -17,6 +17,9 @@ const OPEN_ROOM: usize = 512;
 
 /// Room for closed boxes at the start.
 const CLOSED_ROOM: usize = 65_536;
+
+/// Room for measured legs; a power of two, so that all of it serves.
+const LEG_ROOM: usize = 4_096;
 
 /// The cell with each place of each axis.
 pub(crate) fn whole<G: Goal>(goal: &G) -> Cell
@@ -55,7 +58,7 @@ fn advance<G: Goal>(
     best: &mut Option<Best>,
     cells: &mut Vec<Cell>,
     boxes: &mut Vec<Closed>,
-    legs: &mut [Leg; MOST_LEGS],
+    legs: &mut [Leg],
 ) -> Result<(), AllocError>
     requires some { 0 < vec_len cells.old }
     requires needed { All (λ cell. IsNeeded (G.rule goal.now) (spans_of cell)) cells.old.items }
@@ -90,7 +93,7 @@ fn run<G: Goal>(
     best: &mut Option<Best>,
     cells: &mut Vec<Cell>,
     boxes: &mut Vec<Closed>,
-    legs: &mut [Leg; MOST_LEGS],
+    legs: &mut [Leg],
 ) -> Result<(), AllocError>
     requires under_way { IsUnderWay (G.rule goal.now) best.old cells.old.items boxes.old.items }
     requires legs { G.are_legs goal.now legs.old }
@@ -100,6 +103,13 @@ fn run<G: Goal>(
         advance(goal, best, cells, boxes, legs)?;
     }
     Ok(())
+}
+
+/// Room for the legs that a search measures.
+fn measured_legs<G: Goal>(alloc: Global, goal: &G) -> Result<Vec<Leg>, AllocError>
+    ensures { IfOk result (λ legs. G.are_legs goal.now legs.items) }
+{
+    vec![in alloc; goal.leg(); LEG_ROOM]
 }
 
 /// The optimum of a goal, and boxes that certify it: in the order of the split tree they are a
@@ -113,11 +123,12 @@ pub fn search_one<G: Goal>(alloc: Global, goal: &G) -> Result<Found, AllocError>
     ensures none { IfOk result (λ found. IsNone found.best ↔ HasNoLegal (G.rule goal.now)) }
     ensures needed { IfOk result (AreNeeded (G.rule goal.now)) }
 {
-    let mut best = warm_start(alloc, goal)?;
+    let mut legs = measured_legs(alloc, goal)?;
+    let mut best = warm_start(alloc, goal, legs.as_mut_slice())?;
     let mut cells = Vec::with_capacity(alloc, OPEN_ROOM)?;
     let mut boxes = Vec::with_capacity(alloc, CLOSED_ROOM)?;
     cells.push(whole(goal))?;
-    run(goal, &mut best, &mut cells, &mut boxes, &mut goal.legs())?;
+    run(goal, &mut best, &mut cells, &mut boxes, legs.as_mut_slice())?;
     Ok(Found {
         best,
         closed: boxes,

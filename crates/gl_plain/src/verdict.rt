@@ -7,7 +7,7 @@ ghost use Rattle.gl_plain.specs.Verdict.{IsVerdict};
 
 use crate::found::Best;
 use gl_box::{Cell, Tuple, Why};
-use gl_goal::{Goal, Leg, MOST_LEGS};
+use gl_goal::{Goal, Leg};
 
 /// What a goal's tests say of a cell.
 pub(crate) enum Verdict {
@@ -17,14 +17,9 @@ pub(crate) enum Verdict {
     Open(u64),
 }
 
-/// Tests a cell against what was found. `legs` are those that the last test measured.
+/// Tests a cell against what was found. `legs` are some that were measured.
 #[inline(always)]
-pub(crate) fn test<G: Goal>(
-    goal: &G,
-    cell: &Cell,
-    best: &Option<Best>,
-    legs: &mut [Leg; MOST_LEGS],
-) -> Verdict
+pub(crate) fn test<G: Goal>(goal: &G, cell: &Cell, best: &Option<Best>, legs: &mut [Leg]) -> Verdict
     requires covers { Covers (whole_cell (G.rule goal.now).axes) (spans_of cell.now) }
     requires legs { G.are_legs goal.now legs.old }
     ensures verdict { IsVerdict (G.rule goal.now) (total_of best.now) (spans_of cell.now) result }

@@ -4,7 +4,7 @@ ghost use Rattle.gl_plain.specs.Search.{IsSound};
 use crate::climb::climb;
 use crate::found::{Best, beats, better};
 use crate::spaced::spaced_tuples;
-use gl_goal::Goal;
+use gl_goal::{Goal, Leg};
 use std::alloc::{AllocError, Global};
 
 /// Room for the cells of a dive.
@@ -31,14 +31,19 @@ fn best_below(kept: &[Option<Best>], limit: Option<u64>) -> Option<Best>
 
 /// A legal tuple of a goal and its value, a good one if there is one to be found soon, or none. The
 /// only error is want of memory.
-pub fn warm_start<G: Goal>(alloc: Global, goal: &G) -> Result<Option<Best>, AllocError>
-    ensures { IfOk result (λ best. IsSound (G.rule goal.now) best) }
+pub fn warm_start<G: Goal>(
+    alloc: Global,
+    goal: &G,
+    legs: &mut [Leg],
+) -> Result<Option<Best>, AllocError>
+    requires legs { G.are_legs goal.now legs.old }
+    ensures sound { IfOk result (λ best. IsSound (G.rule goal.now) best) }
+    ensures legs { G.are_legs goal.now legs.new }
 {
     let mut kept = spaced_tuples(alloc, goal)?;
     let mut candidates = Vec::with_capacity(alloc, CANDIDATE_ROOM)?;
-    let mut legs = goal.legs();
     for best in kept.iter_mut() {
-        climb(goal, best, 1, &mut candidates, &mut legs)?;
+        climb(goal, best, 1, &mut candidates, legs)?;
     }
     let mut greatest = None;
     let mut limit = None;
@@ -48,9 +53,9 @@ pub fn warm_start<G: Goal>(alloc: Global, goal: &G) -> Result<Option<Best>, Allo
         };
         limit = Some(next.total);
         let mut best = Some(next);
-        climb(goal, &mut best, 2, &mut candidates, &mut legs)?;
+        climb(goal, &mut best, 2, &mut candidates, legs)?;
         greatest = better(greatest, best);
     }
-    climb(goal, &mut greatest, 3, &mut candidates, &mut legs)?;
+    climb(goal, &mut greatest, 3, &mut candidates, legs)?;
     Ok(greatest)
 }

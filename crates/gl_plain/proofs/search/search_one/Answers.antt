@@ -6,7 +6,7 @@ use Rattle.gl_plain.proofs.search.search_one.Goals as goal
 
 pub run-requires-clause-under_way : goal.run-requires-clause-under_way
 run-requires-clause-under_way g c =
-    under_way_start (g.G.Goal.rule c.args.goal.now) c.in_ok-best.best c.push.new.self.items c.in_ok-boxes.boxes.items c.whole.result c.in_ok-best.ensures c.in_ok-boxes.ensures.items
+    under_way_start (g.G.Goal.rule c.args.goal.now) c.in_ok-best.best c.push.new.self.items c.in_ok-boxes.boxes.items c.whole.result c.in_ok-best.ensures.sound c.in_ok-boxes.ensures.items
     (c.in_ok-push.ensures.items ∙ ap (λ (cells : List Cell). cells ++ c.whole.result ∷ []) c.in_ok-cells.ensures.items) c.whole.ensures
 
 pub returns-clause-certificate : goal.returns-clause-certificate

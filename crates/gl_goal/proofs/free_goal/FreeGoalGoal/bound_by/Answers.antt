@@ -1,9 +1,6 @@
 use Rattle.std.proofs.Common.{◌≡◌, ◌∙◌, ap, refl, ℕ, ◌+◌, arith}
-use Rattle.std.proofs.lemmas.List.Elements.{All-set}
-use Rattle.gl_goal.specs.declared.leg.Leg.{Leg}
 use Rattle.gl_goal.specs.Chain.{greatest_legs}
 use Rattle.gl_goal.specs.Free.{free_goal}
-use Rattle.gl_goal.specs.FreeLegs.{IsLeg}
 use Rattle.gl_goal.proofs.FreeHulls.{hull-fits, hulls_of-five}
 use Rattle.gl_goal.proofs.free_goal.FreeGoalGoal.bound_by.Goals as goal
 
@@ -49,9 +46,3 @@ returns-clause-bound c =
     let cell = c.args.cell.now in
     let hulls = hulls_of-five g cell c.index-cell-0.result c.index-cell-1.result c.index-cell-2.result c.index-cell-3.result c.index-cell-4.result _ _ _ _ _ c.requires.covers refl refl refl refl refl in
     four_legs _ _ _ _ _ _ _ _ c.most_by-first.ensures.value c.most_by-second.ensures.value c.most_by-third.ensures.value c.most_by-fourth.ensures.value ∙ ap greatest_legs hulls
-
-pub returns-clause-legs : goal.returns-clause-legs
-unfolding free_goal
-returns-clause-legs c =
-    let P : Leg → Type 0 = IsLeg c.args.self.now in
-    All-set P _ 3 _ c.most_by-fourth.ensures.leg (All-set P _ 2 _ c.most_by-third.ensures.leg (All-set P _ 1 _ c.most_by-second.ensures.leg (All-set P _ 0 _ c.most_by-first.ensures.leg c.requires.legs)))
