@@ -1,5 +1,5 @@
 -- What is inside a volume of airspace.
-use Rattle.std.specs.Prelude.{ℕ, ◌%◌, Bool, ◌&&◌, nat_le, ◌==◌, if◌then◌else◌, count_by, List, [], ◌∷◌, ◌-ℤ◌, ◌*ℤ◌, int_le, int_lt, length, position, slice_index_or, unwrap_or}
+use Rattle.std.specs.Prelude.{ℕ, ◌%◌, Bool, ◌&&◌, nat_le, ◌==◌, if◌then◌else◌, count_by, List, [], ◌∷◌, ◌-ℤ◌, ◌*ℤ◌, int_le, int_lt, length, position, slice_get, unwrap_or, Option, None, Some, ◌-◌}
 use Rattle.std.specs.List.{list_any}
 use Rattle.gl_sphere.specs.declared.place.Grid.{Grid}
 use Rattle.gl_sphere.specs.declared.place.Vec3.{Vec3}
@@ -10,15 +10,18 @@ use Rattle.gl_airspace.specs.declared.volume.Shape as shape
 use Rattle.gl_airspace.specs.declared.volume.Shape.TheVariants.{Polygon, Circle}
 use Rattle.gl_airspace.specs.declared.volume.Circle as circle
 
--- the edges from each of some corners to the next, and from the last one to the first of all
-abbrev pub edges_to : Grid → List Grid → List (Grid × Grid)
-edges_to first [] = []
-edges_to first (corner ∷ corners) = (corner, slice_index_or corners 0 first) ∷ edges_to first corners
+-- the edges from a corner to the first of some others, and from each of them to the next
+abbrev pub edges_from : Grid → List Grid → List (Grid × Grid)
+edges_from corner [] = []
+edges_from corner (next ∷ corners) = (corner, next) ∷ edges_from next corners
 
--- the edges of a polygon with these corners
+-- the edges of a polygon with these corners, the last of which is joined to the first
+abbrev pub edges_round : Option Grid → List Grid → List (Grid × Grid)
+edges_round None corners = []
+edges_round (Some last) corners = edges_from last corners
+
 abbrev pub edges_of : List Grid → List (Grid × Grid)
-edges_of [] = []
-edges_of (first ∷ corners) = edges_to first (first ∷ corners)
+edges_of corners = edges_round (slice_get corners (length corners - 1)) corners
 
 -- a place is on a level with an edge, from its lower end on and below its upper one
 abbrev pub is_level : Grid → Grid → Grid → Bool

@@ -1,6 +1,6 @@
 ghost use Rattle.std.specs.Prelude.{◌≡◌, ◌*ℤ◌, ◌-ℤ◌, position, count_by};
 ghost use Rattle.std.specs.List.{list_any};
-ghost use Rattle.gl_airspace.specs.Inside.{counts, counts_upwards, edges_to, fixes_before_airspace, is_in_circle, is_in_polygon, is_in_shape, is_inside, is_level, is_west_of};
+ghost use Rattle.gl_airspace.specs.Inside.{counts, counts_upwards, edges_from, fixes_before_airspace, is_in_circle, is_in_polygon, is_in_shape, is_inside, is_level, is_west_of};
 
 use crate::volume::{Airspace, Circle, Shape, Volume};
 use gl_igc::Fix;
@@ -49,18 +49,18 @@ fn counts(place: Grid, from: Grid, to: Grid) -> bool
     }
 }
 
-/// How many edges count for a place: from each corner to the next, and from the last to `first`.
-fn count_edges(first: Grid, corners: &[Grid], place: Grid) -> usize
-    ensures { result ≡ count_by (counts place) (edges_to first corners.now) }
+/// How many edges count for a place: from a corner to the first of some others, and from each of them
+/// to the next.
+fn count_edges(corner: Grid, corners: &[Grid], place: Grid) -> usize
+    ensures { result ≡ count_by (counts place) (edges_from corner corners.now) }
 {
     let mut count = 0;
-    let mut rest = corners;
-    'edges: while let Some((&corner, others)) = rest.split_first() {
-        let next = others.first().copied().unwrap_or(first);
-        if counts(place, corner, next) {
+    let mut from = corner;
+    for &to in corners {
+        if counts(place, from, to) {
             count += 1;
         }
-        rest = others;
+        from = to;
     }
     count
 }
@@ -70,8 +70,8 @@ fn count_edges(first: Grid, corners: &[Grid], place: Grid) -> usize
 fn is_in_polygon(corners: &[Grid], place: Grid) -> bool
     ensures { result ≡ is_in_polygon corners.now place }
 {
-    match corners.first() {
-        Some(&first) => count_edges(first, corners, place) % 2 == 1,
+    match corners.last() {
+        Some(&last) => count_edges(last, corners, place) % 2 == 1,
         None => false,
     }
 }

@@ -1,3 +1,5 @@
+ghost use Rattle.std.specs.Prelude.{◌≤ℤ◌, neg_ℤ, pos};
+
 use gl_airspace::{AirError, Airspace, cut, empty, inside, read_openair};
 use gl_igc::Fix;
 use gl_sphere::{Grid, vector};
@@ -13,12 +15,20 @@ const SQUARE: &str =
 /// A circle of 60 nautical miles and as many thousandths as a text says.
 const ROUND: &str = "AC Q\nAL 1000 m\nAH 3281 ft\nV X=0:0 N 0:0 E\nDC 60.";
 
-/// A fix at a place in 1/100,000 minute and an altitude in metres.
-fn fix(rt: &impl Abort, lat: i32, lon: i32, alt: i32) -> Fix {
-    assert!(rt; -540_000_000 <= lat && lat <= 540_000_000);
-    assert!(rt; -1_080_000_000 <= lon && lon <= 1_080_000_000);
-    assert!(rt; -9_999 <= alt && alt <= 32_767);
-    let grid = Grid { lat, lon };
+/// A place in 1/100,000 minute.
+fn grid(rt: &impl Abort, lat: i32, lon: i32) -> Grid {
+    assert!(rt; lat >= -540_000_000);
+    assert!(rt; lat <= 540_000_000);
+    assert!(rt; lon >= -1_080_000_000);
+    assert!(rt; lon <= 1_080_000_000);
+    Grid { lat, lon }
+}
+
+/// A fix over a place, at an altitude in metres.
+fn fix_over(grid: Grid, alt: i32) -> Fix
+    requires above { neg_ℤ (pos 9_999) ≤ℤ alt }
+    requires below { alt ≤ℤ pos 32_767 }
+{
     Fix {
         second: 36_000,
         grid,
@@ -26,6 +36,13 @@ fn fix(rt: &impl Abort, lat: i32, lon: i32, alt: i32) -> Fix {
         alt,
         enl: None,
     }
+}
+
+/// The same at a place in 1/100,000 minute.
+fn fix(rt: &impl Abort, lat: i32, lon: i32, alt: i32) -> Fix {
+    assert!(rt; alt >= -9_999);
+    assert!(rt; alt <= 32_767);
+    fix_over(grid(rt, lat, lon), alt)
 }
 
 /// How many volumes a text has, or why it is refused.
