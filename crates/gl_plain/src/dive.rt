@@ -12,7 +12,7 @@ use gl_goal::{Goal, Leg};
 use std::alloc::AllocError;
 
 /// How many cells a dive looks at at most; each look tests two cells.
-const MOST_LOOKS: u32 = 4_000;
+const MOST_LOOKS: u32 = 1_000;
 
 /// A cell that may hold a legal tuple worth as much as its bound.
 #[derive(Clone, Copy)]
