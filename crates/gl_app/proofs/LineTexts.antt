@@ -1,5 +1,5 @@
 -- A right answer without a result says one line.
-use Rattle.std.proofs.Common.{◌≡◌, ◌≢◌, refl, sym, ap, ◌∙◌, subst, ℕ, ◌<◌, ◌-◌, ◌^◌, Bool, true, false, not, ◌==◌, ◌&&◌, if◌then◌else◌, List, [], ◌∷◌, ◌++◌, length, take, Option, None, Some, Result, Ok, Err, codes, ℤ, arith}
+use Rattle.std.proofs.Common.{◌≡◌, ◌≢◌, refl, sym, ap, subst, ℕ, ◌<◌, ◌-◌, ◌^◌, Bool, true, false, not, ◌==◌, ◌&&◌, if◌then◌else◌, List, [], ◌∷◌, ◌++◌, length, take, Option, None, Some, Result, Ok, Err, codes, ℤ, arith}
 use Rattle.std.specs.Prelude.{IfNone, MatchBool, nat_lt, slice_get}
 use Rattle.std.specs.List.{list_all}
 use Rattle.std.specs.Cmp.{first_so, second_so}
@@ -24,7 +24,7 @@ use Rattle.gl_app.specs.declared.refusal.Refusal.TheVariants.{NotListed, TooLarg
 use Rattle.gl_app.specs.declared.status.Status.TheVariants.{Done}
 use Rattle.gl_app.specs.Answer.{Answer, refused}
 use Rattle.gl_app.specs.Free.{IsFree, IsFreeOfText, most_bytes}
-use Rattle.gl_app.specs.Refusals.{Parts, Place, Nowhere, AtLine, AtKey, place_text, line_with, refusal_line}
+use Rattle.gl_app.specs.Refusals.{Parts, place_text, line_with, refusal_line}
 use Rattle.gl_app.specs.Run.{IsRight, SaidLine}
 use Rattle.gl_app.specs.Statuses.{stop_at}
 use Rattle.gl_app.specs.Texts.{IsLine, usage_line}

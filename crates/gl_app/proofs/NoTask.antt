@@ -1,12 +1,11 @@
 -- Without a day of a task no recording is of another day.
-use Rattle.std.proofs.Common.{◌≡◌, ◌≢◌, refl, ℕ, ◌==◌, if◌then◌else◌, length, Bool, true, false, List, Option, None, Some, Result, Ok, Err, ℤ}
+use Rattle.std.proofs.Common.{◌≢◌, ℕ, ◌==◌, if◌then◌else◌, length, Bool, true, false, List, Option, None, Some, Ok, Err, ℤ}
 use Rattle.std.specs.Prelude.{slice_get}
 use Rattle.gl_igc.specs.Reading.{Reading, recording_of, recording_of_lines, reading_of_opening, reading_of_day, reading_of_fixes, reading_at, opening_of_line, is_wrong_day, shift_of, most_fixes}
 use Rattle.gl_igc.specs.UsedFixes.{UsedFix, used_fixes}
 use Rattle.gl_igc.specs.FirstOf.{first_of}
 use Rattle.gl_igc.specs.Dates.{date_of_line}
-use Rattle.gl_igc.specs.declared.error.IgcError.{IgcError}
-use Rattle.gl_igc.specs.declared.error.IgcError.TheVariants.{NotIgc, NoDate, WrongDay, TooManyFixes, NoFix}
+use Rattle.gl_igc.specs.declared.error.IgcError.TheVariants.{WrongDay, NoFix}
 use Rattle.gl_text.specs.Lines.{lines_of}
 
 none_of_day : (none : Bool) (reading : Reading) (day : ℤ) → (if none then Err NoFix else Ok reading) ≢ Err (WrongDay day)

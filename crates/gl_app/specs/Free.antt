@@ -7,7 +7,6 @@ use Rattle.gl_igc.specs.declared.error.IgcError.TheVariants as igc
 use Rattle.gl_igc.specs.Recording.{sighting_of}
 use Rattle.gl_goal.specs.Rule.{Rule, IsReached, IsOptimum, chosen}
 use Rattle.gl_goal.specs.Free.{free_goal}
-use Rattle.gl_app.specs.declared.status.Status.{Status}
 use Rattle.gl_app.specs.declared.status.Status.TheVariants.{Done}
 use Rattle.gl_app.specs.declared.refusal.Refusal.TheVariants.{NotListed, TooLarge, NotIgc, NoDate, TooManyFixes, NoFix}
 use Rattle.gl_app.specs.Answer.{Answer, saying, refused}

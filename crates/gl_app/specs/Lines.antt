@@ -1,5 +1,4 @@
 -- What the parts of a line are in the code.
-use Rattle.std.specs.Prelude.{ℕ}
 use Rattle.gl_app.specs.declared.line.Place as code
 use Rattle.gl_app.specs.declared.line.Place.TheVariants as place
 use Rattle.gl_app.specs.declared.line.Parts as code_parts

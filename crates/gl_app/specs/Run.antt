@@ -40,8 +40,8 @@ IsAppended (Some name) text before after =
     OutputGrows before.outputs after.outputs name text
     × FileTakes before.folder after.folder name text
     × ((other : List ℕ) → other ≢ name
-        → (output_of after.outputs other ≡ output_of before.outputs other)
-        × (file_of after.folder other ≡ file_of before.folder other))
+    → (output_of after.outputs other ≡ output_of before.outputs other)
+    × (file_of after.folder other ≡ file_of before.folder other))
 
 -- the answer was given: all of it was appended and said, and the run ended with its status
 pub record Gives (target : Option (List ℕ)) (answer : Answer) (status : Status)
@@ -71,7 +71,7 @@ Ends Right target status before after =
     MatchOption (stop_at status)
     ((answer : Answer) × Right answer × Gives target answer status before after)
     (λ _. GivesNothing before after
-        ⊎ ((answer : Answer) × Right answer × GivesPart target answer before after))
+    ⊎ ((answer : Answer) × Right answer × GivesPart target answer before after))
 
 -- one line was said
 abbrev pub SaidLine : Option (List ℕ) → Option (List ℕ) → Type 0

@@ -37,10 +37,7 @@ fn is_file_name(name: &Name) -> bool
 {
     let bytes = name.as_str().as_bytes();
     let length = bytes.len();
-    length >= 1
-        && length <= MOST_NAME_BYTES
-        && are_name_bytes(bytes)
-        && !is_dots(name.as_str())
+    length >= 1 && length <= MOST_NAME_BYTES && are_name_bytes(bytes) && !is_dots(name.as_str())
 }
 
 /// `free FILE`.

@@ -4,7 +4,7 @@ use Rattle.std.specs.Prelude.{IsSome, IfSome}
 use Rattle.std.proofs.lemmas.List.{length-replicate}
 use Rattle.gl_desk.specs.declared.error.DeskError.{DeskError}
 use Rattle.gl_desk.specs.Answers.{CountsFaults, OnlyReads}
-use Rattle.gl_desk.specs.Desk.{FilesByName, Told, HasFile, IsSeenIn, IsLongerThan, OnFile, ReadsFrom}
+use Rattle.gl_desk.specs.Desk.{FilesByName, Told, HasFile, IsLongerThan, OnFile, ReadsFrom}
 use Rattle.gl_desk.proofs.Pieces.{IsFirstPart}
 
 counts_then : (stop : Option DeskError) (a b c : ℕ) → b ≡ a → CountsFaults stop b c → CountsFaults stop a c

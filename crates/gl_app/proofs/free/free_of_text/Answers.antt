@@ -1,7 +1,3 @@
-use Rattle.std.proofs.Common.{◌≡◌, ◌∙◌, ap, None, Err}
-use Rattle.gl_igc.specs.Reading.{Reading, recording_of}
-use Rattle.gl_igc.specs.declared.error.IgcError.{IgcError}
-use Rattle.gl_igc.specs.declared.error.IgcError.TheVariants.{WrongDay}
 use Rattle.gl_app.proofs.NoTask.{never_of_another_day}
 use Rattle.gl_app.proofs.free.free_of_text.Goals as goal
 

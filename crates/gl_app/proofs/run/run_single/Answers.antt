@@ -1,4 +1,4 @@
-use Rattle.std.proofs.Common.{◌≡◌, ◌∙◌, ap, sym}
+use Rattle.std.proofs.Common.{◌∙◌, ap}
 use Rattle.gl_desk.specs.Desk.{followed_by}
 use Rattle.gl_app.specs.Answer.{answer_of}
 use Rattle.gl_app.proofs.LineTexts.{said_line}
