@@ -3,9 +3,12 @@
 #![tactic(auto)]
 
 mod line;
+mod product;
+mod sides;
 mod zone;
 
 pub use line::Line;
+pub use sides::side;
 pub use zone::{
     Cylinder, GREATEST_LENGTH, LEAST_LENGTH, MOST_PARTS, Part, Sector, WHOLE_TURN, Zone,
 };
