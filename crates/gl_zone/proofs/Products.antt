@@ -78,3 +78,9 @@ three_fit w a b c m room h k l =
     let e : to_z w (of_z w (to_z w (of_z w a) +ℤ to_z w (of_z w b))) ≡ a +ℤ b = sum_kept w a b m m (omega arith) h k in
     let f : to_z w (of_z w c) ≡ c = kept w c m (omega arith) l in
     rw (e, f) (fits_within w (a +ℤ b +ℤ c) (m + m + m) room (sum_within (a +ℤ b) c (m + m) m (sum_within a b m m h k) l))
+
+pub difference_fits : (w : Width) (a b : ℤ) (m n : ℕ) → m + n < 2 ^ hbits w → IsWithin m a → IsWithin n b → FitsSigned w (to_z w (of_z w a) -ℤ to_z w (of_z w b))
+difference_fits w a b m n room h k =
+    let e : to_z w (of_z w a) ≡ a = kept w a m (omega arith) h in
+    let f : to_z w (of_z w b) ≡ b = kept w b n (omega arith) k in
+    rw (e, f) (fits_within w (a -ℤ b) (m + n) room (difference_within a b m n h k))

@@ -2,11 +2,19 @@
 //! forwards, and which zones hold a point. All of it is whole-number arithmetic.
 #![tactic(auto)]
 
+mod containment;
+mod crossings;
+mod direction;
 mod line;
 mod product;
 mod sides;
+#[cfg(test)]
+mod tests;
+mod way;
 mod zone;
 
+pub use containment::holds;
+pub use crossings::crossing;
 pub use line::Line;
 pub use sides::side;
 pub use zone::{

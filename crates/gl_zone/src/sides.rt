@@ -37,7 +37,11 @@ pub fn side(line: &Line, x: Vec3) -> i128
     ensures value { result ≡ side_of line.now x }
     ensures bound { IsWithin greatest_side result }
 {
-    let Line { centre, towards, .. } = *line;
+    let Line {
+        centre,
+        towards,
+        ..
+    } = *line;
     let square = scalar_product(centre, centre);
     let along = scalar_product(centre, towards);
     share_of_side(forwards(centre.x, towards.x, square, along), x.x)
