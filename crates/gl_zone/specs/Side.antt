@@ -3,7 +3,7 @@ use Rattle.std.specs.Prelude.{ℕ, ◌*◌, ℤ, ◌+ℤ◌, ◌-ℤ◌, ◌*ℤ
 use Rattle.gl_sphere.specs.declared.place.Vec3.{Vec3}
 use Rattle.gl_sphere.specs.Sphere.{radius}
 use Rattle.gl_zone.specs.declared.line.Line.{Line}
-use Rattle.gl_zone.specs.Product.{scalar_product, greatest_product, greatest_scalar_product}
+use Rattle.gl_zone.specs.Product.{scalar_product, greatest_scalar_product}
 
 -- a component of Q·(P·P) - P·(P·Q), the direction over a line with the centre P towards Q, where p
 -- and q are that component of P and Q

@@ -1,10 +1,13 @@
 // The expected values were computed by a program of exact whole numbers in another language,
 // written from the formulas alone.
-ghost use Rattle.std.specs.Prelude.{◌≤ℤ◌, ◌<◌, ◌≤◌, pos, neg_ℤ};
+ghost use Rattle.std.specs.Prelude.{◌≡◌, ◌<◌, ◌≤◌};
 ghost use Rattle.gl_sphere.specs.Range.{IsWithin};
-ghost use Rattle.gl_zone.specs.Limits.{greatest_length, whole_turn};
+ghost use Rattle.gl_zone.specs.Limits.{greatest_length, least_length, most_parts, whole_turn};
 
-use crate::{Cylinder, Line, Part, Sector, Zone, crossing, holds, side};
+use crate::{
+    Cylinder, GREATEST_LENGTH, LEAST_LENGTH, Line, MOST_PARTS, Part, Sector, WHOLE_TURN, Zone,
+    crossing, holds, side,
+};
 use gl_igc::{Fix, Items};
 use gl_sphere::{Grid, east, north, vector};
 use std::test::Fail;
@@ -44,6 +47,14 @@ fn fix_at(second: i32, grid: Grid) -> Fix
         enl: None,
     }
 }
+
+/// The constants are the numbers of the definitions.
+fn constants()
+    ensures greatest_length { GREATEST_LENGTH ≡ greatest_length }
+    ensures least_length { LEAST_LENGTH ≡ least_length }
+    ensures most_parts { MOST_PARTS ≡ most_parts }
+    ensures whole_turn { WHOLE_TURN ≡ whole_turn }
+{}
 
 /// Takes what threads may share.
 fn share<T: Send + Sync>(_value: &T) {}
@@ -157,16 +168,16 @@ fn sector_at(grid: Grid, inner: u64, outer: u64, from: u32, to: u32) -> Part
 fn sectors(rt: HostRuntime) -> Result<(), Fail> {
     // One degree from the origin to the north, the north-east and so on round to the north-west,
     // and the origin.
-    let around: [(i32, i32); 9] = [
-        (1, 0),
-        (1, 1),
-        (0, 1),
-        (-1, 1),
-        (-1, 0),
-        (-1, -1),
-        (0, -1),
-        (1, -1),
-        (0, 0),
+    let around = [
+        NORTH,
+        place(6_000_000, 6_000_000),
+        EAST,
+        place(-6_000_000, 6_000_000),
+        place(-6_000_000, 0),
+        place(-6_000_000, -6_000_000),
+        place(0, -6_000_000),
+        place(6_000_000, -6_000_000),
+        ORIGIN,
     ];
     let cases: [(Part, [u8; 9]); 7] = [
         (sector_at(ORIGIN, 0, 20_000_000, 0, 90_000), *b"YYYnnnnnY"),
@@ -197,13 +208,9 @@ fn sectors(rt: HostRuntime) -> Result<(), Fail> {
             centre: vector(ORIGIN),
             parts: Items::from_vec(vec![in rt.alloc(); *part]?),
         };
-        for ((north, east), held) in around.iter().zip(inside) {
-            let x = vector(place(6_000_000 * north, 6_000_000 * east));
-            assert_eq!(rt;
-                holds(&zone, x),
-                *held == b'Y',
-                "{north} {east} of {part:?}"
-            );
+        for (grid, held) in around.iter().zip(inside) {
+            let held = *held == b'Y';
+            assert_eq!(rt; holds(&zone, vector(*grid)), held, "{grid:?} of {part:?}");
         }
     }
     Ok(())

@@ -1,4 +1,4 @@
-use Rattle.std.proofs.Common.{rules, ◌*◌, sym, subst}
+use Rattle.std.proofs.Common.{rules, sym, subst}
 use Rattle.gl_sphere.specs.Range.{IsWithin}
 use Rattle.gl_sphere.specs.Sphere.{radius}
 use Rattle.gl_zone.specs.Product.{greatest_product}

@@ -2,7 +2,7 @@ use Rattle.std.proofs.Common.{◌≡◌, ◌*◌, ◌*ℤ◌, ◌-ℤ◌, ℤ, p
 use Rattle.std.specs.Prelude.{int_le}
 use mir.Syntax.{w128}
 use Rattle.gl_zone.specs.Product.{greatest_scalar_product}
-use Rattle.gl_zone.specs.Zones.{cross, is_clockwise}
+use Rattle.gl_zone.specs.Zones.{cross}
 use Rattle.gl_zone.proofs.Products.{difference_fits, difference_kept, product_passed}
 use Rattle.gl_zone.proofs.direction.Direction.is_clockwise.Goals as goal
 
