@@ -56,7 +56,8 @@ is_between_radials s x =
 
 -- a point lies between a sector's two distances
 abbrev pub is_between_distances : sector.Sector → Vec3 → Bool
-is_between_distances s x = nat_le s.inner (distance x s.centre) && nat_le (distance x s.centre) s.outer
+is_between_distances s x =
+    nat_le s.inner (distance x s.centre) && nat_le (distance x s.centre) s.outer
 
 -- a point is in a sector
 abbrev pub is_in_sector : sector.Sector → Vec3 → Bool

@@ -1,8 +1,7 @@
-ghost use Rattle.std.specs.Prelude.{◌≡◌, ◌*◌, ◌<◌};
+ghost use Rattle.std.specs.Prelude.{◌≡◌, ◌<◌};
 ghost use Rattle.gl_sphere.specs.Range.{IsWithin};
 ghost use Rattle.gl_zone.specs.Limits.{whole_turn};
-ghost use Rattle.gl_zone.specs.Product.{greatest_scalar_product};
-ghost use Rattle.gl_zone.specs.Zones.{angle_of, cross, direction_of, distance, is_between_distances, is_between_radials, is_clockwise, is_in_cylinder, is_in_part, is_in_sector, is_in_zone, radial_of, width_of};
+ghost use Rattle.gl_zone.specs.Zones.{angle_of, direction_of, is_between_distances, is_between_radials, is_clockwise, is_in_cylinder, is_in_part, is_in_sector, is_in_zone, radial_of};
 
 use crate::direction::Direction;
 use crate::product::scalar_product;

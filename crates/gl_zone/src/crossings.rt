@@ -1,4 +1,4 @@
-ghost use Rattle.std.specs.Prelude.{◌≡◌, ℤ, ◌<ℤ◌, ◌≤ℤ◌, IfSome, IfNone, pos, unsigned_abs, ◌/◌};
+ghost use Rattle.std.specs.Prelude.{◌≡◌, ℤ, ◌<ℤ◌, ◌≤ℤ◌, IfSome, IfNone, unsigned_abs, ◌/◌};
 ghost use Rattle.gl_sphere.specs.Range.{IsWithin};
 ghost use Rattle.gl_zone.specs.Crossing.{CrossesForwards};
 ghost use Rattle.gl_zone.specs.Side.{greatest_side};

@@ -4,7 +4,8 @@ ghost use Rattle.gl_zone.specs.Limits.{greatest_length};
 use gl_sphere::Vec3;
 
 /// A start or finish line: the great circle through its centre that is square to the direction of
-/// another point, as far as the half width to both sides. It is crossed forwards towards that point.
+/// another point, as far as the half width to both sides. It is crossed forwards towards that
+/// point.
 #[derive(Clone, Copy, Debug, PartialEq, Eq)]
 pub struct Line {
     /// The point in the middle of the line.
