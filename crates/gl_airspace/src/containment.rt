@@ -1,10 +1,10 @@
-ghost use Rattle.std.specs.Prelude.{◌≡◌, ◌*ℤ◌, ◌-ℤ◌, position, count_by};
+ghost use Rattle.std.specs.Prelude.{◌≡◌, ℕ, ◌+◌, ◌*◌, ◌≤◌, ◌*ℤ◌, ◌-ℤ◌, position, count_by};
 ghost use Rattle.std.specs.List.{list_any};
-ghost use Rattle.gl_airspace.specs.Inside.{counts, counts_upwards, edges_from, fixes_before_airspace, is_in_circle, is_in_polygon, is_in_shape, is_inside, is_level, is_west_of};
+ghost use Rattle.gl_airspace.specs.Inside.{counts, edges_from, fixes_before_airspace, is_in_circle, is_in_polygon, is_in_shape, is_inside, is_west_of};
 
 use crate::volume::{Airspace, Circle, Shape, Volume};
 use gl_igc::Fix;
-use gl_sphere::{Grid, Vec3, dist, sq};
+use gl_sphere::{GREATEST_SQUARE, Grid, Vec3, dist, sq};
 
 /// How far `east` lies east of a place, times how far `north` lies north of it.
 fn rectangle(from: Grid, east: Grid, north: Grid) -> i64
@@ -13,13 +13,6 @@ fn rectangle(from: Grid, east: Grid, north: Grid) -> i64
     let along = i64::from(east.lon) - i64::from(from.lon);
     let up = i64::from(north.lat) - i64::from(from.lat);
     along * up
-}
-
-/// Whether a place is on a level with an edge: from its lower end on, and below its upper one.
-fn is_level(lower: Grid, upper: Grid, place: Grid) -> bool
-    ensures { result ≡ is_level lower upper place }
-{
-    lower.lat <= place.lat && place.lat < upper.lat
 }
 
 /// Whether a place lies west of an edge on a level with it.
@@ -31,21 +24,18 @@ fn is_west_of(lower: Grid, upper: Grid, place: Grid) -> bool
     along < across
 }
 
-/// Whether an edge from its lower end to its upper one counts for a place.
-fn counts_upwards(lower: Grid, upper: Grid, place: Grid) -> bool
-    ensures { result ≡ counts_upwards lower upper place }
-{
-    is_level(lower, upper, place) && is_west_of(lower, upper, place)
-}
-
-/// Whether an edge counts for a place.
+/// Whether an edge counts for a place. Most edges have both ends on one side of it.
 fn counts(place: Grid, from: Grid, to: Grid) -> bool
     ensures { result ≡ counts place (from, to) }
 {
-    if from.lat <= to.lat {
-        counts_upwards(from, to, place)
+    let is_from_above = place.lat < from.lat;
+    let is_to_above = place.lat < to.lat;
+    if is_from_above == is_to_above {
+        false
+    } else if is_to_above {
+        is_west_of(from, to, place)
     } else {
-        counts_upwards(to, from, place)
+        is_west_of(to, from, place)
     }
 }
 
@@ -76,11 +66,20 @@ fn is_in_polygon(corners: &[Grid], place: Grid) -> bool
     }
 }
 
-/// Whether a point is in a circle.
+/// The square of one more than a radius, as far as there are numbers.
+fn square_beyond(radius: u64) -> u64
+    ensures { (q : ℕ) → q ≤ GREATEST_SQUARE → result ≤ q → (radius + 1) * (radius + 1) ≤ q }
+{
+    let beyond = radius.saturating_add(1);
+    beyond.saturating_mul(beyond)
+}
+
+/// Whether a point is in a circle. The distance isn't less than the chord, so most points need none.
 fn is_in_circle(circle: &Circle, at: Vec3) -> bool
     ensures { result ≡ is_in_circle circle.now at }
 {
-    dist(sq(at, circle.centre)) <= circle.radius
+    let q = sq(at, circle.centre);
+    q < square_beyond(circle.radius) && dist(q) <= circle.radius
 }
 
 /// Whether a fix is in a shape on the map.
