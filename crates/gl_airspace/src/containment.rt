@@ -2,6 +2,7 @@ ghost use Rattle.std.specs.Prelude.{◌≡◌, ℕ, ◌+◌, ◌*◌, ◌≤◌,
 ghost use Rattle.std.specs.List.{list_any};
 ghost use Rattle.gl_airspace.specs.Inside.{counts, edges_from, fixes_before_airspace, is_in_circle, is_in_polygon, is_in_shape, is_inside, is_west_of};
 
+use crate::polygon::Polygon;
 use crate::volume::{Airspace, Circle, Shape, Volume};
 use gl_igc::Fix;
 use gl_sphere::{GREATEST_SQUARE, Grid, Vec3, dist, sq};
@@ -55,15 +56,22 @@ fn count_edges(corner: Grid, corners: &[Grid], place: Grid) -> usize
     count
 }
 
-/// Whether a place is in the polygon with these corners.
+/// Whether an odd number of edges of the polygon with these corners count for a place.
 #[tactic(auto, unfolding(crate::specs::Inside::is_in_polygon))]
-fn is_in_polygon(corners: &[Grid], place: Grid) -> bool
+fn counts_odd(corners: &[Grid], place: Grid) -> bool
     ensures { result ≡ is_in_polygon corners.now place }
 {
     match corners.last() {
         Some(&last) => count_edges(last, corners, place) % 2 == 1,
         None => false,
     }
+}
+
+/// Whether a place is in a polygon.
+fn is_in_polygon(polygon: &Polygon, place: Grid) -> bool
+    ensures { result ≡ is_in_polygon polygon.now place }
+{
+    !polygon.is_beside(place) && counts_odd(polygon.corners(), place)
 }
 
 /// The square of one more than a radius, as far as there are numbers.
@@ -87,7 +95,7 @@ fn is_in_shape(shape: &Shape, fix: &Fix) -> bool
     ensures { result ≡ is_in_shape shape.now fix.now }
 {
     match shape {
-        Shape::Polygon(corners) => is_in_polygon(corners.as_slice(), fix.grid),
+        Shape::Polygon(polygon) => is_in_polygon(polygon, fix.grid),
         Shape::Circle(circle) => is_in_circle(circle, fix.at),
     }
 }
