@@ -13,7 +13,7 @@ pub struct Bounds {
 impl Bounds {
     ghost use Rattle.std.specs.Prelude.{◌≡◌, All};
     ghost use Rattle.gl_sphere.specs.declared.place.Grid.{Grid};
-    ghost use Rattle.gl_airspace.specs.Bounds.{IsBounded, is_beside, is_level};
+    ghost use Rattle.gl_airspace.specs.Bounds.{IsBounded, is_beside, is_between, is_level};
 
     /// The same, widened to a place.
     fn with(self, place: Grid) -> Bounds
@@ -52,11 +52,19 @@ impl Bounds {
         self.south <= place.lat && place.lat < self.north
     }
 
-    /// Whether a place isn't on a level with the bounds, or lies at their eastern side or east of it.
+    /// Whether a place is between the western bound and the eastern one: from the former on, and west
+    /// of the latter.
+    fn is_between(self, place: Grid) -> bool
+        ensures { result ≡ is_between self place }
+    {
+        self.west <= place.lon && place.lon < self.east
+    }
+
+    /// Whether a place isn't on a level with the bounds, or not between them.
     fn is_beside(self, place: Grid) -> bool
         ensures { result ≡ is_beside self place }
     {
-        !self.is_level(place) || self.east <= place.lon
+        !(self.is_level(place) && self.is_between(place))
     }
 }
 
@@ -99,8 +107,8 @@ impl Polygon {
         self.corners.as_slice()
     }
 
-    /// Whether a place is seen at once to be outside, since all corners lie north of it, none does, or
-    /// none lies east of it.
+    /// Whether a place is seen at once to be outside: no edge counts where all corners lie north of it,
+    /// none does, or none lies east of it, and an even number where all lie east of it.
     pub fn is_beside(&self, place: Grid) -> bool
         ensures { result ≡ true → is_in_polygon self.now place ≡ false }
     {

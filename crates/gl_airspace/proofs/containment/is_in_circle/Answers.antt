@@ -1,4 +1,4 @@
-use Rattle.std.proofs.Common.{◌≡◌, ◌∙◌, sym, ap, subst, ℕ, ◌+◌, ◌*◌, ◌≤◌, false, arith}
+use Rattle.std.proofs.Common.{◌≡◌, ◌∙◌, sym, subst, ℕ, ◌+◌, ◌*◌, ◌≤◌, false, arith}
 use Rattle.std.specs.Prelude.{nat_lt}
 use Rattle.gl_sphere.specs.Distance.{squared_chord}
 use Rattle.gl_airspace.proofs.Chords.{far_is_outside}
