@@ -67,11 +67,13 @@ fn counts_odd(corners: &[Grid], place: Grid) -> bool
     }
 }
 
-/// Whether a place is in a polygon.
+/// Whether a place is in a polygon. Beside the bounds of all corners no edge counts, or on their western
+/// side an even number.
+#[tactic(auto, using(crate::proofs::Edges::beside_is_outside))]
 fn is_in_polygon(polygon: &Polygon, place: Grid) -> bool
     ensures { result ≡ is_in_polygon polygon.now place }
 {
-    !polygon.is_beside(place) && counts_odd(polygon.corners(), place)
+    !polygon.bounds().is_beside(place) && counts_odd(polygon.corners(), place)
 }
 
 /// The square of one more than a radius, as far as there are numbers.

@@ -61,7 +61,7 @@ impl Bounds {
     }
 
     /// Whether a place isn't on a level with the bounds, or not between them.
-    fn is_beside(self, place: Grid) -> bool
+    pub(crate) fn is_beside(self, place: Grid) -> bool
         ensures { result ≡ is_beside self place }
     {
         !(self.is_level(place) && self.is_between(place))
@@ -89,8 +89,8 @@ impl Model for Polygon {
 }
 
 impl Polygon {
-    ghost use Rattle.std.specs.Prelude.{◌≡◌, true, false};
-    ghost use Rattle.gl_airspace.specs.Inside.{is_in_polygon};
+    ghost use Rattle.std.specs.Prelude.{◌≡◌, All};
+    ghost use Rattle.gl_airspace.specs.Bounds.{IsBounded};
 
     /// The polygon with these corners. Takes no memory.
     pub fn new(corners: Vec<Grid>) -> Polygon
@@ -107,11 +107,10 @@ impl Polygon {
         self.corners.as_slice()
     }
 
-    /// Whether a place is seen at once to be outside: no edge counts where all corners lie north of it,
-    /// none does, or none lies east of it, and an even number where all lie east of it.
-    pub fn is_beside(&self, place: Grid) -> bool
-        ensures { result ≡ true → is_in_polygon self.now place ≡ false }
+    /// Bounds of the corners.
+    pub(crate) fn bounds(&self) -> Bounds
+        ensures { All (IsBounded result) self.now }
     {
-        self.bounds.is_beside(place)
+        self.bounds
     }
 }
