@@ -1,3 +1,4 @@
+pub mod Bounds
 pub mod Inside
 pub mod Line
 pub mod Said

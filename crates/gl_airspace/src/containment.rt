@@ -1,10 +1,11 @@
-ghost use Rattle.std.specs.Prelude.{◌≡◌, ◌*ℤ◌, ◌-ℤ◌, position, count_by};
+ghost use Rattle.std.specs.Prelude.{◌≡◌, ℕ, ◌+◌, ◌*◌, ◌≤◌, ◌*ℤ◌, ◌-ℤ◌, position, count_by};
 ghost use Rattle.std.specs.List.{list_any};
-ghost use Rattle.gl_airspace.specs.Inside.{counts, counts_upwards, edges_from, fixes_before_airspace, is_in_circle, is_in_polygon, is_in_shape, is_inside, is_level, is_west_of};
+ghost use Rattle.gl_airspace.specs.Inside.{counts, edges_from, fixes_before_airspace, is_in_circle, is_in_polygon, is_in_shape, is_inside, is_west_of};
 
+use crate::polygon::Polygon;
 use crate::volume::{Airspace, Circle, Shape, Volume};
 use gl_igc::Fix;
-use gl_sphere::{Grid, Vec3, dist, sq};
+use gl_sphere::{GREATEST_SQUARE, Grid, Vec3, dist, sq};
 
 /// How far `east` lies east of a place, times how far `north` lies north of it.
 fn rectangle(from: Grid, east: Grid, north: Grid) -> i64
@@ -13,13 +14,6 @@ fn rectangle(from: Grid, east: Grid, north: Grid) -> i64
     let along = i64::from(east.lon) - i64::from(from.lon);
     let up = i64::from(north.lat) - i64::from(from.lat);
     along * up
-}
-
-/// Whether a place is on a level with an edge: from its lower end on, and below its upper one.
-fn is_level(lower: Grid, upper: Grid, place: Grid) -> bool
-    ensures { result ≡ is_level lower upper place }
-{
-    lower.lat <= place.lat && place.lat < upper.lat
 }
 
 /// Whether a place lies west of an edge on a level with it.
@@ -31,21 +25,18 @@ fn is_west_of(lower: Grid, upper: Grid, place: Grid) -> bool
     along < across
 }
 
-/// Whether an edge from its lower end to its upper one counts for a place.
-fn counts_upwards(lower: Grid, upper: Grid, place: Grid) -> bool
-    ensures { result ≡ counts_upwards lower upper place }
-{
-    is_level(lower, upper, place) && is_west_of(lower, upper, place)
-}
-
-/// Whether an edge counts for a place.
+/// Whether an edge counts for a place. Most edges have both ends on one side of it.
 fn counts(place: Grid, from: Grid, to: Grid) -> bool
     ensures { result ≡ counts place (from, to) }
 {
-    if from.lat <= to.lat {
-        counts_upwards(from, to, place)
+    let is_from_above = place.lat < from.lat;
+    let is_to_above = place.lat < to.lat;
+    if is_from_above == is_to_above {
+        false
+    } else if is_to_above {
+        is_west_of(from, to, place)
     } else {
-        counts_upwards(to, from, place)
+        is_west_of(to, from, place)
     }
 }
 
@@ -65,9 +56,9 @@ fn count_edges(corner: Grid, corners: &[Grid], place: Grid) -> usize
     count
 }
 
-/// Whether a place is in the polygon with these corners.
+/// Whether an odd number of edges of the polygon with these corners count for a place.
 #[tactic(auto, unfolding(crate::specs::Inside::is_in_polygon))]
-fn is_in_polygon(corners: &[Grid], place: Grid) -> bool
+fn counts_odd(corners: &[Grid], place: Grid) -> bool
     ensures { result ≡ is_in_polygon corners.now place }
 {
     match corners.last() {
@@ -76,11 +67,29 @@ fn is_in_polygon(corners: &[Grid], place: Grid) -> bool
     }
 }
 
-/// Whether a point is in a circle.
+/// Whether a place is in a polygon. Beside the bounds of all corners no edge counts, or on their western
+/// side an even number.
+#[tactic(auto, using(crate::proofs::Edges::beside_is_outside))]
+fn is_in_polygon(polygon: &Polygon, place: Grid) -> bool
+    ensures { result ≡ is_in_polygon polygon.now place }
+{
+    !polygon.bounds().is_beside(place) && counts_odd(polygon.corners(), place)
+}
+
+/// The square of one more than a radius, as far as there are numbers.
+fn square_beyond(radius: u64) -> u64
+    ensures { (q : ℕ) → q ≤ GREATEST_SQUARE → result ≤ q → (radius + 1) * (radius + 1) ≤ q }
+{
+    let beyond = radius.saturating_add(1);
+    beyond.saturating_mul(beyond)
+}
+
+/// Whether a point is in a circle. The distance isn't less than the chord, so most points need none.
 fn is_in_circle(circle: &Circle, at: Vec3) -> bool
     ensures { result ≡ is_in_circle circle.now at }
 {
-    dist(sq(at, circle.centre)) <= circle.radius
+    let q = sq(at, circle.centre);
+    q < square_beyond(circle.radius) && dist(q) <= circle.radius
 }
 
 /// Whether a fix is in a shape on the map.
@@ -88,7 +97,7 @@ fn is_in_shape(shape: &Shape, fix: &Fix) -> bool
     ensures { result ≡ is_in_shape shape.now fix.now }
 {
     match shape {
-        Shape::Polygon(corners) => is_in_polygon(corners.as_slice(), fix.grid),
+        Shape::Polygon(polygon) => is_in_polygon(polygon, fix.grid),
         Shape::Circle(circle) => is_in_circle(circle, fix.at),
     }
 }

@@ -1,6 +1,6 @@
 use crate::air_line::AirLine;
+use crate::polygon::Polygon;
 use crate::volume::{Circle, Shape, Volume};
-use gl_igc::Items;
 use gl_sphere::{Grid, vector};
 use std::alloc::{AllocError, Global};
 
@@ -151,7 +151,7 @@ impl Draft {
         let shape = match self.circle {
             Some(circle) => Shape::Circle(circle),
             None if self.corners.len() >= LEAST_CORNERS => {
-                Shape::Polygon(Items::from_vec(self.corners))
+                Shape::Polygon(Polygon::new(self.corners))
             }
             None => return None,
         };

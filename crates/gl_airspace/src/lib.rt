@@ -11,10 +11,12 @@ mod height;
 mod openair;
 mod part;
 mod place_text;
+mod polygon;
 mod step;
 mod volume;
 
 pub use containment::{cut, inside};
 pub use error::AirError;
 pub use openair::read_openair;
+pub use polygon::Polygon;
 pub use volume::{Airspace, Circle, Shape, Volume, empty};

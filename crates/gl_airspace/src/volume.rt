@@ -1,7 +1,8 @@
 ghost use Rattle.std.specs.Prelude.{◌≡◌, []};
 
+use crate::polygon::Polygon;
 use gl_igc::Items;
-use gl_sphere::{Grid, Vec3};
+use gl_sphere::Vec3;
 use std::alloc::Global;
 
 /// A circle on the sphere: the point of its centre, and its radius in centimetres.
@@ -14,9 +15,8 @@ pub struct Circle {
 /// The shape of a volume on the map.
 #[derive(Debug, Drop)]
 pub enum Shape {
-    /// A polygon by its corners, the last of which is joined to the first, in the plane of longitude
-    /// and latitude.
-    Polygon(Items<Grid>),
+    /// A polygon in the plane of longitude and latitude.
+    Polygon(Polygon),
     /// A circle.
     Circle(Circle),
 }
