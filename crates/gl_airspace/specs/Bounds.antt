@@ -14,7 +14,8 @@ pub record IsBounded (bounds : Bounds) (place : Grid) : Type 0 where
 abbrev pub is_level : Bounds → Grid → Bool
 is_level bounds place = int_le bounds.south place.lat && int_lt place.lat bounds.north
 
--- a place is between the western bound and the eastern one, from the former on and west of the latter
+-- a place is between the western bound and the eastern one, from the former on and west of the
+-- latter
 abbrev pub is_between : Bounds → Grid → Bool
 is_between bounds place = int_le bounds.west place.lon && int_lt place.lon bounds.east
 

@@ -32,10 +32,12 @@ pub record Says (draft : Draft) (lines : List Reading) : Type 0 where
   pub has_circle : is_some draft.circle ≡ is_some (radius_in lines)
   pub circle : IsCircle draft.circle (circle_in lines)
 
--- the shape of a volume with these lines: their circle, or the polygon of their corners where they make none
+-- the shape of a volume with these lines: their circle, or the polygon of their corners where they
+-- make none
 abbrev pub IsShape : List Reading → Shape → Type 0
 IsShape lines (Round made) = IsCircle (Some made) (circle_in lines)
-IsShape lines (Polygon corners) = (circle_in lines ≡ None) × (map place_of corners ≡ corners_in lines)
+IsShape lines (Polygon corners) =
+    (circle_in lines ≡ None) × (map place_of corners ≡ corners_in lines)
 
 -- the volume with these lines
 pub record IsVolume (lines : List Reading) (volume : Volume) : Type 0 where

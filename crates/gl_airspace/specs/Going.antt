@@ -21,7 +21,8 @@ pub record Fits (text : List ℕ) (lines : List Reading) (room : ℕ) (part : Pa
 -- a line of a volume doesn't fit; a surplus corner is told where it stands before that line
 pub record Misfits (lines : List Reading) (room : ℕ) (part : Part) (place : ℕ) : Type 0 where
   pub first : misfit_after [] (volume_of lines) ≡ Some place
-  pub surplus : (line : ℕ) → lower (number_at line (Some place)) (number_at line (corner_at room (volume_of lines)))
+  pub surplus : (line : ℕ)
+      → lower (number_at line (Some place)) (number_at line (corner_at room (volume_of lines)))
       ≡ lower (number_at line (Some place)) (number_at line part.surplus)
 
 -- the lines of a volume were gone over
@@ -29,8 +30,9 @@ pub record GoesOver (text : List ℕ) (lines : List Reading) (room : ℕ) (part 
   pub within : part.next ≤ length text
   pub result : MatchOption part.misfit (Fits text lines room part) (Misfits lines room part)
 
--- What is known of the place of a surplus corner among the lines of a volume, where so many of them were gone over: no
--- more than there is room for came so far, and it is among those that are left; or it was come upon.
+-- What is known of the place of a surplus corner among the lines of a volume, where so many of them
+-- were gone over: no more than there is room for came so far, and it is among those that are left;
+-- or it was come upon.
 abbrev pub IsSurplus : Option ℕ → ℕ → ℕ → List Reading → List Reading → Option ℕ → Type 0
 IsSurplus None count room gone rest place =
     (length (corners_in gone) ≤ room)
@@ -46,5 +48,7 @@ pub record IsGoing (lines rest : List Reading) (room : ℕ) (part : Part) : Type
   pub volume : volume_of lines ≡ gone ++ volume_of rest
   pub volumes : (parted lines).1 ≡ (parted rest).1
   pub none_yet : part.misfit ≡ None
-  pub misfit : misfit_after [] (volume_of lines) ≡ option_map (λ k. part.lines + k) (misfit_after gone (volume_of rest))
-  pub surplus : IsSurplus part.surplus part.lines room gone (volume_of rest) (corner_at room (volume_of lines))
+  pub misfit : misfit_after [] (volume_of lines)
+      ≡ option_map (λ k. part.lines + k) (misfit_after gone (volume_of rest))
+  pub surplus : IsSurplus part.surplus part.lines room gone (volume_of rest)
+      (corner_at room (volume_of lines))

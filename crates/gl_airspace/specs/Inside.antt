@@ -33,7 +33,8 @@ is_west_of lower upper place =
     int_lt ((place.lon -ℤ lower.lon) *ℤ (upper.lat -ℤ lower.lat))
     ((upper.lon -ℤ lower.lon) *ℤ (place.lat -ℤ lower.lat))
 
--- an edge from its lower end to its upper one counts for a place on a level with it that lies west of it
+-- an edge from its lower end to its upper one counts for a place on a level with it that lies west
+-- of it
 abbrev pub counts_upwards : Grid → Grid → Grid → Bool
 counts_upwards lower upper place = is_level lower upper place && is_west_of lower upper place
 
@@ -56,11 +57,14 @@ abbrev pub is_in_shape : shape.Shape → Fix → Bool
 is_in_shape (Polygon corners) fix = is_in_polygon corners fix.grid
 is_in_shape (Circle round) fix = is_in_circle round fix.at
 
--- A fix is inside a volume: its altitude is from the floor to the ceiling, both of them inside, and it is in the shape.
+-- A fix is inside a volume: its altitude is from the floor to the ceiling, both of them inside, and
+-- it is in the shape.
 abbrev pub is_inside : Volume → Fix → Bool
-is_inside volume fix = int_le volume.floor fix.alt && int_le fix.alt volume.ceiling && is_in_shape volume.shape fix
+is_inside volume fix =
+    int_le volume.floor fix.alt && int_le fix.alt volume.ceiling && is_in_shape volume.shape fix
 
 -- how many fixes stand before the first one inside a volume, or all of them
 abbrev pub fixes_before_airspace : List Volume → List Fix → ℕ
 fixes_before_airspace volumes fixes =
-    unwrap_or (position (λ fix. list_any (λ volume. is_inside volume fix) volumes) fixes) (length fixes)
+    unwrap_or (position (λ fix. list_any (λ volume. is_inside volume fix) volumes) fixes)
+    (length fixes)

@@ -6,8 +6,8 @@ use Rattle.std.proofs.Common.{Bor}
 use Rattle.std.specs.Cmp.Lexicographic.{pointwise}
 use Rattle.gl_text.specs.Digits.{◌>>=◌, number_of}
 
--- what a line says: nothing that counts, the beginning of a volume, its name, its floor, its ceiling, the centre for a
--- circle after it, a corner, or a circle with its radius in centimetres
+-- what a line says: nothing that counts, the beginning of a volume, its name, its floor, its
+-- ceiling, the centre for a circle after it, a corner, or a circle with its radius in centimetres
 pub data AirLine : Type 0 where
   PassedOver : AirLine
   Begins : AirLine
@@ -22,7 +22,8 @@ pub data AirLine : Type 0 where
 abbrev pub is_blank : ℕ → Bool
 is_blank b = (b == 32) || (b == 9)
 
--- a blank before the rest of a line: nothing at the line's end, and one space with the blanks after it
+-- a blank before the rest of a line: nothing at the line's end, and one space with the blanks after
+-- it
 abbrev pub blank_before : List ℕ → List ℕ
 blank_before [] = []
 blank_before (b ∷ bs) = if b == 32 then b ∷ bs else 32 ∷ b ∷ bs
@@ -30,7 +31,8 @@ blank_before (b ∷ bs) = if b == 32 then b ∷ bs else 32 ∷ b ∷ bs
 -- a line with capital letters, one space for each run of blanks, and none at its end
 abbrev pub squeezed : List ℕ → List ℕ
 squeezed [] = []
-squeezed (b ∷ bs) = if is_blank b then blank_before (squeezed bs) else to_ascii_uppercase b ∷ squeezed bs
+squeezed (b ∷ bs) =
+    if is_blank b then blank_before (squeezed bs) else to_ascii_uppercase b ∷ squeezed bs
 
 -- two texts are the same
 abbrev pub is_text : List ℕ → List ℕ → Bool
@@ -52,7 +54,8 @@ digits_at text = take_while is_ascii_digit text
 abbrev pub seen : {X : Type 0} → X × Bor (List ℕ) → X × List ℕ
 seen front = (front.0, front.1.now)
 
--- the number that digits at the front of a text write, one at least and not more than `most`, and what follows them
+-- the number that digits at the front of a text write, one at least and not more than `most`, and
+-- what follows them
 unfoldable pub number_at : ℕ → List ℕ → Option (ℕ × List ℕ)
 number_at most text =
     let count = length (digits_at text) in
@@ -73,8 +76,9 @@ thousandths_at most text = do
       then (decimals_at (drop 1 whole.1) >>= λ part. Some (whole.0 * 1000 + part.0, part.1))
       else Some (whole.0 * 1000, whole.1)
 
--- the size of an angle in 1/100,000 minute that degrees, minutes and perhaps seconds write, the last of which may have
--- decimals, and what follows it; none where the minutes or the seconds are 60 or more
+-- the size of an angle in 1/100,000 minute that degrees, minutes and perhaps seconds write, the
+-- last of which may have decimals, and what follows it; none where the minutes or the seconds are
+-- 60 or more
 unfoldable pub minutes_at : ℕ → List ℕ → Option (ℕ × List ℕ)
 minutes_at degrees text = do
   minutes ← thousandths_at 2 text
@@ -96,8 +100,8 @@ angle_at text = do
       then seconds_at degrees.0 minutes.0 (drop 1 minutes.1)
       else minutes_at degrees.0 rest
 
--- an angle of a size, by the letter that follows it after a space or none: plus for the first letter, minus for the
--- second; none past the limit
+-- an angle of a size, by the letter that follows it after a space or none: plus for the first
+-- letter, minus for the second; none past the limit
 unfoldable pub signed_at : ℕ → List ℕ → List ℕ → ℕ × List ℕ → Option (ℤ × List ℕ)
 signed_at limit plus minus angle =
     if nat_lt limit angle.0 then None
@@ -128,12 +132,15 @@ metres feet = feet * 3_048 / 10_000
 
 -- a unit, with what may stand behind it: above sea level, which is meant anyway
 abbrev pub is_feet : List ℕ → Bool
-is_feet unit = is_text unit (codes "FT") || is_text unit (codes "FT MSL") || is_text unit (codes "FT AMSL")
+is_feet unit =
+    is_text unit (codes "FT") || is_text unit (codes "FT MSL") || is_text unit (codes "FT AMSL")
 
 abbrev pub is_metres : List ℕ → Bool
-is_metres unit = is_text unit (codes "M") || is_text unit (codes "M MSL") || is_text unit (codes "M AMSL")
+is_metres unit =
+    is_text unit (codes "M") || is_text unit (codes "M MSL") || is_text unit (codes "M AMSL")
 
--- the metres of a number with a unit behind it, a space before that or none; feet where there is no unit
+-- the metres of a number with a unit behind it, a space before that or none; feet where there is no
+-- unit
 unfoldable pub height_in : ℕ × List ℕ → Option ℤ
 height_in number =
     if (length number.1 == 0) || is_feet (after_space number.1) then Some (pos (metres number.0))
@@ -144,7 +151,8 @@ unfoldable pub flight_level_in : ℕ × List ℕ → Option ℤ
 flight_level_in number =
     if length number.1 == 0 then Some (pos (metres (number.0 * 100))) else None
 
--- the height in metres that a text writes: the surface and what is unlimited lie beyond all altitudes
+-- the height in metres that a text writes: the surface and what is unlimited lie beyond all
+-- altitudes
 unfoldable pub height_of : List ℕ → Option ℤ
 height_of text =
     if is_text text (codes "SFC") || is_text text (codes "GND") then Some (neg_ℤ (pos 32_768))
@@ -160,17 +168,20 @@ radius_of text = do
       then Some (thousandths.0 * 1_852 / 10)
       else None
 
--- what counts for nothing: an empty line, a comment, and a line of a kind that only other programs read
+-- what counts for nothing: an empty line, a comment, and a line of a kind that only other programs
+-- read
 abbrev pub is_passed_over : List ℕ → Bool
 is_passed_over line =
-    (length line == 0) || starts_with nat_eq line (codes "*") || starts_with nat_eq line (codes "AT")
+    (length line == 0) || starts_with nat_eq line (codes "*")
+    || starts_with nat_eq line (codes "AT")
     || starts_with nat_eq line (codes "SP") || starts_with nat_eq line (codes "SB")
 
 -- what a squeezed line says of a shape, by the word at its front
 unfoldable pub shape_by : List ℕ → Option AirLine
 shape_by line =
     if starts_with nat_eq line (codes "V X=") then option_map Centre (place_of_text (drop 4 line))
-    else (if starts_with nat_eq line (codes "DP ") then option_map Corner (place_of_text (drop 3 line))
+    else (if starts_with nat_eq line (codes "DP ")
+    then option_map Corner (place_of_text (drop 3 line))
     else (if starts_with nat_eq line (codes "DC ") then option_map Circles (radius_of (drop 3 line))
     else None))
 

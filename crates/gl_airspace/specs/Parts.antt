@@ -9,7 +9,8 @@ use Rattle.gl_airspace.specs.Volumes.{Reading, Refusal, Line, TooMany, begins, f
 use Rattle.gl_airspace.specs.declared.draft.Draft.{Draft}
 use Rattle.gl_airspace.specs.Draft.{IsVolume, Says}
 
--- what a line is behind the lines of a volume: the beginning of the next one, one that fits, or one that doesn't
+-- what a line is behind the lines of a volume: the beginning of the next one, one that fits, or one
+-- that doesn't
 abbrev pub IsStep : List Reading → Reading → code.Step → Type 0
 IsStep lines line Begins = begins line ≡ true
 IsStep lines line Fits = (begins line ≡ false) × (fits lines line ≡ true)

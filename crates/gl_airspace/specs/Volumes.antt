@@ -48,7 +48,8 @@ last_of [] = None
 last_of (x ∷ []) = Some x
 last_of (x ∷ y ∷ xs) = last_of (y ∷ xs)
 
--- what the lines of a volume say: its floor, its ceiling, its corners, its last centre, and its circle
+-- what the lines of a volume say: its floor, its ceiling, its corners, its last centre, and its
+-- circle
 abbrev pub floor_in : List Reading → Option ℤ
 floor_in lines = first_of (filter_map floor_of lines)
 
@@ -74,8 +75,9 @@ circle_after centre (line ∷ lines) = circle_after centre lines
 abbrev pub circle_in : List Reading → Option ((ℤ × ℤ) × ℕ)
 circle_in lines = circle_after None lines
 
--- Whether a line may stand behind the lines of a volume: a floor and a ceiling once; no corner behind a circle, and no
--- circle behind a corner, behind another circle or without a centre before it.
+-- Whether a line may stand behind the lines of a volume: a floor and a ceiling once; no corner
+-- behind a circle, and no circle behind a corner, behind another circle or without a centre before
+-- it.
 abbrev pub fits : List Reading → Reading → Bool
 fits lines None = false
 fits lines (Some PassedOver) = true
@@ -100,7 +102,8 @@ misfit_after before [] = None
 misfit_after before (line ∷ lines) =
     if fits before line then option_map suc (misfit_after (before ++ line ∷ []) lines) else Some 0
 
--- the lines before the first that begins a volume, and the lines of each volume behind the one that begins it
+-- the lines before the first that begins a volume, and the lines of each volume behind the one that
+-- begins it
 abbrev pub parted : List Reading → List Reading × List (List Reading)
 parted [] = ([], [])
 parted (line ∷ lines) =
@@ -119,29 +122,33 @@ pub data Refusal : Type 0 where
   Line : ℕ → Refusal
   TooMany : ℕ → Refusal
 
--- the refusal of the lower of two lines, the first that doesn't read, and the second with which there are too many
--- corners; where they are one line, it doesn't read
+-- the refusal of the lower of two lines, the first that doesn't read, and the second with which
+-- there are too many corners; where they are one line, it doesn't read
 abbrev pub lower : Option ℕ → Option ℕ → Option Refusal
 lower None None = None
 lower (Some misfit) None = Some (Line misfit)
 lower None (Some corner) = Some (TooMany corner)
-lower (Some misfit) (Some corner) = if nat_le misfit corner then Some (Line misfit) else Some (TooMany corner)
+lower (Some misfit) (Some corner) =
+    if nat_le misfit corner then Some (Line misfit) else Some (TooMany corner)
 
--- Why a volume is refused that begins at a line behind so many volumes and corners. Where each of its lines reads and it
--- isn't complete, its first line doesn't read; else that line is refused where it begins one volume too many.
+-- Why a volume is refused that begins at a line behind so many volumes and corners. Where each of
+-- its lines reads and it isn't complete, its first line doesn't read; else that line is refused
+-- where it begins one volume too many.
 abbrev pub trouble : ℕ → ℕ → ℕ → List Reading → Option Refusal
 trouble first volumes corners lines =
     let misfit = misfit_after [] lines in
     if is_none misfit && not (is_complete lines) then Some (Line first)
     else (if volumes == 256 then Some (TooMany first)
-    else lower (option_map (λ k. first + 1 + k) misfit) (option_map (λ k. first + 1 + k) (corner_at (4_096 - corners) lines)))
+    else lower (option_map (λ k. first + 1 + k) misfit)
+    (option_map (λ k. first + 1 + k) (corner_at (4_096 - corners) lines)))
 
 -- why volumes are refused, the first of which begins at a line behind so many volumes and corners
 abbrev pub first_trouble : ℕ → ℕ → ℕ → List (List Reading) → Option Refusal
 first_trouble first volumes corners [] = None
 first_trouble first volumes corners (lines ∷ rest) =
     option_or (trouble first volumes corners lines)
-    (first_trouble (first + 1 + length lines) (volumes + 1) (corners + length (corners_in lines)) rest)
+    (first_trouble (first + 1 + length lines) (volumes + 1)
+    (corners + length (corners_in lines)) rest)
 
 -- why lines before the first volume are refused: only what is passed over may stand there
 abbrev pub early_trouble : List Reading → Option Refusal
@@ -150,7 +157,8 @@ early_trouble lines = option_map (λ k. Line (k + 1)) (position (λ line. not (i
 -- why a text is refused, if it is
 abbrev pub refusal_of : List Reading → Option Refusal
 refusal_of lines =
-    option_or (early_trouble (parted lines).0) (first_trouble (length (parted lines).0 + 1) 0 0 (parted lines).1)
+    option_or (early_trouble (parted lines).0)
+    (first_trouble (length (parted lines).0 + 1) 0 0 (parted lines).1)
 
 -- the lines of a text, as they read
 abbrev pub readings_of : List ℕ → List Reading

@@ -40,8 +40,8 @@ fn counts(place: Grid, from: Grid, to: Grid) -> bool
     }
 }
 
-/// How many edges count for a place: from a corner to the first of some others, and from each of them
-/// to the next.
+/// How many edges count for a place: from a corner to the first of some others, and from each of
+/// them to the next.
 fn count_edges(corner: Grid, corners: &[Grid], place: Grid) -> usize
     ensures { result ≡ count_by (counts place) (edges_from corner corners.now) }
 {
@@ -67,8 +67,8 @@ fn counts_odd(corners: &[Grid], place: Grid) -> bool
     }
 }
 
-/// Whether a place is in a polygon. Beside the bounds of all corners no edge counts, or on their western
-/// side an even number.
+/// Whether a place is in a polygon. Beside the bounds of all corners no edge counts, or on their
+/// western side an even number.
 #[tactic(auto, using(crate::proofs::Edges::beside_is_outside))]
 fn is_in_polygon(polygon: &Polygon, place: Grid) -> bool
     ensures { result ≡ is_in_polygon polygon.now place }
@@ -84,7 +84,8 @@ fn square_beyond(radius: u64) -> u64
     beyond.saturating_mul(beyond)
 }
 
-/// Whether a point is in a circle. The distance isn't less than the chord, so most points need none.
+/// Whether a point is in a circle. The distance isn't less than the chord, so most points need
+/// none.
 fn is_in_circle(circle: &Circle, at: Vec3) -> bool
     ensures { result ≡ is_in_circle circle.now at }
 {

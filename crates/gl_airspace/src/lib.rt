@@ -1,5 +1,5 @@
-//! Airspace that flights may not enter: volumes read from a text in the OpenAir form, and the cut of a
-//! flight before its first fix inside one.
+//! Airspace that flights may not enter: volumes read from a text in the OpenAir form, and the cut
+//! of a flight before its first fix inside one.
 #![tactic(auto)]
 
 mod air_line;

@@ -62,8 +62,8 @@ fn read_start(alloc: Global, text: &[u8]) -> Result<Start, AirError>
     Ok(start)
 }
 
-/// The volume that its lines make, or why it is refused: it begins at the line `first`, behind so many
-/// volumes.
+/// The volume that its lines make, or why it is refused: it begins at the line `first`, behind so
+/// many volumes.
 fn judge(part: Part, first: usize, volumes: usize) -> Result<Volume, AirError>
     ensures judged { (text : List ℕ) (lines : List Reading) (corners : ℕ)
         → GoesOver text lines (4_096 - corners) part
@@ -107,9 +107,10 @@ fn judge(part: Part, first: usize, volumes: usize) -> Result<Volume, AirError>
 
 /// Reads airspace from a text in the OpenAir form, as docs/airspace.md has it.
 ///
-/// [`AirError::Line`] names the first line that doesn't read: a line of its own, or the one that begins
-/// a volume which isn't complete. [`AirError::TooMany`] names the line with which there are more than
-/// 256 volumes or 4,096 corners. The lower line decides, and the first of the two on one line.
+/// [`AirError::Line`] names the first line that doesn't read: a line of its own, or the one that
+/// begins a volume which isn't complete. [`AirError::TooMany`] names the line with which there are
+/// more than 256 volumes or 4,096 corners. The lower line decides, and the first of the two on one
+/// line.
 pub fn read_openair(alloc: Global, text: &[u8]) -> Result<Airspace, AirError>
     ensures ok { IfOk result (IsAirspace text.now) }
     ensures refused { IfErr result (Tells (refusal_of (readings_of text.now))) }

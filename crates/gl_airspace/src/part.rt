@@ -22,8 +22,8 @@ pub struct Part {
     pub next: usize,
 }
 
-/// The place of the corner with which there are too many, after a line at a place before which there
-/// were so many corners, and now are so many.
+/// The place of the corner with which there are too many, after a line at a place before which
+/// there were so many corners, and now are so many.
 fn surplus_after(
     surplus: Option<usize>,
     place: usize,
@@ -40,8 +40,8 @@ fn surplus_after(
     }
 }
 
-/// Goes over the lines of a volume that begin at a place of a text, up to the first that doesn't fit,
-/// where so many more corners may come.
+/// Goes over the lines of a volume that begin at a place of a text, up to the first that doesn't
+/// fit, where so many more corners may come.
 pub fn read_part(alloc: Global, text: &[u8], at: usize, room: usize) -> Result<Part, AllocError>
     requires { at ≤ length text.now }
     ensures goes { IfOk result (GoesOver text.now (readings_of (drop at text.now)) room) }

@@ -79,7 +79,8 @@ fn signed_at<'a>(
     requires limit { limit ≤ 1_080_000_000 }
     requires plus { length plus.now ≡ 1 }
     requires minus { length minus.now ≡ 1 }
-    ensures value { option_map seen result ≡ signed_at limit plus.now minus.now (size, rest.entry.now) }
+    ensures value { option_map seen result
+        ≡ signed_at limit plus.now minus.now (size, rest.entry.now) }
     ensures bound { IfSome result (λ angle. IsWithin limit angle.0) }
 {
     if size > limit {

@@ -44,16 +44,16 @@ impl Bounds {
         bounds
     }
 
-    /// Whether a place is on a level with the bounds: from the southern one on, and below the northern
-    /// one.
+    /// Whether a place is on a level with the bounds: from the southern one on, and below the
+    /// northern one.
     fn is_level(self, place: Grid) -> bool
         ensures { result ≡ is_level self place }
     {
         self.south <= place.lat && place.lat < self.north
     }
 
-    /// Whether a place is between the western bound and the eastern one: from the former on, and west
-    /// of the latter.
+    /// Whether a place is between the western bound and the eastern one: from the former on, and
+    /// west of the latter.
     fn is_between(self, place: Grid) -> bool
         ensures { result ≡ is_between self place }
     {
@@ -68,8 +68,8 @@ impl Bounds {
     }
 }
 
-/// A polygon in the plane of longitude and latitude, which contracts see as its corners. The last of
-/// them is joined to the first.
+/// A polygon in the plane of longitude and latitude, which contracts see as its corners. The last
+/// of them is joined to the first.
 #[derive(Debug, Drop)]
 pub struct Polygon {
     corners: Vec<Grid>,

@@ -19,8 +19,8 @@ pub enum Step {
     Misfits,
 }
 
-/// Takes a line of the text behind the lines of a volume, if it is one and fits. The buffer is for the
-/// squeezed line.
+/// Takes a line of the text behind the lines of a volume, if it is one and fits. The buffer is for
+/// the squeezed line.
 pub fn take_step(draft: &mut Draft, buffer: &mut Vec<u8>, line: &[u8]) -> Result<Step, AllocError>
     ensures step { (lines : List Reading) → Says draft.old lines
         → IfOk result (IsStep lines (reading_of line.now)) }

@@ -7,7 +7,8 @@ pub enum Refusal {
     NotListed(Name),
     /// The file has more bytes than are read.
     TooLarge(Name),
-    /// The file is no recording: its first line with a byte doesn't begin with `A`, or none has one.
+    /// The file is no recording: its first line with a byte doesn't begin with `A`, or none has
+    /// one.
     NotIgc(Name),
     /// The recording has no day of the calendar.
     NoDate(Name),

@@ -51,8 +51,8 @@ fn volumes(alloc: Global, text: &str) -> Result<usize, AirError> {
     Ok(air.volumes.len())
 }
 
-/// A line behind the first of a volume: where it reads, the volume isn't complete and so its first line is
-/// the one that doesn't read.
+/// A line behind the first of a volume: where it reads, the volume isn't complete and so its first
+/// line is the one that doesn't read.
 fn is_read(alloc: Global, before: &str, line: &str, number: u32) -> Result<Option<bool>, Fail> {
     let text = format!(in alloc; "{before}{line}\r\n")?;
     Ok(match volumes(alloc, text.as_str()) {
@@ -332,7 +332,8 @@ fn inside_of_a_square(rt: HostRuntime) -> Result<(), Fail> {
     Ok(())
 }
 
-/// One degree is 11,119,492 cm: less than 60.041 nautical miles, and more than 60.040. 3,281 feet are 1,000 m.
+/// One degree is 11,119,492 cm: less than 60.041 nautical miles, and more than 60.040. 3,281 feet
+/// are 1,000 m.
 #[test]
 fn inside_of_a_circle(rt: HostRuntime) -> Result<(), Fail> {
     for (decimals, alt, expected) in [
@@ -349,7 +350,8 @@ fn inside_of_a_circle(rt: HostRuntime) -> Result<(), Fail> {
     Ok(())
 }
 
-/// A polygon of no area holds nothing, and one that is written across 180 degrees is the long way round.
+/// A polygon of no area holds nothing, and one that is written across 180 degrees is the long way
+/// round.
 #[test]
 fn odd_polygons(rt: HostRuntime) -> Result<(), Fail> {
     let flat = "AC R\nAL SFC\nAH UNL\nDP 0:0 N 0:0 E\nDP 1:0 N 1:0 E\nDP 0:30 N 0:30 E\n";

@@ -1,6 +1,7 @@
-//! A run of the desk of the real system in a real folder, as a test. It says the name, the length and the SHA-1 digest of
-//! each file that the folder has, then what can't be read or appended to, then what it appended, and all files again.
-//! The gate runs it in a copy of `data/` and compares what it says with `stdout`.
+//! A run of the desk of the real system in a real folder, as a test. It says the name, the length
+//! and the SHA-1 digest of each file that the folder has, then what can't be read or appended to,
+//! then what it appended, and all files again. The gate runs it in a copy of `data/` and compares
+//! what it says with `stdout`.
 #![tactic(auto)]
 
 use gl_desk::{Desk, DeskError, HostDesk, Name, ReadError, read_all};
@@ -70,7 +71,8 @@ fn main(rt: HostRuntime) -> Result<(), DeskError> {
     show_all(alloc, &mut desk)?;
     let longest = Name::from_text(alloc, "LONG.BIN")?;
     show(alloc, &mut desk, &longest, LONGEST - 1)?;
-    // The one is missing and can't be opened; the other is a folder, which can be, and can't be read.
+    // The one is missing and can't be opened; the other is a folder, which can be, and can't be
+    // read.
     for name in ["MISSING.BIN", "SUB.DIR"] {
         let name = Name::from_text(alloc, name)?;
         show(alloc, &mut desk, &name, LONGEST)?;
