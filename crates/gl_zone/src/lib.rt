@@ -1,0 +1,11 @@
+//! Lines and zones of a task: on which side of a line a point lies, when a flight crosses the line
+//! forwards, and which zones hold a point. All of it is whole-number arithmetic.
+#![tactic(auto)]
+
+mod line;
+mod zone;
+
+pub use line::Line;
+pub use zone::{
+    Cylinder, GREATEST_LENGTH, LEAST_LENGTH, MOST_PARTS, Part, Sector, WHOLE_TURN, Zone,
+};
