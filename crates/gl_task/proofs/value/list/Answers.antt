@@ -1,0 +1,12 @@
+use Rattle.std.proofs.Common.{◌≡◌, ◌∙◌, sym, ap, map, Option, Some}
+use Rattle.std.specs.Prelude.{option_and_then, List}
+use Rattle.toml.specs.Data.{Data, Items, as_array}
+use Rattle.toml.specs.View.{view, items_view}
+use Rattle.gl_task.specs.Keys.{list_of, values_of}
+use Rattle.gl_task.proofs.ListLemmas.{values_of-items_of}
+use Rattle.gl_task.proofs.value.list.Goals as goal
+
+pub returns-in-Some : goal.returns-in-Some
+returns-in-Some c =
+    let seen : Some (items_view c.in-Some.values.now.items) ≡ as_array (view c.args.value.now) = rw c.in-Some.is at c.as_array.ensures in
+    rw (c.as_slice.ensures.value, ← seen, values_of-items_of)
