@@ -1,15 +1,13 @@
 -- No test of the keys answers that the text isn't TOML.
-use Rattle.std.proofs.Common.{◌≡◌, refl, rules, ℕ, ◌+◌, Bool, true, false, List, [], ◌∷◌, ◌++◌, Option, None, Some, cond, codes}
-use Rattle.std.specs.Prelude.{nat_lt, length, max, unwrap_or, map}
-use Rattle.toml.specs.Data.{Data, Members, as_table}
+use Rattle.std.proofs.Common.{ℕ, ◌+◌, Bool, true, false, List, [], ◌∷◌, ◌++◌, Option, None, Some, cond, codes}
+use Rattle.std.specs.Prelude.{nat_lt, length}
+use Rattle.toml.specs.Data.{Data, Members}
 use Rattle.gl_task.specs.declared.error.Key.{Key}
-use Rattle.gl_task.specs.declared.error.TaskError.{TaskError}
 use Rattle.gl_task.specs.declared.error.TaskError.TheVariants.{Toml, Missing, Value, Twice, TooMany, Memory}
-use Rattle.gl_task.specs.Keys.{Test, at_most, each_item, first_failed, key_of, list_at, list_of, needed_value, optional_value, right_value, said, some_item, table_at, table_of}
-use Rattle.gl_task.specs.Numbers.{first_repeated}
+use Rattle.gl_task.specs.Keys.{Test, at_most, each_item, first_failed, needed_value, optional_value, right_value, some_item, table_at, table_of}
 use Rattle.gl_task.specs.Tests.{day_tests, lists_tests, start_tests, zones_tests, finish_tests, rules_tests, entrants_tests, head_tests, way_tests, course_tests, plan_tests, numbered_tests, people_tests, tests, word_tests, zone_tests, part_tests, sector_tests, gate_tests, entrant_tests, minimum_test, has}
-use Rattle.gl_task.specs.Twice.{number_in, twice_at}
-use Rattle.gl_task.specs.Values.{KindWord, racing, area, kind}
+use Rattle.gl_task.specs.Twice.{twice_at}
+use Rattle.gl_task.specs.Values.{KindWord, racing, area}
 
 -- a test names a key
 abbrev pub IsKeyed : Test → Type 0
@@ -90,7 +88,7 @@ keyed_sector zone part table = (search keyed_optional, (search keyed_needed, (se
 
 keyed_part : (zone part : ℕ) (value : Data) → AreKeyed (part_tests zone part value)
 unfolding part_tests
-keyed_part zone part value = (search keyed_right, (search keyed_optional, keyed_if _ _ (keyed_sector zone part (table_of value))))
+keyed_part zone part value = (search keyed_right, (search keyed_optional, keyed_if (has (codes "radius") (table_of value)) (sector_tests zone part (table_of value)) (keyed_sector zone part (table_of value))))
 
 keyed_zone : (zone : ℕ) (value : Data) → AreKeyed (zone_tests zone value)
 unfolding zone_tests
@@ -100,9 +98,12 @@ keyed_zones : (file : Members) → AreKeyed (zones_tests file)
 unfolding zones_tests
 keyed_zones file = (search keyed_needed, (search keyed_some_item, (search keyed_at_most, keyed_each zone_tests keyed_zone _ _)))
 
+keyed_gate : (finish : Members) → AreKeyed (gate_tests finish)
+keyed_gate finish = (search keyed_needed, (search keyed_needed, tt))
+
 keyed_finish : (file : Members) → AreKeyed (finish_tests file)
 unfolding finish_tests
-keyed_finish file = (search keyed_needed, (search keyed_needed, (search keyed_optional, keyed_if _ _ (search keyed_needed, (search keyed_needed, tt)))))
+keyed_finish file = (search keyed_needed, (search keyed_needed, (search keyed_optional, keyed_if (has (codes "ring") (table_at (codes "finish") file)) (gate_tests (table_at (codes "finish") file)) (keyed_gate (table_at (codes "finish") file)))))
 
 keyed_rules : (file : Members) → AreKeyed (rules_tests file)
 unfolding rules_tests

@@ -1,9 +1,8 @@
 -- The values of a list of the code are those of its data.
 use Rattle.std.proofs.Common.{◌≡◌, refl, ap, Bool, List, [], ◌∷◌, map}
 use Rattle.std.specs.List.{list_any}
-use Rattle.toml.specs.View.{view, items_of, items_view}
+use Rattle.toml.specs.View.{items_of}
 use Rattle.toml.specs.Data.{Data}
-use Rattle.toml.specs.declared.value.Value.{Value}
 use Rattle.gl_task.specs.Keys.{values_of}
 
 pub values_of-items_of : (ds : List Data) → values_of (items_of ds) ≡ ds

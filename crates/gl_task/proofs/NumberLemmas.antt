@@ -1,9 +1,7 @@
 -- The numbers of entrants are those of their tables.
-use Rattle.std.proofs.Common.{◌≡◌, refl, rules, ap, ◌∙◌, sym, List, [], ◌∷◌, map, Option, None, Some}
-use Rattle.std.specs.Prelude.{unwrap_or}
+use Rattle.std.proofs.Common.{◌≡◌, refl, ap, List, [], ◌∷◌, map}
 use Rattle.toml.specs.Data.{Data}
 use Rattle.gl_task.specs.declared.task.Entrant.{Entrant}
-use Rattle.gl_task.specs.Keys.{Test, first_failed}
 use Rattle.gl_task.specs.Meaning.{Each, IsEntrant}
 use Rattle.gl_task.specs.Numbers.{first_repeated}
 use Rattle.gl_task.specs.Twice.{number_in, number_twice, twice_at}

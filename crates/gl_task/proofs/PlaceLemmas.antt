@@ -4,7 +4,7 @@ use Rattle.std.specs.Prelude.{option_map, option_and_then}
 use Rattle.std.specs.Int.Signed.{le_z}
 use mathlib.Core.HLevel.{is_prop→PathP}
 use Rattle.gl_sphere.specs.Laws.Bounds.{within-prop}
-use Rattle.gl_sphere.specs.PlaceText.{place_of, place_of_text}
+use Rattle.gl_sphere.specs.PlaceText.{place_of}
 use Rattle.gl_sphere.specs.Range.{IsWithin}
 use Rattle.gl_sphere.specs.Sphere.{quarter_turn, half_turn}
 use Rattle.gl_sphere.specs.declared.place.Grid.{Grid}

@@ -1,16 +1,16 @@
 -- A table that a test refuses tells why its text gives no task.
-use Rattle.std.proofs.Common.{◌≡◌, subst, ℕ, List, Option, Some}
+use Rattle.std.proofs.Common.{◌≡◌, subst, ℕ, List, Some}
 use Rattle.std.specs.Prelude.{◌≢◌, Result, Ok, Err, IfErr}
 use Rattle.toml.specs.Data.{Members}
 use Rattle.gl_task.specs.declared.error.TaskError.{TaskError}
 use Rattle.gl_task.specs.declared.error.TaskError.TheVariants.{Toml, Missing, Value, Twice, TooMany, Memory}
 use Rattle.gl_task.specs.declared.task.Task.{Task}
-use Rattle.gl_task.specs.Keys.{Test, first_failed}
+use Rattle.gl_task.specs.Keys.{first_failed}
 use Rattle.gl_task.specs.Reading.{IsDocument, IsRefusalOf}
 use Rattle.gl_task.specs.Tests.{tests}
 use Rattle.gl_task.proofs.CleanLemmas.{IsKeyed, keyed_first, keyed_tests}
 
-IsOther : TaskError → Type 0
+abbrev pub IsOther : TaskError → Type 0
 IsOther Memory = ⊥
 IsOther Toml = Unit {0}
 IsOther (Missing k) = Unit {0}

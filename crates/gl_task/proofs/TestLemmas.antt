@@ -1,5 +1,5 @@
 -- What fails first among the tests of parts of a file.
-use Rattle.std.proofs.Common.{◌≡◌, rules, refl, List, [], ◌∷◌, ◌++◌, Option, None, Some}
+use Rattle.std.proofs.Common.{◌≡◌, rules, refl, List, [], ◌∷◌, ◌++◌, None, Some}
 use Rattle.gl_task.specs.Keys.{Test, first_failed}
 use Rattle.gl_task.specs.declared.error.TaskError.{TaskError}
 

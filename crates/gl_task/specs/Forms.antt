@@ -1,5 +1,5 @@
 -- The forms of names and numbers in a task.
-use Rattle.std.specs.Prelude.{ℕ, nat_le, nat_lt, nat_eq, ◌==◌, ◌&&◌, not, codes, length, List, Bool}
+use Rattle.std.specs.Prelude.{ℕ, nat_le, nat_eq, ◌==◌, ◌&&◌, not, codes, length, List, Bool}
 use Rattle.std.specs.Char.{is_ascii_alphanumeric}
 use Rattle.std.specs.Cmp.Lexicographic.{pointwise}
 use Rattle.std.specs.List.{list_all}

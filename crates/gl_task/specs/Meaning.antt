@@ -1,5 +1,5 @@
 -- What a task says of the day, by the keys of its file.
-use Rattle.std.specs.Prelude.{◌≡◌, ℕ, ◌*◌, max, codes, List, [], ◌∷◌, Option, None, Some, option_map, unwrap_or, Bool, true, false, pos}
+use Rattle.std.specs.Prelude.{◌≡◌, ℕ, ◌*◌, max, codes, List, [], ◌∷◌, Option, Some, option_map, unwrap_or, Bool, true, false, pos}
 use Rattle.std.specs.List.{list_any}
 use Rattle.gl_sphere.specs.Place.{written_vector, written_north, written_east}
 use Rattle.gl_sphere.specs.declared.place.Grid.{Grid}
@@ -20,7 +20,7 @@ use Rattle.gl_task.specs.declared.task.Task.{Task}
 use Rattle.gl_task.specs.Keys.{said, list_at, table_at, table_of}
 use Rattle.gl_task.specs.Places.{place, place_away_from}
 use Rattle.gl_task.specs.Tests.{has}
-use Rattle.gl_task.specs.Values.{KindWord, ListWord, racing, area, free, triangle, day, file_name, kind, list_word, name, number, whole}
+use Rattle.gl_task.specs.Values.{ListWord, racing, area, free, triangle, day, file_name, kind, list_word, name, number, whole}
 
 -- metres in centimetres
 abbrev pub centimetres : ℕ → ℕ

@@ -1,5 +1,5 @@
 -- The place that a value says.
-use Rattle.std.specs.Prelude.{◌≡◌, ℕ, ◌&&◌, if◌then◌else◌, refl, List, Option, None, Some, option_and_then, Bool, true, false, ℤ, pos, neg_ℤ}
+use Rattle.std.specs.Prelude.{◌≡◌, ℕ, ◌&&◌, if◌then◌else◌, refl, List, Option, None, Some, option_and_then, Bool, true, ℤ, pos, neg_ℤ}
 use Rattle.std.proofs.lemmas.Float.{T_from_true}
 use Rattle.std.specs.Int.Signed.{◌≤ℤ◌, le_z, le_z_yes}
 use Rattle.std.specs.Ordering.{int_eq}

@@ -1,5 +1,5 @@
 -- The ranges of what a task says by cases.
-use Rattle.std.specs.Prelude.{ℕ, nat_le, ◌&&◌, Bool, true}
+use Rattle.std.specs.Prelude.{nat_le, ◌&&◌, Bool, true}
 use Rattle.gl_task.specs.declared.day_type.Kind.{Kind}
 use Rattle.gl_task.specs.declared.day_type.Kind.TheVariants.{Racing, Area}
 use Rattle.gl_task.specs.declared.day_type.Finish.{Finish}

@@ -1,5 +1,5 @@
 -- The task of a text, and why a text gives none.
-use Rattle.std.specs.Prelude.{◌≡◌, ℕ, List, Option, None, Some, IsUtf8, ⊤}
+use Rattle.std.specs.Prelude.{◌≡◌, ℕ, List, None, Some, IsUtf8, ⊤}
 use Rattle.toml.specs.Data.{Members}
 use Rattle.toml.specs.Parse.{parse_document}
 use Rattle.gl_task.specs.declared.error.TaskError.{TaskError}

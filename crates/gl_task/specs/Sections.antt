@@ -1,5 +1,5 @@
 -- What the code keeps of the sections of a file.
-use Rattle.std.specs.Prelude.{◌≡◌, codes, Option, Some, option_map, pos}
+use Rattle.std.specs.Prelude.{◌≡◌, codes, Some, option_map, pos}
 use Rattle.toml.specs.Data.{Members}
 use Rattle.gl_task.specs.declared.course.Course.{Course}
 use Rattle.gl_task.specs.declared.lists.Lists.{Lists}

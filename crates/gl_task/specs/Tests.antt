@@ -1,6 +1,6 @@
 -- The tests of a task file, in the order of the rows of its table of keys. The first that fails
 -- decides.
-use Rattle.std.specs.Prelude.{◌≡◌, ℕ, ◌+◌, max, codes, List, [], ◌∷◌, ◌++◌, Option, None, Some, unwrap_or, is_some, if◌then◌else◌, Bool, true, false}
+use Rattle.std.specs.Prelude.{ℕ, max, codes, List, [], ◌∷◌, ◌++◌, Option, None, Some, unwrap_or, is_some, if◌then◌else◌, Bool}
 use Rattle.toml.specs.Data.{Data, Members, get_member, as_table}
 use Rattle.gl_task.specs.Keys.{Test, key_of, needed, optional, right_value, said, list_of, list_at, table_at, table_of, some_item, at_most, each_item}
 use Rattle.gl_task.specs.Places.{place, place_away_from}

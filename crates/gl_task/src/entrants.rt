@@ -7,8 +7,8 @@ ghost use Rattle.gl_task.specs.Tests.{entrant_tests, entrants_tests};
 
 use crate::error::TaskError;
 use crate::key::{
-    at_most, item_table, needed_file_name, needed_list, needed_name, needed_number, needed_whole, row,
-    row_of_item, some_item,
+    at_most, item_table, needed_file_name, needed_list, needed_name, needed_number, needed_whole,
+    row, row_of_item, some_item,
 };
 use crate::limit::{GREATEST_HANDICAP, MOST_ENTRANTS};
 use crate::task::Entrant;

@@ -13,7 +13,9 @@ ghost use Rattle.std.specs.Prelude.{codes};
 
 use crate::day_type::Finish;
 use crate::error::TaskError;
-use crate::key::{needed_place, needed_place_away_from, needed_table, needed_whole, optional_whole, row};
+use crate::key::{
+    needed_place, needed_place_away_from, needed_table, needed_whole, optional_whole, row,
+};
 use crate::limit::{GREATEST_LENGTH, METRE};
 use gl_sphere::{Grid, vector};
 use gl_zone::Line;

@@ -52,7 +52,9 @@ pub fn is_file_name(text: &str) -> bool
 fn has_number_bytes(text: &str) -> bool
     ensures { result ≡ list_all is_ascii_alphanumeric text.now }
 {
-    text.as_bytes().iter().all(|byte| byte.is_ascii_alphanumeric())
+    text.as_bytes()
+        .iter()
+        .all(|byte| byte.is_ascii_alphanumeric())
 }
 
 /// Whether a text is an entrant's number: 1 to 8 letters and digits of ASCII.

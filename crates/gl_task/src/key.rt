@@ -20,7 +20,11 @@ use toml::{Table, Value};
 pub fn row(row: u32) -> Key
     ensures { result ≡ key_of row 0 0 }
 {
-    Key { row, item: 0, part: 0 }
+    Key {
+        row,
+        item: 0,
+        part: 0,
+    }
 }
 
 /// The key of a row in an item of a list.
@@ -49,7 +53,13 @@ pub fn needed<'a>(table: &'a Table, name: &str, key: Key) -> Result<&'a Value, T
 }
 
 /// The whole number from `low` to `high` under a key that has to be there.
-pub fn needed_whole(table: &Table, name: &str, key: Key, low: u32, high: u32) -> Result<u32, TaskError>
+pub fn needed_whole(
+    table: &Table,
+    name: &str,
+    key: Key,
+    low: u32,
+    high: u32,
+) -> Result<u32, TaskError>
     ensures ok { IfOk result (λ x. said name.now (whole low high) (table_view table.now) ≡ Some x) }
     ensures passes { IfOk result
         (λ x. needed key name.now (whole low high) (table_view table.now) ≡ None) }
@@ -65,7 +75,13 @@ pub fn needed_whole(table: &Table, name: &str, key: Key, low: u32, high: u32) ->
 }
 
 /// The whole number from `low` to `high` under a key, if it is there.
-pub fn optional_whole(table: &Table, name: &str, key: Key, low: u32, high: u32) -> Result<Option<u32>, TaskError>
+pub fn optional_whole(
+    table: &Table,
+    name: &str,
+    key: Key,
+    low: u32,
+    high: u32,
+) -> Result<Option<u32>, TaskError>
     ensures ok { IfOk result
         (λ found. said name.now (whole low high) (table_view table.now) ≡ found) }
     ensures there { IfOk result
@@ -101,7 +117,12 @@ pub fn needed_place(table: &Table, name: &str, key: Key) -> Result<Grid, TaskErr
 }
 
 /// The place, which is another point than `from`, under a key that has to be there.
-pub fn needed_place_away_from(table: &Table, name: &str, key: Key, from: Grid) -> Result<Grid, TaskError>
+pub fn needed_place_away_from(
+    table: &Table,
+    name: &str,
+    key: Key,
+    from: Grid,
+) -> Result<Grid, TaskError>
     ensures ok { IfOk result (λ x. said name.now (place_away_from (Some from)) (table_view table.now) ≡ Some x) }
     ensures passes { IfOk result
         (λ x. needed key name.now (place_away_from (Some from)) (table_view table.now) ≡ None) }
@@ -131,7 +152,11 @@ pub fn needed_table<'a>(table: &'a Table, name: &str, key: Key) -> Result<&'a Ta
 }
 
 /// The table under a key, if it is there.
-pub fn optional_table<'a>(table: &'a Table, name: &str, key: Key) -> Result<Option<&'a Table>, TaskError>
+pub fn optional_table<'a>(
+    table: &'a Table,
+    name: &str,
+    key: Key,
+) -> Result<Option<&'a Table>, TaskError>
     ensures ok { IfOk result
         (λ found. said name.now as_table (table_view table.now) ≡ option_map (λ x. table_view x.now) found) }
     ensures there { IfOk result
@@ -166,7 +191,11 @@ pub fn needed_list<'a>(table: &'a Table, name: &str, key: Key) -> Result<&'a [Va
 }
 
 /// The values of the list under a key, if it is there.
-pub fn optional_list<'a>(table: &'a Table, name: &str, key: Key) -> Result<Option<&'a [Value]>, TaskError>
+pub fn optional_list<'a>(
+    table: &'a Table,
+    name: &str,
+    key: Key,
+) -> Result<Option<&'a [Value]>, TaskError>
     ensures ok { IfOk result
         (λ found. said name.now list_of (table_view table.now) ≡ option_map (λ x. map view x.now) found) }
     ensures there { IfOk result
@@ -264,7 +293,11 @@ pub fn needed_name<'a>(table: &'a Table, name: &str, key: Key) -> Result<&'a str
 }
 
 /// The name of a file under a key, if it is there.
-pub fn optional_file_name<'a>(table: &'a Table, name: &str, key: Key) -> Result<Option<&'a str>, TaskError>
+pub fn optional_file_name<'a>(
+    table: &'a Table,
+    name: &str,
+    key: Key,
+) -> Result<Option<&'a str>, TaskError>
     ensures ok { IfOk result
         (λ found. said name.now file_name (table_view table.now) ≡ option_map (λ x. x.now) found) }
     ensures passes { IfOk result

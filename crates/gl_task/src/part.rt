@@ -31,11 +31,29 @@ fn read_sector(table: &Table, centre: Grid, zone: u32, part: u32) -> Result<Sect
     ensures refused { IfErr result
         (λ e. first_failed (sector_tests zone part (table_view table.now)) ≡ Some e) }
 {
-    let inner = optional_whole(table, "inner", row_of_part(17, zone, part), 0, GREATEST_LENGTH)?;
+    let inner = optional_whole(
+        table,
+        "inner",
+        row_of_part(17, zone, part),
+        0,
+        GREATEST_LENGTH,
+    )?;
     let inner = inner.unwrap_or(0);
     let least = inner.max(1);
-    let outer = needed_whole(table, "outer", row_of_part(18, zone, part), least, GREATEST_LENGTH)?;
-    let from = needed_whole(table, "from", row_of_part(19, zone, part), 0, GREATEST_RADIAL)?;
+    let outer = needed_whole(
+        table,
+        "outer",
+        row_of_part(18, zone, part),
+        least,
+        GREATEST_LENGTH,
+    )?;
+    let from = needed_whole(
+        table,
+        "from",
+        row_of_part(19, zone, part),
+        0,
+        GREATEST_RADIAL,
+    )?;
     let to = needed_whole(table, "to", row_of_part(20, zone, part), 0, GREATEST_RADIAL)?;
     Ok(Sector {
         centre: vector(centre),
@@ -58,7 +76,13 @@ pub fn read_part(value: &Value, centre: Grid, zone: u32, part: u32) -> Result<Pa
         (λ e. first_failed (part_tests zone part (view value.now)) ≡ Some e) }
 {
     let table = item_table(value, row_of_part(15, zone, part))?;
-    match optional_whole(table, "radius", row_of_part(16, zone, part), 1, GREATEST_LENGTH)? {
+    match optional_whole(
+        table,
+        "radius",
+        row_of_part(16, zone, part),
+        1,
+        GREATEST_LENGTH,
+    )? {
         Some(radius) => Ok(Part::Cylinder(Cylinder {
             centre: vector(centre),
             radius: u64::from(radius) * METRE,

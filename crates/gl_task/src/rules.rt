@@ -9,7 +9,10 @@ ghost use Rattle.toml.specs.Data.{no_members};
 
 use crate::error::TaskError;
 use crate::key::{optional_table, optional_whole, row};
-use crate::limit::{GREATEST_ALTITUDE, GREATEST_LENGTH, GREATEST_NOISE, METRE, MOST_POINTS, USUAL_CLOSING, USUAL_LOSS};
+use crate::limit::{
+    GREATEST_ALTITUDE, GREATEST_LENGTH, GREATEST_NOISE, METRE, MOST_POINTS, USUAL_CLOSING,
+    USUAL_LOSS,
+};
 use crate::task::LocalRules;
 use toml::Table;
 

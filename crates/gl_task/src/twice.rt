@@ -12,7 +12,9 @@ use crate::task::Entrant;
 fn has_number(entrants: &[Entrant], number: &str) -> bool
     ensures { result ≡ list_any (λ entrant. is_text number.now entrant.number) entrants.now }
 {
-    entrants.iter().any(|entrant| number == entrant.number.as_str())
+    entrants
+        .iter()
+        .any(|entrant| number == entrant.number.as_str())
 }
 
 /// The place, from 1 on, of the first entrant with the number of an earlier one.

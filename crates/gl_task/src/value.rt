@@ -115,7 +115,11 @@ fn is_same_point(a: Grid, b: Grid) -> bool
 fn other_point(from: Grid, to: Grid) -> Option<Grid>
     ensures { result ≡ other_point from to }
 {
-    if is_same_point(from, to) { None } else { Some(to) }
+    if is_same_point(from, to) {
+        None
+    } else {
+        Some(to)
+    }
 }
 
 /// The place of a value, where it is another point than `from`.

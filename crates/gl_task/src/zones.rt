@@ -18,7 +18,12 @@ use toml::{Table, Value};
 
 /// The parts of a zone with a centre.
 #[tactic(auto, using(crate::proofs::TestLemmas::behind_all, crate::proofs::TestLemmas::before_all))]
-fn read_parts(alloc: Global, values: &[Value], centre: Grid, zone: u32) -> Result<Vec<Part>, TaskError>
+fn read_parts(
+    alloc: Global,
+    values: &[Value],
+    centre: Grid,
+    zone: u32,
+) -> Result<Vec<Part>, TaskError>
     requires { length values.now ≤ 4 }
     ensures ok { IfOk result
         (λ parts. Each (IsPart (Some centre)) (map view values.now) parts.items) }

@@ -1,7 +1,7 @@
 use Rattle.std.proofs.Common.{◌≡◌, refl, subst, codes, None}
 use Rattle.gl_task.specs.declared.error.Key.{Key}
 use Rattle.toml.specs.View.{table_view}
-use Rattle.gl_task.specs.Keys.{optional, key_of}
+use Rattle.gl_task.specs.Keys.{optional}
 use Rattle.gl_task.specs.Values.{whole}
 use Rattle.gl_task.proofs.TestLemmas.{behind}
 use Rattle.gl_task.proofs.rules.read_rule_table.Goals as goal

@@ -1,8 +1,6 @@
-use Rattle.std.proofs.Common.{◌≡◌, ◌∙◌, sym, ap, map, Option, Some}
-use Rattle.std.specs.Prelude.{option_and_then, List}
-use Rattle.toml.specs.Data.{Data, Items, as_array}
+use Rattle.std.proofs.Common.{◌≡◌, Some}
+use Rattle.toml.specs.Data.{as_array}
 use Rattle.toml.specs.View.{view, items_view}
-use Rattle.gl_task.specs.Keys.{list_of, values_of}
 use Rattle.gl_task.proofs.ListLemmas.{values_of-items_of}
 use Rattle.gl_task.proofs.value.list.Goals as goal
 

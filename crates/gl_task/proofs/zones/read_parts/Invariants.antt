@@ -1,4 +1,4 @@
-use Rattle.std.proofs.Common.{◌≡◌, ◌+◌, ◌≤◌, length, map, vec_len, Some}
+use Rattle.std.proofs.Common.{◌≡◌, ◌+◌, length, map, vec_len, Some}
 use Rattle.toml.specs.View.{view}
 use Rattle.gl_task.specs.Keys.{each_item, first_failed}
 use Rattle.gl_task.specs.Meaning.{IsPart}

@@ -1,4 +1,4 @@
-use Rattle.std.proofs.Common.{◌≡◌, zero, length, arith, Some}
+use Rattle.std.proofs.Common.{◌≡◌, zero, length, arith}
 use Rattle.std.proofs.lemmas.Grind.{common_steps}
 use Rattle.gl_task.specs.Meaning.{IsZone}
 use Rattle.gl_task.specs.Tests.{zone_tests}
