@@ -1,0 +1,34 @@
+-- The limits of a task, as its types keep them. Lengths are in centimetres.
+use Rattle.std.specs.Prelude.{ℕ}
+
+-- the last second that a task can name
+abbrev pub last_second : ℕ
+last_second = 100_000
+
+-- the greatest altitude and the greatest loss of altitude, in metres
+abbrev pub greatest_altitude : ℕ
+greatest_altitude = 32_767
+
+-- the greatest level of engine noise
+abbrev pub greatest_noise : ℕ
+greatest_noise = 999
+
+-- the most points that a penalty takes
+abbrev pub most_points : ℕ
+most_points = 1_000
+
+-- the greatest handicap
+abbrev pub greatest_handicap : ℕ
+greatest_handicap = 2_000
+
+-- the most zones
+abbrev pub most_zones : ℕ
+most_zones = 8
+
+-- the most lists that a task asks for
+abbrev pub most_lists : ℕ
+most_lists = 2
+
+-- the most entrants
+abbrev pub most_entrants : ℕ
+most_entrants = 200

@@ -1,0 +1,39 @@
+ghost use Rattle.std.specs.Prelude.{◌≡◌, None, Some, IfOk, IfErr};
+ghost use Rattle.toml.specs.View.{table_view};
+ghost use Rattle.gl_task.specs.Keys.{first_failed};
+ghost use Rattle.gl_task.specs.Meaning.{IsStart};
+ghost use Rattle.gl_task.specs.Tests.{start_tests};
+
+use crate::error::TaskError;
+use crate::key::{needed_place, needed_place_away_from, needed_table, needed_whole, row};
+use crate::limit::{GREATEST_LENGTH, LAST_SECOND, METRE};
+use crate::task::Start;
+use gl_sphere::vector;
+use gl_zone::Line;
+use toml::Table;
+
+/// The start of a task.
+#[tactic(auto, unfolding(crate::specs::Tests::start_tests))]
+pub fn read_start(file: &Table) -> Result<Start, TaskError>
+    ensures ok { IfOk result (IsStart (table_view file.now)) }
+    ensures passes { IfOk result
+        (λ start. first_failed (start_tests (table_view file.now)) ≡ None) }
+    ensures refused { IfErr result
+        (λ e. first_failed (start_tests (table_view file.now)) ≡ Some e) }
+{
+    let table = needed_table(file, "start", row(7))?;
+    let at = needed_place(table, "at", row(8))?;
+    let towards = needed_place_away_from(table, "towards", row(9), at)?;
+    let half = needed_whole(table, "half", row(10), 1, GREATEST_LENGTH)?;
+    let opens = needed_whole(table, "open", row(11), 0, LAST_SECOND)?;
+    let close = needed_whole(table, "close", row(12), opens, LAST_SECOND)?;
+    Ok(Start {
+        line: Line {
+            centre: vector(at),
+            towards: vector(towards),
+            half: u64::from(half) * METRE,
+        },
+        opens: opens as i32,
+        close: close as i32,
+    })
+}
