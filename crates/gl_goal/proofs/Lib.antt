@@ -4,3 +4,6 @@ pub mod FreeHulls
 pub mod FreeLosses
 pub mod Seen
 pub mod Tuples
+mod Courses
+mod FreeSeen
+mod Listed

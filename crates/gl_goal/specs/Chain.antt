@@ -9,6 +9,11 @@ use Rattle.gl_igc.specs.declared.fix.Fix.{Fix}
 use Rattle.gl_hull.specs.Box.{Box, fixes_in, hull_of}
 use Rattle.gl_hull.specs.Chords.{greatest_chord, least_chord}
 
+-- the last of a first one and others
+abbrev pub last_of : {X : Type 0} → X → List X → X
+last_of first [] = first
+last_of first (next ∷ others) = last_of next others
+
 -- the distance of two points along the sphere, in centimetres
 abbrev pub distance : Vec3 → Vec3 → ℕ
 distance a b = written_distance (squared_chord a b)

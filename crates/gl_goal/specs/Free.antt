@@ -3,13 +3,8 @@
 use Rattle.std.specs.Prelude.{ℕ, zero, suc, ◌-◌, List, [], ◌∷◌, ℤ, pos, ◌-ℤ◌, int_le, int_lt}
 use Rattle.gl_igc.specs.declared.fix.Fix.{Fix}
 use Rattle.gl_hull.specs.Box.{Box}
-use Rattle.gl_goal.specs.Chain.{fixes_at, greatest_legs, hulls_of, legs, points_of}
+use Rattle.gl_goal.specs.Chain.{fixes_at, greatest_legs, hulls_of, last_of, legs, points_of}
 use Rattle.gl_goal.specs.Rule.{Rule}
-
--- the last of a first one and others
-abbrev pub last_of : {X : Type 0} → X → List X → X
-last_of first [] = first
-last_of first (next ∷ others) = last_of next others
 
 -- how much lower the last of some fixes is than the first, in metres
 abbrev pub loss_over : List Fix → ℤ

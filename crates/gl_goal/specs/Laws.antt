@@ -5,3 +5,5 @@ pub mod Optimum
 pub mod Existence
 pub mod Chain
 pub mod Free
+pub mod Area
+pub mod Out

@@ -1,9 +1,16 @@
+pub mod AnyGoal
+pub mod Area
+pub mod AreaGoal
 pub mod Certificate
 pub mod Chain
 pub mod Free
 pub mod FreeGoal
 pub mod FreeLegs
+pub mod Hulled
 pub mod Laws
+pub mod Lists
+pub mod Out
+pub mod OutGoal
 pub mod Rule
 pub use Rattle.gl_box.specs.Cell
 pub use Rattle.gl_box.specs.Closed

@@ -2,7 +2,7 @@ ghost use Rattle.std.specs.Prelude.{◌≡◌, ◌^◌, ◌≤◌, ◌<◌, ◌�
 ghost use Rattle.gl_box.specs.Cell.{Covers, ends, spans_of};
 ghost use Rattle.gl_box.specs.Tuple.{places_of};
 ghost use Rattle.gl_hull.specs.Hull.{box_of};
-ghost use Rattle.gl_goal.specs.Chain.{distance, greatest_distance, hulls_of};
+ghost use Rattle.gl_goal.specs.Chain.{hulls_of};
 ghost use Rattle.gl_goal.specs.Free.{five_axes, free_goal};
 ghost use Rattle.gl_goal.specs.Rule.{IsGoal, IsInTimeOrder, IsLegal, IsTuple, chosen, whole_cell};
 ghost use Rattle.gl_goal.specs.FreeGoal.{rule_of};
@@ -12,31 +12,14 @@ ghost use Rattle.gl_goal.specs.Laws.Free.{free_goal-is_goal};
 use crate::free::FreeGoal;
 use crate::goal::Goal;
 use crate::leg::Leg;
+use crate::legs::{leg, leg_at_most};
 use gl_box::{Cell, Span, Tuple};
-use gl_hull::{Hull, Hulls, max_sq};
+use gl_hull::{Hull, Hulls};
 use gl_igc::Fix;
-use gl_sphere::{dist, sq};
 use std::alloc::{AllocError, Global};
 
 /// How many fixes a free distance names.
 const FREE_FIXES: u8 = 5;
-
-/// The distance between two fixes, in centimetres.
-fn leg(from: &Fix, to: &Fix) -> u64
-    ensures value { result ≡ distance from.now.at to.now.at }
-    ensures bound { result < 2 ^ 40 }
-{
-    dist(sq(from.at, to.at))
-}
-
-/// The greatest distance of two points, one in each hull, in centimetres.
-#[inline]
-fn leg_at_most(from: &Hull, to: &Hull) -> u64
-    ensures value { result ≡ greatest_distance (box_of from.now) (box_of to.now) }
-    ensures bound { result < 2 ^ 40 }
-{
-    dist(max_sq(from, to))
-}
 
 /// How much lower the second fix is than the first, in metres.
 fn loss(from: &Fix, to: &Fix) -> i32
@@ -214,7 +197,7 @@ impl Goal for FreeGoal {
     fn value(&self, tuple: &Tuple) -> u64 {
         let [a, b, c, d, e] = self.numbers(tuple);
         let [a, b, c, d, e] = [self.at(a), self.at(b), self.at(c), self.at(d), self.at(e)];
-        leg(a, b) + leg(b, c) + leg(c, d) + leg(d, e)
+        leg(a.at, b.at) + leg(b.at, c.at) + leg(c.at, d.at) + leg(d.at, e.at)
     }
 
     #[inline]

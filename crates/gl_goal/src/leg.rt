@@ -11,3 +11,15 @@ pub struct Leg {
     pub most: u64,
     pub ghost below: { most < 2 ^ 40 },
 }
+
+impl Leg {
+    /// A leg of no length from the first place to itself, for goals that keep no legs.
+    pub(crate) fn none() -> Leg {
+        let first = Span::point(0);
+        Leg {
+            from: first,
+            to: first,
+            most: 0,
+        }
+    }
+}

@@ -2,13 +2,26 @@
 //! overlooked.
 #![tactic(auto)]
 
+mod any;
+mod any_goal;
+mod area;
+mod area_goal;
+mod axis;
 mod free;
 mod free_goal;
 mod goal;
 mod leg;
+mod legs;
+mod lists;
 mod numbers;
+mod out;
+mod out_goal;
+mod way;
 
+pub use any::AnyGoal;
+pub use area::AreaGoal;
 pub use free::FreeGoal;
 pub use goal::Goal;
 pub use leg::Leg;
 pub use numbers::fix_numbers;
+pub use out::OutGoal;

@@ -1,5 +1,5 @@
 -- What the boxes of a chain say of the fixes in them.
-use Rattle.std.proofs.Common.{◌≡◌, ◌∙◌, sym, ap, refl, subst, ℕ, zero, suc, ◌+◌, ◌-◌, ◌*◌, ◌<◌, ◌≤◌, List, [], ◌∷◌, length, map, drop, get_or, Some, slice_get, ℤ, pos, ◌-ℤ◌, arith, ◌++◌}
+use Rattle.std.proofs.Common.{◌≡◌, ◌∙◌, sym, ap, refl, subst, ℕ, zero, suc, ◌+◌, ◌-◌, ◌*◌, ◌<◌, ◌≤◌, List, [], ◌∷◌, length, map, drop, take, get_or, Some, slice_get, ℤ, pos, ◌-ℤ◌, arith, ◌++◌}
 use Rattle.std.specs.Prelude.{All, unsigned_abs}
 use Rattle.std.specs.List.{AllZip, cons_option}
 use Rattle.std.proofs.lemmas.Int.{ints, int_max_is}
@@ -19,7 +19,9 @@ use Rattle.gl_hull.specs.Laws.Chords.{squared_chord-at_least, squared_chord-at_m
 use Rattle.gl_box.specs.Cell.{Covers, Holds, point}
 use Rattle.gl_box.specs.Laws.Held.{holds_parts}
 use Rattle.gl_goal.specs.Rule.{IsTuple, chosen, whole_cell}
-use Rattle.gl_goal.specs.Chain.{distance, fixes_at, greatest_legs, hulls_of, legs, points_of, least_distance}
+use Rattle.gl_goal.specs.Laws.Order.{length-chosen}
+use Rattle.gl_goal.specs.Lists.{AreNamed}
+use Rattle.gl_goal.specs.Chain.{distance, fixes_at, greatest_distance, greatest_legs, hulls_of, last_of, legs, points_of, least_distance}
 
 -- no legs are longer than the greatest ones from box to box
 pub legs-at_most : (boxes : List Box) (points : List Vec3) → AllZip IsInside boxes points → legs points ≤ greatest_legs boxes
@@ -32,7 +34,8 @@ legs-at_most (b ∷ d ∷ bs) (p ∷ []) inside = absurd inside.1
 legs-at_most (b ∷ d ∷ bs) (p ∷ q ∷ ps) inside =
     omega (arith, written_distance-mono _ _ (squared_chord-at_most b d p q inside.0 inside.1.0), legs-at_most (d ∷ bs) (q ∷ ps) inside.1)
 
-distance-bound : (a b : Vec3) → distance a b ≤ 7460377693
+-- the greatest distance that two points can have
+pub distance-bound : (a b : Vec3) → distance a b ≤ 7460377693
 distance-bound a b = written_distance-bound (squared_chord a b) (squared_chord-bound a b)
 
 -- what the legs can be worth
@@ -40,10 +43,6 @@ pub legs-limited : (points : List Vec3) → legs points ≤ 7460377693 * length 
 legs-limited [] = omega arith
 legs-limited (a ∷ []) = omega arith
 legs-limited (a ∷ b ∷ points) = omega (arith, distance-bound a b, legs-limited (b ∷ points))
-
--- each number names a fix
-abbrev pub AreNamed : List Fix → List ℕ → Type 0
-AreNamed fixes numbers = All (λ number. number < length fixes) numbers
 
 -- the fix that a number names
 pub named : (fixes : List Fix) (number : ℕ) → number < length fixes → (fix : Fix) × (slice_get fixes number ≡ Some fix)
@@ -103,6 +102,14 @@ hull_of-holds fixes span place fix low high within is =
 
 next_all : (P : List ℕ → Type 0) (axis : List ℕ) (axes : List (List ℕ)) → All P (axis ∷ axes) → All P axes
 next_all P axis axes all k d below = all (suc k) d (omega arith)
+
+-- the fixes that a tuple chooses are named
+pub chosen-named : (fixes : List Fix) (axes : List (List ℕ)) (tuple : List ℕ) → All (AreNamed fixes) axes → IsTuple axes tuple → AreNamed fixes (chosen axes tuple)
+chosen-named fixes [] tuple all fits k d below = absurd (omega arith)
+chosen-named fixes (axis ∷ axes) [] all fits k d below = absurd fits
+chosen-named fixes (axis ∷ axes) (place ∷ places) all fits zero d below = all 0 [] (omega arith) place 0 fits.0
+chosen-named fixes (axis ∷ axes) (place ∷ places) all fits (suc k) d below =
+    chosen-named fixes axes places (λ j e inside. all (suc j) e (omega arith)) fits.1 k d (omega arith)
 
 -- the fix of an axis and a place there
 pub named_at : (fixes : List Fix) (axis : List ℕ) (place : ℕ) → AreNamed fixes axis → place < length axis → (fix : Fix) × (slice_get fixes (get_or axis place 0) ≡ Some fix) × (get_or (fixes_at fixes axis) place fix ≡ fix)
@@ -234,3 +241,46 @@ least_distance-at a b p q h k =
     let z = gap-at p.z q.z a.z b.z h.z k.z in
     let same : least_chord a b ≡ squared_chord p q = cc in
     ap written_distance same
+
+pub greatest_distance-at : (a b : Box) (p q : Vec3) → IsAt a p → IsAt b q → greatest_distance a b ≡ distance p q
+greatest_distance-at a b p q h k = ap written_distance (greatest_chord-at a b p q h k)
+
+pub distance-at_most : (a b : Box) (p q : Vec3) → IsInside a p → IsInside b q → distance p q ≤ greatest_distance a b
+distance-at_most a b p q h k = written_distance-mono _ _ (squared_chord-at_most a b p q h k)
+
+-- a chain that goes on to one point more is longer by the leg to it
+pub legs-last : (a : Vec3) (points : List Vec3) (next : Vec3) → legs (a ∷ points ++ next ∷ []) ≡ legs (a ∷ points) + distance (last_of a points) next
+legs-last a [] next = omega arith
+legs-last a (b ∷ points) next = omega (arith, legs-last b points next)
+
+pub greatest_legs-last : (a : Box) (boxes : List Box) (next : Box) → greatest_legs (a ∷ boxes ++ next ∷ []) ≡ greatest_legs (a ∷ boxes) + greatest_distance (last_of a boxes) next
+greatest_legs-last a [] next = omega arith
+greatest_legs-last a (b ∷ boxes) next = omega (arith, greatest_legs-last b boxes next)
+
+-- what holds along two chains holds of their ends
+pub AllZip-end : {A B : Type 0} (R : A → B → Type 0) (x : A) (xs : List A) (y : B) (ys : List B) → R x y → AllZip R xs ys → R (last_of x xs) (last_of y ys)
+AllZip-end R x [] y [] first all = first
+AllZip-end R x [] y (q ∷ ys) first all = absurd all
+AllZip-end R x (p ∷ xs) y [] first all = absurd all
+AllZip-end R x (p ∷ xs) y (q ∷ ys) first all = AllZip-end R p xs q ys all.0 all.1
+
+-- and of their first links
+pub AllZip-take : {A B : Type 0} (R : A → B → Type 0) (n : ℕ) (xs : List A) (ys : List B) → AllZip R xs ys → AllZip R (take n xs) (take n ys)
+AllZip-take R zero xs ys all = tt
+AllZip-take R (suc n) [] [] all = tt
+AllZip-take R (suc n) [] (q ∷ ys) all = absurd all
+AllZip-take R (suc n) (p ∷ xs) [] all = absurd all
+AllZip-take R (suc n) (p ∷ xs) (q ∷ ys) all = (all.0, AllZip-take R n xs ys all.1)
+
+pub AllZip-length : {A B : Type 0} (R : A → B → Type 0) (xs : List A) (ys : List B) → AllZip R xs ys → length xs ≡ length ys
+AllZip-length R [] [] all = refl
+AllZip-length R [] (q ∷ ys) all = absurd all
+AllZip-length R (p ∷ xs) [] all = absurd all
+AllZip-length R (p ∷ xs) (q ∷ ys) all = ap suc (AllZip-length R xs ys all.1)
+
+-- the number of points that a tuple chooses
+pub length-points : (fixes : List Fix) (axes : List (List ℕ)) (tuple : List ℕ) → All (AreNamed fixes) axes → IsTuple axes tuple → length (points_of (fixes_at fixes (chosen axes tuple))) ≡ length axes
+length-points fixes axes tuple all fits =
+    length-map (fixes_at fixes (chosen axes tuple)) (λ (fix : Fix). fix.at)
+    ∙ length-fixes_at fixes (chosen axes tuple) (chosen-named fixes axes tuple all fits)
+    ∙ length-chosen axes tuple fits

@@ -8,10 +8,11 @@ use Rattle.std.proofs.lemmas.Bool.{cases_Bool}
 use Rattle.std.proofs.lemmas.List.{length-map}
 use Rattle.gl_igc.specs.declared.fix.Fix.{Fix}
 use Rattle.gl_hull.specs.Box.{Box}
-use Rattle.gl_goal.specs.Rule.{IsGoal, IsTuple, chosen}
-use Rattle.gl_goal.specs.Chain.{fixes_at, greatest_legs, points_of}
-use Rattle.gl_goal.specs.Free.{five_axes, free_goal, last_of, least_loss, loss_over, numbers_between, numbers_from}
-use Rattle.gl_goal.specs.Laws.Chain.{AreNamed, IsHeld, fix_box, greatest_legs-point, hulls_of-hold, hulls_of-point, legs-at_most, legs-limited, length-fixes_at, points-inside}
+use Rattle.gl_goal.specs.Rule.{IsGoal, chosen}
+use Rattle.gl_goal.specs.Chain.{fixes_at, greatest_legs, last_of, points_of}
+use Rattle.gl_goal.specs.Free.{five_axes, free_goal, least_loss, loss_over, numbers_between, numbers_from}
+use Rattle.gl_goal.specs.Lists.{AreNamed}
+use Rattle.gl_goal.specs.Laws.Chain.{IsHeld, chosen-named, fix_box, greatest_legs-point, hulls_of-hold, hulls_of-point, legs-at_most, legs-limited, length-fixes_at, points-inside}
 use Rattle.gl_goal.specs.Laws.Order.{length-chosen, point_in_order}
 
 pub length-numbers_from : (first count : ℕ) → length (numbers_from first count) ≡ count
@@ -86,13 +87,6 @@ allowed-else least loss limit same not_above =
 
 pub five_axes-named : (fixes : List Fix) (first last : ℕ) → first ≤ last → last < length fixes → All (AreNamed fixes) (five_axes first last)
 five_axes-named fixes first last order within = All-five (AreNamed fixes) (numbers_between first last) (numbers_between-named fixes first last order within)
-
-chosen-named : (fixes : List Fix) (axes : List (List ℕ)) (tuple : List ℕ) → All (AreNamed fixes) axes → IsTuple axes tuple → AreNamed fixes (chosen axes tuple)
-chosen-named fixes [] tuple all fits k d below = absurd (omega arith)
-chosen-named fixes (axis ∷ axes) [] all fits k d below = absurd fits
-chosen-named fixes (axis ∷ axes) (place ∷ places) all fits zero d below = all 0 [] (omega arith) place 0 fits.0
-chosen-named fixes (axis ∷ axes) (place ∷ places) all fits (suc k) d below =
-    chosen-named fixes axes places (λ j e inside. all (suc j) e (omega arith)) fits.1 k d (omega arith)
 
 pub free_goal-is_goal : (fixes : List Fix) (first last : ℕ) (loss : ℤ) → first ≤ last → last < length fixes → IsGoal (free_goal fixes first last loss)
 unfolding free_goal

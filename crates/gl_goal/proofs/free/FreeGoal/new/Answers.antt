@@ -4,7 +4,7 @@ use Rattle.std.proofs.lemmas.Int.{ints}
 use Rattle.gl_igc.specs.declared.fix.Fix.{Fix}
 use Rattle.gl_goal.specs.Chain.{fixes_at}
 use Rattle.gl_goal.specs.Free.{numbers_between, numbers_from}
-use Rattle.gl_goal.specs.Laws.Chain.{AreNamed}
+use Rattle.gl_goal.specs.Lists.{AreNamed}
 use Rattle.gl_goal.specs.Laws.Free.{free_goal-is_goal, length-numbers_between, numbers_between-named}
 use Rattle.gl_goal.proofs.FreeLosses.{filter_map-found, numbers_from-more, stay_legal}
 use Rattle.gl_goal.proofs.free.FreeGoal.new.Goals as goal

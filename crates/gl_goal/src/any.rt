@@ -1,0 +1,11 @@
+use crate::area::AreaGoal;
+use crate::free::FreeGoal;
+use crate::out::OutGoal;
+
+/// A goal of any of the kinds that a flight can be asked for.
+#[derive(Debug, Drop)]
+pub enum AnyGoal {
+    Area(AreaGoal),
+    Out(OutGoal),
+    Free(FreeGoal),
+}
