@@ -1,0 +1,17 @@
+//! How a flight is judged by its task: which of its fixes count, where it started, which zones it
+//! visited, and whether it finished or landed out.
+#![tactic(auto)]
+
+mod crossings;
+mod finishes;
+mod judged_fixes;
+mod judging;
+mod outcome;
+mod passing;
+mod starts;
+mod stretch;
+mod visits;
+
+pub use judged_fixes::judged_range;
+pub use judging::judge;
+pub use outcome::{Judged, Window};
