@@ -16,3 +16,7 @@ handicap_limit = 2_000
 -- the most performances of a day
 abbrev pub performance_limit : ℕ
 performance_limit = 256
+
+-- the most points of a day
+abbrev pub point_limit : ℕ
+point_limit = 1_000

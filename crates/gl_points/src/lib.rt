@@ -2,6 +2,14 @@
 //! earns. All of it is whole-number arithmetic on exact fractions.
 #![tactic(auto)]
 
+mod figures;
+mod frac;
+mod most;
+mod passes;
 mod performance;
+mod summary;
 
+pub use figures::day;
+pub use frac::Frac;
 pub use performance::Performance;
+pub use summary::Day;

@@ -1,0 +1,4 @@
+pub mod Counts
+pub mod Greatest
+pub mod Least
+pub mod Orders
