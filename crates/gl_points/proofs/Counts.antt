@@ -1,5 +1,5 @@
 -- How many pass a test.
-use Rattle.std.proofs.Common.{◌≡◌, refl, ap, sym, subst, ℕ, ◌+◌, ◌<◌, ◌≤◌, Bool, true, false, List, [], ◌∷◌, length, filter, cond, arith, IsTrue}
+use Rattle.std.proofs.Common.{refl, sym, subst, ◌≤◌, Bool, true, false, List, [], ◌∷◌, length, filter, cond, arith, IsTrue}
 use Rattle.gl_points.specs.declared.performance.Performance.{Performance}
 
 pub filter_low : {X : Type 0} (test : X → Bool) (xs : List X) → length (filter test xs) ≤ length xs

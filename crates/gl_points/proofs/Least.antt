@@ -1,8 +1,7 @@
 -- The least of some numbers is one of them, and none is below it.
-use Rattle.std.proofs.Common.{◌≡◌, refl, ℕ, ◌<◌, ◌≤◌, List, [], ◌∷◌, ◌++◌, length, map, min, Option, Some, None, arith, inl, inr}
-use Rattle.std.specs.Prelude.{All, Contains, fold, unwrap_or}
+use Rattle.std.proofs.Common.{ℕ, ◌≤◌, List, [], ◌∷◌, map, min, arith}
+use Rattle.std.specs.Prelude.{fold, unwrap_or}
 use Rattle.std.specs.List.{reduce}
-use Rattle.std.proofs.lemmas.List.Elements.{All-nil, All-cons}
 use Rattle.gl_points.specs.declared.performance.Performance.{Performance}
 use Rattle.gl_points.specs.Limits.{handicap_limit}
 

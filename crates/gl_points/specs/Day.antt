@@ -2,7 +2,7 @@
 use Rattle.std.specs.Prelude.{◌≡◌, ℕ, List, length, map, filter, Option, None, Some, unwrap_or}
 use Rattle.gl_points.specs.declared.summary.Day.{Day}
 use Rattle.gl_points.specs.declared.performance.Performance.{Performance}
-use Rattle.gl_points.specs.Figures.{IsGreatestFraction, handicapped_distance, handicapped_speed, is_far, is_fast, is_fastest, least_number}
+use Rattle.gl_points.specs.Figures.{IsGreatestFigure, handicapped_distance, handicapped_speed, is_far, is_fast, is_fastest, least_number}
 use Rattle.gl_points.specs.Fraction.{Fraction, ◌÷◌, ◌⊘◌, ◌⊖◌, lesser, whole}
 use Rattle.gl_points.specs.Limits.{point_limit}
 use Rattle.gl_points.specs.Worth.{worth}
@@ -38,12 +38,10 @@ pub record IsDayOf (list : List Performance) (day : Day) : Type 0 where
   pub launched : day.launched ≡ length (launched_of list)
   pub handicap : day.handicap ≡ least_handicap list
   pub distance :
-      IsGreatestFraction (map (handicapped_distance day.handicap) (launched_of list))
-      (worth day.distance)
+      IsGreatestFigure (handicapped_distance day.handicap) (launched_of list) (worth day.distance)
   pub far : day.far ≡ length (filter (is_far day.handicap) (launched_of list))
   pub speed :
-      IsGreatestFraction (map (handicapped_speed day.handicap) (finishers_of list))
-      (worth day.speed)
+      IsGreatestFigure (handicapped_speed day.handicap) (finishers_of list) (worth day.speed)
   pub fast :
       day.fast ≡ length (filter (is_fast day.handicap (worth day.speed)) (finishers_of list))
   pub time :

@@ -1,5 +1,5 @@
 -- The points of one performance of a day.
-use Rattle.std.specs.Prelude.{◌≡◌, ℕ, ◌<◌, ◌≤◌, Bool, ◌==◌, not, ◌||◌, List, length, Contains, if◌then◌else◌}
+use Rattle.std.specs.Prelude.{ℕ, ◌≤◌, ◌==◌, not, ◌||◌, List, length, Contains, if◌then◌else◌}
 use Rattle.gl_points.specs.declared.summary.Day.{Day}
 use Rattle.gl_points.specs.declared.performance.Performance.{Performance}
 use Rattle.gl_points.specs.Day.{IsDayOf}
@@ -44,7 +44,7 @@ points_of_finisher day p = most_for_speed day ⊗ share_of_speed day p ⊕ most_
 -- the points of an outlanding, before the day's factors
 unfoldable pub points_of_outlanding : Day → Performance → Fraction
 points_of_outlanding day p =
-    most_for_distance day ⊗ handicapped_distance day.handicap p ⊘ worth day.distance
+    most_for_distance day ⊗ (handicapped_distance day.handicap p ⊘ worth day.distance)
 
 -- the points as an exact fraction, of one who was launched on a day on which somebody flew far
 unfoldable pub exact_points : Day → Performance → Fraction

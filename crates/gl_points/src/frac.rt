@@ -11,8 +11,9 @@ pub struct Frac {
 }
 
 impl Frac {
-    ghost use Rattle.std.specs.Prelude.{◌≡◌, ℕ, ◌<◌, ◌^◌};
-    ghost use Rattle.gl_points.specs.Fraction.{◌÷◌, ◌⊗◌, IsAtMost, is_at_most, is_same, greater, lesser, whole};
+    ghost use Rattle.std.specs.Prelude.{◌≡◌, ℕ, ◌<◌, ◌*◌, ◌^◌};
+    ghost use Rattle.gl_points.specs.Fraction.{◌÷◌, ◌⊗◌, IsAtMost, is_at_most, is_same, greater, lesser, rounded, whole};
+    ghost use Rattle.gl_points.specs.Limits.{point_limit};
     ghost use Rattle.gl_points.specs.Worth.{worth};
 
     /// Nothing.
@@ -87,5 +88,15 @@ impl Frac {
         ensures den { (most : ℕ) → self.den ≤ most → other.den ≤ most → result.den ≤ most }
     {
         if self.is_at_most(&other) { other } else { self }
+    }
+
+    /// The nearest whole number, of two that are as near the greater.
+    pub(crate) fn rounded(&self) -> u32
+        requires at_most { self.now.num ≤ point_limit * self.now.den }
+        requires room { self.now.den < 2 ^ 114 }
+        ensures rounded { result ≡ rounded (worth self.now) }
+        ensures at_most { result ≤ point_limit }
+    {
+        ((2 * self.num + self.den) / (2 * self.den)) as u32
     }
 }

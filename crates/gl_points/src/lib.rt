@@ -7,6 +7,7 @@ mod frac;
 mod most;
 mod passes;
 mod performance;
+mod score;
 mod summary;
 
 pub use figures::day;

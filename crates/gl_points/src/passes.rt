@@ -1,6 +1,6 @@
 ghost use Rattle.std.specs.Prelude.{◌≡◌, ◌<◌, ◌≤◌, ◌*◌, filter, length, map};
 ghost use Rattle.gl_points.specs.Day.{least_handicap, finishers_of, launched_of, most_points_of_day};
-ghost use Rattle.gl_points.specs.Figures.{IsGreatestFraction, handicapped_distance, handicapped_speed, is_far, is_fast, is_fastest, least_number};
+ghost use Rattle.gl_points.specs.Figures.{IsGreatestFigure, handicapped_distance, handicapped_speed, is_far, is_fast, is_fastest, least_number};
 ghost use Rattle.gl_points.specs.Limits.{distance_limit, handicap_limit, performance_limit, time_limit};
 ghost use Rattle.gl_points.specs.Worth.{worth};
 
@@ -75,8 +75,7 @@ pub(crate) fn time_of_fastest(list: &[Performance], least: u32, greatest: &Frac)
 /// The greatest handicapped distance of the launched, or 0.
 pub(crate) fn greatest_distance(list: &[Performance], least: u32) -> Frac
     requires { least ≤ handicap_limit }
-    ensures greatest { IsGreatestFraction (map (handicapped_distance least) (launched_of list.now))
-        (worth result) }
+    ensures greatest { IsGreatestFigure (handicapped_distance least) (launched_of list.now) (worth result) }
     ensures num { result.num ≤ distance_limit * handicap_limit }
     ensures den { result.den ≤ handicap_limit }
 {
@@ -92,8 +91,7 @@ pub(crate) fn greatest_distance(list: &[Performance], least: u32) -> Frac
 /// The greatest handicapped speed of the finishers, or 0.
 pub(crate) fn greatest_speed(list: &[Performance], least: u32) -> Frac
     requires { least ≤ handicap_limit }
-    ensures greatest { IsGreatestFraction (map (handicapped_speed least) (finishers_of list.now))
-        (worth result) }
+    ensures greatest { IsGreatestFigure (handicapped_speed least) (finishers_of list.now) (worth result) }
     ensures num { result.num ≤ distance_limit * handicap_limit }
     ensures den { result.den ≤ handicap_limit * time_limit }
 {

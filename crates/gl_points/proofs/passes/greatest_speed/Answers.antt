@@ -1,8 +1,8 @@
-use Rattle.std.proofs.Common.{◌≡◌, ap, sym, ◌∙◌, ℕ, ◌≤◌, ◌*◌}
+use Rattle.std.proofs.Common.{◌≡◌, ap, ◌∙◌, ◌*◌}
 use Rattle.gl_points.specs.declared.performance.Performance.{Performance}
 use Rattle.gl_points.specs.Limits.{distance_limit, handicap_limit, time_limit}
 use Rattle.gl_points.specs.Figures.{handicapped_speed}
-use Rattle.gl_points.specs.Fraction.{Fraction, ◌÷◌, greater}
+use Rattle.gl_points.specs.Fraction.{◌÷◌, greater}
 use Rattle.gl_points.proofs.Greatest.{greatest_kept, greatest_passed}
 use Rattle.gl_points.proofs.passes.greatest_speed.Goals as goal
 use Rattle.gl_points.proofs.passes.greatest_speed.Goals.{then-p, else-p}
