@@ -9,10 +9,10 @@ use Rattle.gl_points.specs.Fraction.{Fraction, ◌÷◌, ◌⊗◌, ◌⊘◌, �
 use Rattle.gl_points.specs.Points.{day_factor, completion_factor, exact_points, most_for_distance, most_for_speed, points_of_finisher, points_of_outlanding, share_of_speed}
 use Rattle.gl_points.specs.Worth.{worth}
 
-pub product_above : (a b : ℕ) → 0 < a → 0 < b → 0 < a * b
+product_above : (a b : ℕ) → 0 < a → 0 < b → 0 < a * b
 product_above a b first second = let h : 1 * 1 ≤ a * b = mul-le-mul first second in omega (arith, h)
 
-lesser_above : (a b : Fraction) → 0 < a.den → 0 < b.den → 0 < (lesser a b).den
+pub lesser_above : (a b : Fraction) → 0 < a.den → 0 < b.den → 0 < (lesser a b).den
 lesser_above a b first second = elim (is_at_most a b) as (λ t. 0 < (cond t a b).den) [ true ↦ first | false ↦ second ]
 
 day_factor_above : (day : Day) → 0 < day.launched → 0 < (day_factor day).den
@@ -27,7 +27,7 @@ most_for_speed_above : (day : Day) → 0 < day.launched → 0 < (most_for_speed 
 unfolding most_for_speed
 most_for_speed_above day launched = product_above (3 * day.launched) day.most.den (omega arith) day.most.divides
 
-most_for_distance_above : (day : Day) → 0 < day.launched → 0 < (most_for_distance day).den
+pub most_for_distance_above : (day : Day) → 0 < day.launched → 0 < (most_for_distance day).den
 unfolding most_for_distance
 most_for_distance_above day launched = product_above day.most.den (most_for_speed day).den day.most.divides (most_for_speed_above day launched)
 
@@ -39,16 +39,16 @@ share_tested day p false some finished =
     let below = product_above (p.handicap * p.seconds) (3 * day.speed.den) time (omega (arith, day.speed.divides)) in
     product_above (p.handicap * p.seconds * (3 * day.speed.den)) (1 * day.speed.num) below (omega arith)
 
-pub share_of_speed_above : (day : Day) (p : Performance) → IsTrue p.finished → 0 < (share_of_speed day p).den
+share_of_speed_above : (day : Day) (p : Performance) → IsTrue p.finished → 0 < (share_of_speed day p).den
 unfolding share_of_speed
 share_of_speed_above day p finished = share_tested day p (day.speed.num == 0) refl finished
 
-pub finisher_above : (day : Day) (p : Performance) → 0 < day.launched → IsTrue p.finished → 0 < (points_of_finisher day p).den
+finisher_above : (day : Day) (p : Performance) → 0 < day.launched → IsTrue p.finished → 0 < (points_of_finisher day p).den
 unfolding points_of_finisher
 finisher_above day p launched finished =
     product_above ((most_for_speed day).den * (share_of_speed day p).den) (most_for_distance day).den (product_above (most_for_speed day).den (share_of_speed day p).den (most_for_speed_above day launched) (share_of_speed_above day p finished)) (most_for_distance_above day launched)
 
-pub outlanding_above : (day : Day) (p : Performance) → 0 < day.launched → 0 < day.distance.num → 0 < (points_of_outlanding day p).den
+outlanding_above : (day : Day) (p : Performance) → 0 < day.launched → 0 < day.distance.num → 0 < (points_of_outlanding day p).den
 unfolding points_of_outlanding
 outlanding_above day p launched some =
     product_above (most_for_distance day).den (p.handicap * day.distance.num) (most_for_distance_above day launched) (product_above p.handicap day.distance.num p.handicap_at_least some)

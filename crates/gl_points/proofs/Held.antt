@@ -17,7 +17,7 @@ all_from_tested : {X : Type 0} (P : X → Type 0) (test : X → Bool) (x : X) (x
 all_from_tested P test x xs kept true is rest h = All-cons (λ y. test y ≡ true → P y) x xs (λ pass. All-head P x kept h) (rest (All-tail P x kept h))
 all_from_tested P test x xs kept false is rest h = All-cons (λ y. test y ≡ true → P y) x xs (λ pass. absurd (false≢true (sym is ∙ pass))) (rest h)
 
-all_from_filter : {X : Type 0} (P : X → Type 0) (test : X → Bool) (xs : List X) → All P (filter test xs) → All (λ x. test x ≡ true → P x) xs
+pub all_from_filter : {X : Type 0} (P : X → Type 0) (test : X → Bool) (xs : List X) → All P (filter test xs) → All (λ x. test x ≡ true → P x) xs
 all_from_filter P test [] h = All-nil (λ x. test x ≡ true → P x)
 all_from_filter P test (x ∷ xs) h = all_from_tested P test x xs (filter test xs) (test x) refl (all_from_filter P test xs) h
 

@@ -1,3 +1,6 @@
+pub mod Ahead
+pub mod Alike
+pub mod AnyOrder
 pub mod Counts
 pub mod Divided
 pub mod Greatest

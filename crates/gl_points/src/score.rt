@@ -1,6 +1,7 @@
 ghost use Rattle.std.specs.Prelude.{◌≡◌, ◌<◌, ◌≤◌, ◌+◌, ◌-◌, ◌*◌, ◌^◌, IsTrue, if◌then◌else◌};
 ghost use Rattle.gl_points.specs.Figures.{handicapped_distance, handicapped_speed};
-ghost use Rattle.gl_points.specs.Fraction.{IsAtMost, IsSame, ◌÷◌, ◌⊗◌, ◌⊘◌, rounded};
+ghost use Rattle.gl_points.specs.Fraction.{IsAtMost, IsNearest, IsSame, ◌÷◌, ◌⊗◌, ◌⊘◌, rounded};
+ghost use Rattle.gl_points.specs.Laws.{IsAheadOfShorter, IsAheadOfSlower, IsBelowFinishers, IsSameInAnyOrder};
 ghost use Rattle.gl_points.specs.Limits.{handicap_limit, performance_limit, point_limit, speed_product_limit};
 ghost use Rattle.gl_points.specs.Points.{IsPartOf, completion_factor, day_factor, exact_points, points_earned, points_of_finisher, points_of_outlanding, share_of_speed};
 ghost use Rattle.gl_points.specs.Worth.{worth};
@@ -181,6 +182,14 @@ pub fn score(day: &Day, performance: &Performance) -> u32
     requires { IsPartOf day.now performance.now }
     ensures points { result ≡ points_earned day.now performance.now }
     ensures at_most { result ≤ point_limit }
+    ensures nearest { IsTrue performance.now.launched → 1 ≤ day.now.far
+        → IsNearest (exact_points day.now performance.now) result }
+
+    // What follows is of all performances of the day.
+    ensures below_finishers { IsBelowFinishers day.now performance.now }
+    ensures ahead_of_slower { IsAheadOfSlower day.now performance.now }
+    ensures ahead_of_shorter { IsAheadOfShorter day.now performance.now }
+    ensures any_order { IsSameInAnyOrder day.now performance.now }
 {
     if !performance.launched || day.far == 0 {
         return 0;
