@@ -1,4 +1,5 @@
 pub mod Bounds
+pub mod Courses
 pub mod Farthest
 pub mod Finishing
 pub mod Fronts

@@ -2,6 +2,7 @@ pub mod Crossings
 pub mod Finishes
 pub mod Greatest
 pub mod JudgedFixes
+pub mod Marking
 pub mod Outcome
 pub mod Starts
 pub mod Stretch
