@@ -1,0 +1,12 @@
+pub mod Bounds
+pub mod Courses
+pub mod Farthest
+pub mod Finishing
+pub mod Fronts
+pub mod Lines
+pub mod Order
+pub mod Ranges
+pub mod Readiness
+pub mod Rings
+pub mod Routes
+pub mod Times

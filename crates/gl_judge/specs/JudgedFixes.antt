@@ -1,0 +1,33 @@
+-- Which fixes of a flight are judged.
+use Rattle.std.specs.Prelude.{◌≡◌, ℕ, ◌<◌, ◌≤◌, Bool, false, List, length, slice_get, Some, ℤ, pos, ◌≤ℤ◌}
+use Rattle.std.specs.List.{list_any}
+use Rattle.gl_igc.specs.declared.fix.Fix.{Fix}
+use Rattle.gl_airspace.specs.declared.volume.Volume.{Volume}
+use Rattle.gl_airspace.specs.Inside.{is_inside}
+
+-- a fix is inside a volume
+abbrev pub is_in_airspace : List Volume → Fix → Bool
+is_in_airspace volumes fix = list_any (λ volume. is_inside volume fix) volumes
+
+-- The fix of this number is judged: a fix up to it has second 0 or more; none up to it is later than
+-- the last second that counts; and none up to it is inside a volume, of those with second 0 or more.
+pub record IsJudgedFix (closes : ℤ) (volumes : List Volume) (fixes : List Fix) (i : ℕ)
+    : Type 0 where
+  pub there : i < length fixes
+  pub begun : (j : ℕ) × (fix : Fix) × (j ≤ i) × (slice_get fixes j ≡ Some fix)
+      × (pos 0 ≤ℤ fix.second)
+  pub in_time : (j : ℕ) (fix : Fix) → j ≤ i → slice_get fixes j ≡ Some fix → fix.second ≤ℤ closes
+  pub outside : (j : ℕ) (fix : Fix) → j ≤ i → slice_get fixes j ≡ Some fix → pos 0 ≤ℤ fix.second
+      → is_in_airspace volumes fix ≡ false
+
+-- a number stands in a range, from its first number up to but without its second
+abbrev pub IsInRange : ℕ × ℕ → ℕ → Type 0
+IsInRange range i = (range.0 ≤ i) × (i < range.1)
+
+-- the judged fixes are those in a range; where there is none, its two numbers are equal
+pub record IsJudgedRange (closes : ℤ) (volumes : List Volume) (fixes : List Fix) (range : ℕ × ℕ)
+    : Type 0 where
+  pub ordered : range.0 ≤ range.1
+  pub within : range.1 ≤ length fixes
+  pub each : (i : ℕ) → IsInRange range i → IsJudgedFix closes volumes fixes i
+  pub all : (i : ℕ) → IsJudgedFix closes volumes fixes i → IsInRange range i

@@ -1,0 +1,9 @@
+pub mod Crossings
+pub mod Finishes
+pub mod Greatest
+pub mod JudgedFixes
+pub mod Marking
+pub mod Outcome
+pub mod Starts
+pub mod Stretch
+pub mod Visits

@@ -1,0 +1,57 @@
+ghost use Rattle.std.specs.Prelude.{◌≡◌, position, int_le, int_lt, pos};
+ghost use Rattle.gl_judge.specs.JudgedFixes.{IsJudgedRange};
+ghost use Rattle.gl_judge.specs.Stretch.{range_of};
+
+use crate::stretch::Stretch;
+use gl_airspace::{Airspace, cut};
+use gl_igc::{Fix, Recording};
+use gl_task::Task;
+
+/// Whether a fix has second 0 or more.
+fn is_of_day(fix: &Fix) -> bool
+    ensures { result ≡ int_le (pos 0) fix.now.second }
+{
+    fix.second >= 0
+}
+
+/// Whether a fix is later than the last second that counts.
+fn is_too_late(fix: &Fix, closes: i32) -> bool
+    ensures { result ≡ int_lt closes fix.now.second }
+{
+    fix.second > closes
+}
+
+/// The number of the first fix with second 0 or more.
+fn first_of_day(fixes: &[Fix]) -> Option<usize>
+    ensures { result ≡ position (λ fix. int_le (pos 0) fix.second) fixes.now }
+{
+    fixes.iter().position(|fix| is_of_day(fix))
+}
+
+/// The number of the first fix that is too late.
+fn first_too_late(fixes: &[Fix], closes: i32) -> Option<usize>
+    ensures { result ≡ position (λ fix. int_lt closes fix.second) fixes.now }
+{
+    fixes.iter().position(|fix| is_too_late(fix, closes))
+}
+
+/// The judged fixes of a flight.
+pub(crate) fn judged_fixes(task: &Task, air: &Airspace, rec: &Recording) -> Stretch
+    ensures { IsJudgedRange task.now.closes air.now.volumes rec.now.fixes (range_of result) }
+{
+    let fixes = rec.fixes.as_slice();
+    let from = first_of_day(fixes).unwrap_or(fixes.len());
+    let end = first_too_late(fixes, task.closes).unwrap_or(fixes.len());
+    let to = from + cut(air, &fixes[from..end.max(from)]);
+    Stretch { from, to }
+}
+
+/// The judged fixes of a flight, from the first number up to but without the second. They begin at
+/// the first fix with second 0 or more, and end before the first fix after the task's last second
+/// or inside a volume, whichever comes first. Both numbers are equal where no fix is judged.
+pub fn judged_range(task: &Task, air: &Airspace, rec: &Recording) -> (u32, u32)
+    ensures { IsJudgedRange task.now.closes air.now.volumes rec.now.fixes result }
+{
+    let judged = judged_fixes(task, air, rec);
+    (judged.from as u32, judged.to as u32)
+}

@@ -1,0 +1,19 @@
+//! How a flight is judged by its task: which of its fixes count, where it started, which zones it
+//! visited, whether it finished or landed out; and which distance and time count of it.
+#![tactic(auto)]
+
+mod crossings;
+mod finishes;
+mod judged_fixes;
+mod judging;
+mod marking;
+mod outcome;
+mod passing;
+mod starts;
+mod stretch;
+mod visits;
+
+pub use judged_fixes::judged_range;
+pub use judging::judge;
+pub use marking::mark;
+pub use outcome::{Judged, Window};

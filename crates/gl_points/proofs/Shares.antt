@@ -1,0 +1,13 @@
+-- The share of a speed where somebody flew.
+use Rattle.std.proofs.Common.{◌≡◌, ap, false, ◌==◌, cond, arith}
+use Rattle.std.proofs.lemmas.Bool.Decides.{nat_tests}
+use Rattle.gl_points.specs.declared.performance.Performance.{Performance}
+use Rattle.gl_points.specs.declared.summary.Day.{Day}
+use Rattle.gl_points.specs.Figures.{handicapped_speed}
+use Rattle.gl_points.specs.Fraction.{◌÷◌, ◌⊗◌, ◌⊘◌, ◌⊖◌, whole}
+use Rattle.gl_points.specs.Points.{share_of_speed}
+use Rattle.gl_points.specs.Worth.{worth}
+
+pub share_of_speed-some : (day : Day) (p : Performance) → (day.speed.num ≡ 0 → ⊥) → share_of_speed day p ≡ (handicapped_speed day.handicap p ⊖ (2 ÷ 3) ⊗ worth day.speed) ⊘ ((1 ÷ 3) ⊗ worth day.speed)
+unfolding share_of_speed
+share_of_speed-some day p some = let no : (day.speed.num == 0) ≡ false = grind (arith, nat_tests) in ap (λ b. cond b (whole 0) ((handicapped_speed day.handicap p ⊖ (2 ÷ 3) ⊗ worth day.speed) ⊘ ((1 ÷ 3) ⊗ worth day.speed))) no

@@ -1,0 +1,7 @@
+pub mod Day
+pub mod Figures
+pub mod Fraction
+pub mod Laws
+pub mod Limits
+pub mod Points
+pub mod Worth

@@ -1,0 +1,16 @@
+//! Points of a day: what the performances of a day give together, and the points that each of them
+//! earns. All of it is whole-number arithmetic on exact fractions.
+#![tactic(auto)]
+
+mod figures;
+mod frac;
+mod most;
+mod passes;
+mod performance;
+mod score;
+mod summary;
+
+pub use figures::day;
+pub use frac::Frac;
+pub use performance::Performance;
+pub use summary::Day;
