@@ -1,4 +1,5 @@
 pub mod Claim
+pub mod Fronts
 pub mod Kept
 pub mod Line
 pub mod Number

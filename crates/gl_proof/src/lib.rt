@@ -3,6 +3,7 @@
 #![tactic(auto)]
 
 mod claim;
+mod front;
 mod proof;
 mod write;
 
