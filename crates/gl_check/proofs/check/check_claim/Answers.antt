@@ -1,0 +1,17 @@
+use Rattle.std.proofs.lemmas.Result.{IfOk-weaker}
+use Rattle.std.proofs.Common.{map}
+use Rattle.gl_box.specs.Closed.{box_of}
+use Rattle.gl_goal.specs.Laws.Optimum.{certificate_optimum}
+use Rattle.gl_check.proofs.Judged.{yes_exactly}
+use Rattle.gl_check.proofs.check.check_claim.Goals as goal
+
+pub returns-clause-yes : goal.returns-clause-yes
+returns-clause-yes g c =
+    let claim = c.args.claim.now in
+    IfOk-weaker c.verdict_of.result _ _ (λ verdict said. yes_exactly (g.G.Goal.rule c.args.goal.now) claim.total claim.fixes.items (map box_of claim.cells.items) verdict said) c.verdict_of.ensures
+
+pub returns-clause-optimum : goal.returns-clause-optimum
+returns-clause-optimum g c =
+    let claim = c.args.claim.now in
+    let rule = g.G.Goal.rule c.args.goal.now in
+    IfOk-weaker c.verdict_of.result _ _ (λ verdict said yes. certificate_optimum rule claim.total claim.fixes.items (map box_of claim.cells.items) (g.met.G.Goal.laws c.args.goal.now) ((yes_exactly rule claim.total claim.fixes.items (map box_of claim.cells.items) verdict said).0 yes)) c.verdict_of.ensures

@@ -1,0 +1,10 @@
+pub mod Checked
+pub mod Verdict
+pub mod Walk
+pub use Rattle.gl_box.specs.Cell
+pub use Rattle.gl_box.specs.Closed
+pub use Rattle.gl_box.specs.Frontier
+pub use Rattle.gl_box.specs.Tuple
+pub use Rattle.gl_goal.specs.Certificate
+pub use Rattle.gl_goal.specs.Rule
+pub use Rattle.gl_proof.specs.Claim

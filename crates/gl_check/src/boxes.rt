@@ -1,0 +1,100 @@
+ghost use Rattle.std.specs.Prelude.{◌≡◌, ◌↔◌, ℕ, List, [], map, IfOk, IsTrue};
+ghost use Rattle.gl_box.specs.Cell.{Covers, spans_of};
+ghost use Rattle.gl_box.specs.Closed.{box_of};
+ghost use Rattle.gl_goal.specs.Rule.{whole_cell};
+ghost use Rattle.gl_goal.specs.Certificate.{IsClaimed, IsClosedFor};
+ghost use Rattle.gl_check.specs.Verdict.{IsVerdict, Tells};
+ghost use Rattle.gl_check.specs.Walk.{IsWalked, open_cells};
+
+use crate::verdict::Verdict;
+use crate::walk::{go_down, whole};
+use gl_box::{Cell, Closed, Why};
+use gl_goal::{Goal, Leg};
+use std::alloc::{AllocError, Global};
+
+/// Room for open cells: each cut adds one, and a cell can be cut at most 32 times on each axis.
+const OPEN_ROOM: usize = 512;
+
+/// Room for measured legs; a power of two, so that all of it serves.
+const LEG_ROOM: usize = 4_096;
+
+/// The number of the box at a place, as it is told.
+fn number_of(place: usize) -> u32
+    ensures { Tells result place }
+{
+    place.saturating_add(1).min(u32::MAX as usize) as u32
+}
+
+/// Whether a box is closed for the total by its reason.
+fn is_closed<G: Goal>(goal: &G, total: Option<u64>, closed: &Closed, legs: &mut [Leg]) -> bool
+    requires covers { Covers (whole_cell (G.rule goal.now).axes) (spans_of closed.now.cell) }
+    requires legs { G.are_legs goal.now legs.old }
+    ensures closed { IsTrue result
+        ↔ IsClosedFor (G.rule goal.now) total (spans_of closed.now.cell) closed.now.why }
+    ensures legs { G.are_legs goal.now legs.new }
+{
+    match closed.why {
+        Why::Disordered => goal.disordered(&closed.cell),
+        Why::Shut => goal.shut(&closed.cell),
+        Why::Bound => match total {
+            None => false,
+            Some(total) => goal.bound_by(&closed.cell, legs) <= total,
+        },
+    }
+}
+
+/// Room for the legs that a check measures.
+fn measured_legs<G: Goal>(alloc: Global, goal: &G) -> Result<Vec<Leg>, AllocError>
+    ensures { IfOk result (λ legs. G.are_legs goal.now legs.items) }
+{
+    vec![in alloc; goal.leg(); LEG_ROOM]
+}
+
+/// What is said of boxes, one after the other. The only error is want of memory.
+fn walk_boxes<G: Goal>(
+    goal: &G,
+    total: Option<u64>,
+    cells: &[Closed],
+    opened: &mut Vec<Cell>,
+    legs: &mut [Leg],
+) -> Result<Verdict, AllocError>
+    requires walked { IsWalked (whole_cell (G.rule goal.now).axes) [] (open_cells opened.old.items) }
+    requires legs { G.are_legs goal.now legs.old }
+    ensures { IfOk result (λ verdict. (fixes : List ℕ)
+        → IsClaimed (G.rule goal.now) total fixes
+        → IsVerdict (G.rule goal.now) total fixes (map box_of cells.now) verdict) }
+{
+    for (place, closed) in cells.iter().enumerate() {
+        if opened.is_empty() {
+            return Ok(Verdict::Extra(number_of(place)));
+        }
+        if !go_down(opened, &closed.cell)? {
+            return Ok(Verdict::Place(number_of(place)));
+        }
+        if !is_closed(goal, total, closed, legs) {
+            return Ok(Verdict::Cell(number_of(place)));
+        }
+    }
+    if opened.is_empty() {
+        return Ok(Verdict::Yes);
+    }
+    Ok(Verdict::Open)
+}
+
+/// What is said of the boxes of a claim whose fixes reach its total. The only error is want of
+/// memory.
+pub fn check_boxes<G: Goal>(
+    alloc: Global,
+    goal: &G,
+    total: Option<u64>,
+    cells: &[Closed],
+) -> Result<Verdict, AllocError>
+    ensures { IfOk result (λ verdict. (fixes : List ℕ)
+        → IsClaimed (G.rule goal.now) total fixes
+        → IsVerdict (G.rule goal.now) total fixes (map box_of cells.now) verdict) }
+{
+    let mut legs = measured_legs(alloc, goal)?;
+    let mut opened = Vec::with_capacity(alloc, OPEN_ROOM)?;
+    opened.push(whole(goal))?;
+    walk_boxes(goal, total, cells, &mut opened, legs.as_mut_slice())
+}

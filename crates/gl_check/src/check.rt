@@ -1,0 +1,35 @@
+ghost use Rattle.std.specs.Prelude.{◌≡◌, ◌↔◌, IfOk};
+ghost use Rattle.gl_goal.specs.Rule.{IsOptimum};
+ghost use Rattle.gl_check.specs.Checked.{IsCertified, IsCheckedAs};
+ghost use Rattle.gl_check.specs.declared.verdict.Verdict.TheVariants.{Yes};
+
+use crate::boxes::check_boxes;
+use crate::choice::fault_of_choice;
+use crate::verdict::Verdict;
+use gl_goal::Goal;
+use gl_proof::Claim;
+use std::alloc::{AllocError, Global};
+
+/// What is said of a claim. The only error is want of memory.
+fn verdict_of<G: Goal>(alloc: Global, goal: &G, claim: &Claim) -> Result<Verdict, AllocError>
+    ensures { IfOk result (IsCheckedAs (G.rule goal.now) claim.now) }
+{
+    if let Some(verdict) = fault_of_choice(goal, claim.total, claim.fixes.as_slice()) {
+        return Ok(verdict);
+    }
+    check_boxes(alloc, goal, claim.total, claim.cells.as_slice())
+}
+
+/// Checks a claim against a goal: `Yes` exactly where its boxes certify its total and its fixes, and
+/// else the first thing that is wrong, in the order of [`Verdict`] and then of the boxes. Nothing is
+/// taken on trust of whoever made the claim. Where the answer is `Yes`, the total is the optimum of
+/// the goal. The only error is want of memory.
+pub fn check_claim<G: Goal>(alloc: Global, goal: &G, claim: &Claim) -> Result<Verdict, AllocError>
+    ensures verdict { IfOk result (IsCheckedAs (G.rule goal.now) claim.now) }
+    ensures yes { IfOk result (λ verdict.
+        (verdict ≡ Yes) ↔ IsCertified (G.rule goal.now) claim.now) }
+    ensures optimum { IfOk result (λ verdict.
+        verdict ≡ Yes → IsOptimum (G.rule goal.now) claim.now.total) }
+{
+    verdict_of(alloc, goal, claim)
+}

@@ -1,0 +1,125 @@
+-- A line of a proof, and how it is spelled.
+use Rattle.std.specs.Prelude.{ℕ, ◌^◌, ◌<◌, ◌≤◌, Bool, true, false, ◌||◌, IsTrue, List, [], ◌∷◌, ◌++◌, length, map, Option, None, Some, IfSome, codes, All}
+use Rattle.std.specs.Fmt.{decimal}
+use Rattle.std.specs.List.{flat_map}
+use Rattle.gl_box.specs.declared.closed.Why.{Why}
+use Rattle.gl_box.specs.declared.closed.Why.TheVariants.{Disordered, Shut, Bound}
+use Rattle.gl_proof.specs.declared.claim.ClaimKind.{ClaimKind}
+use Rattle.gl_proof.specs.declared.claim.ClaimKind.TheVariants.{Area, Out, Free, Triangle}
+use Rattle.gl_proof.specs.Number.{is_number}
+
+-- What a line says: that the text is a proof; whose claim follows, of which kind and of which total;
+-- the numbers of its fixes; a box, by which reason it is closed and its spans; that the proof ends.
+pub data Line : Type 0 where
+  HeadingLine : Line
+  ClaimLine : List ℕ → ClaimKind → Option ℕ → Line
+  FixLine : List ℕ → Line
+  BoxLine : Why → List (ℕ × ℕ) → Line
+  EndLine : Line
+
+abbrev pub kind_word : ClaimKind → List ℕ
+kind_word Area = codes "AREA"
+kind_word Out = codes "OUT"
+kind_word Free = codes "FREE"
+kind_word Triangle = codes "TRIANGLE"
+
+abbrev pub total_word : Option ℕ → List ℕ
+total_word None = codes "NONE"
+total_word (Some total) = decimal total
+
+abbrev pub reason_word : Why → List ℕ
+reason_word Disordered = codes "D"
+reason_word Shut = codes "S"
+reason_word Bound = codes "B"
+
+-- the ends of a span with a hyphen, the byte 45, between them
+abbrev pub span_word : ℕ × ℕ → List ℕ
+span_word span = decimal span.0 ++ 45 ∷ decimal span.1
+
+-- words, each behind a space, the byte 32
+abbrev pub spaced : List (List ℕ) → List ℕ
+spaced words = flat_map (λ word. 32 ∷ word) words
+
+-- the heading of a proof; it tells the version of the format
+abbrev pub heading : List ℕ
+heading = codes "GLIDEPROOF 1"
+
+abbrev pub line_text : Line → List ℕ
+line_text HeadingLine = heading
+line_text (ClaimLine number kind total) =
+    codes "CLAIM" ++ spaced (number ∷ kind_word kind ∷ total_word total ∷ [])
+line_text (FixLine fixes) = codes "FIX" ++ spaced (map decimal fixes)
+line_text (BoxLine why spans) = codes "BOX" ++ spaced (reason_word why ∷ map span_word spans)
+line_text EndLine = codes "END"
+
+-- a line with the LF, the byte 10, that ends it
+abbrev pub ended : Line → List ℕ
+ended line = line_text line ++ 10 ∷ []
+
+-- a span of places: from its low end to its high end, numbers of 32 bits
+abbrev pub IsSpan : ℕ × ℕ → Type 0
+IsSpan span = (span.0 ≤ span.1) × (span.1 < 2 ^ 32)
+
+-- the spans of a box: one for each of 1 to 10 axes
+pub record AreSpans (spans : List (ℕ × ℕ)) : Type 0 where
+  pub some : 1 ≤ length spans
+  pub most : length spans ≤ 10
+  pub each : All IsSpan spans
+
+-- the numbers of the fixes of a claim with a total: 1 to 10, each of 32 bits
+pub record AreFixes (fixes : List ℕ) : Type 0 where
+  pub some : 1 ≤ length fixes
+  pub most : length fixes ≤ 10
+  pub each : All (λ fix. fix < 2 ^ 32) fixes
+
+-- what can stand in a line
+abbrev pub IsLine : Line → Type 0
+IsLine HeadingLine = Unit {0}
+IsLine (ClaimLine number kind total) =
+    IsTrue (is_number number) × IfSome total (λ greatest. greatest < 2 ^ 64)
+IsLine (FixLine fixes) = AreFixes fixes
+IsLine (BoxLine why spans) = AreSpans spans
+IsLine EndLine = Unit {0}
+
+abbrev pub begins_claim : Line → Bool
+begins_claim HeadingLine = false
+begins_claim (ClaimLine number kind total) = true
+begins_claim (FixLine fixes) = false
+begins_claim (BoxLine why spans) = false
+begins_claim EndLine = false
+
+abbrev pub names_fixes : Line → Bool
+names_fixes HeadingLine = false
+names_fixes (ClaimLine number kind total) = false
+names_fixes (FixLine fixes) = true
+names_fixes (BoxLine why spans) = false
+names_fixes EndLine = false
+
+abbrev pub closes_box : Line → Bool
+closes_box HeadingLine = false
+closes_box (ClaimLine number kind total) = false
+closes_box (FixLine fixes) = false
+closes_box (BoxLine why spans) = true
+closes_box EndLine = false
+
+abbrev pub ends_proof : Line → Bool
+ends_proof HeadingLine = false
+ends_proof (ClaimLine number kind total) = false
+ends_proof (FixLine fixes) = false
+ends_proof (BoxLine why spans) = false
+ends_proof EndLine = true
+
+-- a line with which a claim ends, or another box of it
+abbrev pub goes_on : Line → Bool
+goes_on next = closes_box next || (begins_claim next || ends_proof next)
+
+-- Whether a line may stand right behind another one: behind the heading a claim or the end; behind
+-- the line of a claim with a total its fixes, and behind each other line of a claim a box, the next
+-- claim or the end; nothing behind the end.
+abbrev pub may_follow : Line → Line → Bool
+may_follow HeadingLine next = begins_claim next || ends_proof next
+may_follow (ClaimLine number kind None) next = goes_on next
+may_follow (ClaimLine number kind (Some total)) next = names_fixes next
+may_follow (FixLine fixes) next = goes_on next
+may_follow (BoxLine why spans) next = goes_on next
+may_follow EndLine next = false

@@ -1,0 +1,78 @@
+ghost use Rattle.std.specs.Prelude.{◌≡◌, ◌≢◌, ◌^◌, ◌++◌, ◌≤◌, ℕ, List, length, take_while, MatchOption};
+ghost use Rattle.std.specs.Char.{is_ascii_alphanumeric, is_ascii_digit};
+ghost use Rattle.gl_box.specs.Cell.{ends};
+ghost use Rattle.gl_proof.specs.Fronts.{IsEntrantAt, IsNumberAt, IsSpanAt, Reads};
+
+use gl_box::Span;
+use gl_text::read_u64;
+
+/// What follows a front of a text, where the text has that front.
+#[inline]
+pub fn behind<'a>(text: &'a [u8], front: &[u8]) -> Option<&'a [u8]>
+    ensures { MatchOption result ((rest : List ℕ) → text.now ≢ front.now ++ rest)
+        (λ rest. text.now ≡ front.now ++ rest.now) }
+{
+    text.strip_prefix(front)
+}
+
+/// How many digits stand at the front of a text.
+fn count_digits(text: &[u8]) -> usize
+    ensures value { result ≡ length (take_while is_ascii_digit text.now) }
+    ensures within { result ≤ length text.now }
+{
+    text.iter().take_while(|byte| byte.is_ascii_digit()).count()
+}
+
+/// How many letters and digits stand at the front of a text.
+fn count_alphanumerics(text: &[u8]) -> usize
+    ensures value { result ≡ length (take_while is_ascii_alphanumeric text.now) }
+    ensures within { result ≤ length text.now }
+{
+    text.iter()
+        .take_while(|byte| byte.is_ascii_alphanumeric())
+        .count()
+}
+
+/// The number at the front of a text, with all the digits there, and what follows it.
+pub fn number_at(text: &[u8]) -> Option<(u64, &[u8])>
+    ensures { Reads (λ number. number) (IsNumberAt (2 ^ 64) text.now) result }
+{
+    let (digits, rest) = text.split_at(count_digits(text));
+    let number = read_u64(digits)?;
+    Some((number, rest))
+}
+
+/// The number of 32 bits at the front of a text, with all the digits there, and what follows it.
+pub fn short_number_at(text: &[u8]) -> Option<(u32, &[u8])>
+    ensures { Reads (λ number. number) (IsNumberAt (2 ^ 32) text.now) result }
+{
+    let (number, rest) = number_at(text)?;
+    if number > u64::from(u32::MAX) {
+        return None;
+    }
+    Some((number as u32, rest))
+}
+
+/// The span at the front of a text, and what follows it.
+pub fn span_at(text: &[u8]) -> Option<(Span, &[u8])>
+    ensures { Reads ends (IsSpanAt text.now) result }
+{
+    let (lo, rest) = short_number_at(text)?;
+    let (hi, rest) = short_number_at(behind(rest, b"-")?)?;
+    if lo > hi {
+        return None;
+    }
+    Some((Span { lo, hi }, rest))
+}
+
+/// The number of an entrant at the front of a text with a space behind it, and what follows that.
+pub fn entrant_at(text: &[u8]) -> Option<(&[u8], &[u8])>
+    ensures { Reads (λ number. number.now) (IsEntrantAt text.now) result }
+{
+    let count = count_alphanumerics(text);
+    if count < 1 || count > 8 {
+        return None;
+    }
+    let (number, rest) = text.split_at(count);
+    Some((number, behind(rest, b" ")?))
+}

@@ -1,0 +1,12 @@
+//! Proofs as text: what is claimed of flights, with the boxes that show that no choice is longer.
+//! A proof has one spelling; docs/proof-file.md explains it line by line.
+#![tactic(auto)]
+
+mod claim;
+mod front;
+mod proof;
+mod write;
+
+pub use claim::{Claim, ClaimKind};
+pub use proof::Proof;
+pub use write::write_claim;

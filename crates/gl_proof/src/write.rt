@@ -1,0 +1,186 @@
+ghost use Rattle.std.specs.Prelude.{◌≡◌, ℕ, List, [], ◌∷◌, ◌++◌, map, OnOk, OnErr};
+ghost use Rattle.std.specs.Fmt.{decimal};
+ghost use Rattle.std.specs.List.{flat_map};
+ghost use Rattle.gl_box.specs.Cell.{ends, spans_of};
+ghost use Rattle.gl_box.specs.Closed.{box_of};
+ghost use Rattle.gl_proof.specs.Claim.{IsWritable, box_line, claim_text, fix_lines, spelled, statement_of};
+ghost use Rattle.gl_proof.specs.Kept.{Keeps};
+ghost use Rattle.gl_proof.specs.Line.{BoxLine, ClaimLine, FixLine, ended, kind_word, reason_word, span_word, spaced, total_word};
+
+use crate::claim::{Claim, ClaimKind};
+use gl_box::{Closed, Span, Why};
+use gl_text::push_u64;
+use std::alloc::AllocError;
+
+/// The word of a kind of claim.
+fn kind_word(kind: ClaimKind) -> &'static [u8]
+    ensures { result.now ≡ kind_word kind }
+{
+    match kind {
+        ClaimKind::Area => b"AREA",
+        ClaimKind::Out => b"OUT",
+        ClaimKind::Free => b"FREE",
+        ClaimKind::Triangle => b"TRIANGLE",
+    }
+}
+
+/// The word of a reason.
+fn reason_word(why: Why) -> &'static [u8]
+    ensures { result.now ≡ reason_word why }
+{
+    match why {
+        Why::Disordered => b"D",
+        Why::Shut => b"S",
+        Why::Bound => b"B",
+    }
+}
+
+/// Appends a byte and a word behind it.
+fn push_word(out: &mut Vec<u8>, before: u8, word: &[u8]) -> Result<(), AllocError>
+    ensures ok { OnOk result (out.new.items ≡ out.old.items ++ before ∷ word.now) }
+    ensures err { OnErr result (Keeps out.old.items out.new.items) }
+{
+    out.push(before)?;
+    out.extend_from_slice(word)
+}
+
+/// Appends a byte and the digits of a number behind it.
+fn push_number(out: &mut Vec<u8>, before: u8, number: u64) -> Result<(), AllocError>
+    ensures ok { OnOk result (out.new.items ≡ out.old.items ++ before ∷ decimal number) }
+    ensures err { OnErr result (Keeps out.old.items out.new.items) }
+{
+    out.push(before)?;
+    push_u64(out, number)
+}
+
+/// Appends the spans of a box, each behind a space.
+fn push_spans(out: &mut Vec<u8>, spans: &[Span]) -> Result<(), AllocError>
+    ensures ok { OnOk result
+        (out.new.items ≡ out.old.items ++ spaced (map span_word (map ends spans.now))) }
+    ensures err { OnErr result (Keeps out.old.items out.new.items) }
+{
+    for span in spans {
+        push_number(out, b' ', span.lo.into())?;
+        push_number(out, b'-', span.hi.into())?;
+    }
+    Ok(())
+}
+
+/// Appends the numbers of fixes, each behind a space.
+fn push_fixes(out: &mut Vec<u8>, fixes: &[u32]) -> Result<(), AllocError>
+    ensures ok { OnOk result (out.new.items ≡ out.old.items ++ spaced (map decimal fixes.now)) }
+    ensures err { OnErr result (Keeps out.old.items out.new.items) }
+{
+    for &fix in fixes {
+        push_number(out, b' ', fix.into())?;
+    }
+    Ok(())
+}
+
+/// Appends the line of a box.
+fn push_box_line(out: &mut Vec<u8>, closed: &Closed) -> Result<(), AllocError>
+    ensures ok { OnOk result (out.new.items
+        ≡ out.old.items ++ ended (BoxLine closed.now.why (spans_of closed.now.cell))) }
+    ensures err { OnErr result (Keeps out.old.items out.new.items) }
+{
+    out.extend_from_slice(b"BOX")?;
+    push_word(out, b' ', reason_word(closed.why))?;
+    push_spans(out, &closed.cell.spans[..closed.cell.axes as usize])?;
+    out.push(b'\n')?;
+    Ok(())
+}
+
+/// Appends the line of the fixes.
+fn push_fix_line(out: &mut Vec<u8>, fixes: &[u32]) -> Result<(), AllocError>
+    ensures ok { OnOk result (out.new.items ≡ out.old.items ++ ended (FixLine fixes.now)) }
+    ensures err { OnErr result (Keeps out.old.items out.new.items) }
+{
+    out.extend_from_slice(b"FIX")?;
+    push_fixes(out, fixes)?;
+    out.push(b'\n')?;
+    Ok(())
+}
+
+/// Appends a total behind a space.
+fn push_total(out: &mut Vec<u8>, total: Option<u64>) -> Result<(), AllocError>
+    ensures ok { OnOk result (out.new.items ≡ out.old.items ++ 32 ∷ total_word total) }
+    ensures err { OnErr result (Keeps out.old.items out.new.items) }
+{
+    match total {
+        None => push_word(out, b' ', b"NONE"),
+        Some(total) => push_number(out, b' ', total),
+    }
+}
+
+/// Appends the line with which a claim begins.
+fn push_claim_line(
+    out: &mut Vec<u8>,
+    number: &[u8],
+    kind: ClaimKind,
+    total: Option<u64>,
+) -> Result<(), AllocError>
+    ensures ok { OnOk result
+        (out.new.items ≡ out.old.items ++ ended (ClaimLine number.now kind total)) }
+    ensures err { OnErr result (Keeps out.old.items out.new.items) }
+{
+    out.extend_from_slice(b"CLAIM")?;
+    push_word(out, b' ', number)?;
+    push_word(out, b' ', kind_word(kind))?;
+    push_total(out, total)?;
+    out.push(b'\n')?;
+    Ok(())
+}
+
+/// Appends the lines of boxes.
+fn push_boxes(out: &mut Vec<u8>, cells: &[Closed]) -> Result<(), AllocError>
+    ensures ok { OnOk result (out.new.items
+        ≡ out.old.items ++ spelled (map box_line (map box_of cells.now))) }
+    ensures err { OnErr result (Keeps out.old.items out.new.items) }
+{
+    for closed in cells {
+        push_box_line(out, closed)?;
+    }
+    Ok(())
+}
+
+/// Appends the lines of a claim's total and fixes.
+fn push_front(out: &mut Vec<u8>, claim: &Claim) -> Result<(), AllocError>
+    ensures ok { OnOk result (out.new.items
+        ≡ out.old.items
+        ++ spelled (ClaimLine claim.now.number claim.now.kind claim.now.total
+        ∷ fix_lines claim.now.total claim.now.fixes.items)) }
+    ensures err { OnErr result (Keeps out.old.items out.new.items) }
+{
+    let number = claim.number.as_str().as_bytes();
+    push_claim_line(out, number, claim.kind, claim.total)?;
+    match claim.total {
+        None => Ok(()),
+        Some(_) => push_fix_line(out, claim.fixes.as_slice()),
+    }
+}
+
+/// Appends the lines of a claim.
+fn push_claim(out: &mut Vec<u8>, claim: &Claim) -> Result<(), AllocError>
+    ensures ok { OnOk result
+        (out.new.items ≡ out.old.items ++ claim_text (statement_of claim.now)) }
+    ensures err { OnErr result (Keeps out.old.items out.new.items) }
+{
+    push_front(out, claim)?;
+    push_boxes(out, claim.cells.as_slice())
+}
+
+/// Appends just the lines of a claim, as docs/proof-file.md has them. The only error is want of
+/// memory, and `out` is then as before.
+pub fn write_claim(out: &mut Vec<u8>, claim: &Claim) -> Result<(), AllocError>
+    requires { IsWritable claim.now }
+    ensures ok { OnOk result
+        (out.new.items ≡ out.old.items ++ claim_text (statement_of claim.now)) }
+    ensures err { OnErr result (out.new.items ≡ out.old.items) }
+{
+    let length = out.len();
+    let written = push_claim(out, claim);
+    if written.is_err() {
+        out.truncate(length);
+    }
+    written
+}
