@@ -1,3 +1,5 @@
+pub mod Choices
+pub mod Claims
 pub mod Crossings
 pub mod Finishes
 pub mod Greatest

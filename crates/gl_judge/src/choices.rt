@@ -1,0 +1,22 @@
+ghost use Rattle.std.specs.Prelude.{◌≡◌, ◌≤◌, ◌<◌, ℕ, [], ◌∷◌, length, map, take, IfOk};
+ghost use Rattle.gl_goal.specs.AnyGoal.{any_rule};
+ghost use Rattle.gl_goal.specs.Chain.{legs};
+ghost use Rattle.gl_goal.specs.AreaGoal.{area_rule};
+ghost use Rattle.gl_goal.specs.OutGoal.{out_rule};
+ghost use Rattle.gl_goal.specs.Rule.{IsLegal};
+ghost use Rattle.gl_judge.specs.Choices.{IsOutChoice, area_choice, areas_choice, course_point, numbers_before, numbers_in_zone, racing_choice, zone_lists};
+ghost use Rattle.gl_judge.specs.Greatest.{IsLeast};
+ghost use Rattle.gl_judge.specs.Marking.{course_of};
+ghost use Rattle.gl_judge.specs.Outcome.{IsFinished, IsOutlanded};
+ghost use Rattle.gl_judge.specs.Stretch.{range_of};
+ghost use Rattle.gl_judge.specs.Visits.{HasVisit};
+
+use crate::course::{course_point, finish_point, legs_to, ring_radius};
+use crate::outcome::Window;
+use crate::stretch::Stretch;
+use crate::visits::{is_in_zone, visit_zones};
+use gl_goal::{AreaGoal, OutGoal};
+use gl_igc::{Fix, Recording};
+use gl_task::{Finish, Task};
+use gl_zone::Zone;
+use std::alloc::{AllocError, Global};
