@@ -6,4 +6,4 @@ pub mod Seen
 pub mod Tuples
 mod Courses
 mod FreeSeen
-mod Listed
+pub mod Listed

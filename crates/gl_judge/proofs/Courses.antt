@@ -1,5 +1,7 @@
 -- The legs that are left of a course.
-use Rattle.std.proofs.Common.{◌≡◌, ◌∙◌, sym, ap, ℕ, suc, ◌+◌, ◌<◌, ◌≤◌, List, [], ◌∷◌, ◌++◌, map, drop, length, get_or, arith}
+use Rattle.std.proofs.Common.{◌≡◌, ◌∙◌, sym, ap, ℕ, zero, suc, ◌+◌, ◌*◌, ◌^◌, ◌<◌, ◌≤◌, List, [], ◌∷◌, ◌++◌, map, drop, take, length, get_or, Some, slice_get, add-one, arith}
+use Rattle.std.proofs.lemmas.List.{length-take}
+use Rattle.gl_goal.specs.Laws.Chain.{legs-limited}
 use Rattle.std.proofs.Math.ListN.{drop_of_length-le}
 use Rattle.std.proofs.Math.Seq.{drop-cons}
 use Rattle.gl_sphere.specs.declared.place.Vec3.{Vec3}
@@ -26,3 +28,16 @@ last_leg last finish zones k past =
   where
     no_more : distance last finish + 0 ≡ distance last finish
     no_more = omega arith
+
+-- the point of a course behind so many zones
+pub centre-at : (zones : List Zone) (finish : Vec3) (k : ℕ) (zone : Zone) → k < length zones → zone ≡ get_or zones k zone → slice_get (map (λ z. z.centre) zones ++ finish ∷ []) k ≡ Some zone.centre
+centre-at [] finish k zone below is = absurd (omega arith)
+centre-at (z ∷ zones) finish zero zone below is = ap (λ (some : Zone). Some some.centre) (sym is)
+centre-at (z ∷ zones) finish (suc k) zone below is = centre-at zones finish k zone (omega arith) is
+
+-- the legs from the start to a point of the course
+pub legs-before : (start : Vec3) (points : List Vec3) (count : ℕ) → legs (start ∷ take count points) ≡ legs (take (count + 1) (start ∷ points))
+legs-before start points count = ap (λ (n : ℕ). legs (take n (start ∷ points))) (sym (add-one count))
+
+pub legs-short : (start : Vec3) (points : List Vec3) (count : ℕ) → count ≤ 8 → legs (start ∷ take count points) < 2 ^ 40
+legs-short start points count eight = omega (arith, legs-limited (start ∷ take count points), length-take count points)

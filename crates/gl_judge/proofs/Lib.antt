@@ -4,9 +4,11 @@ pub mod Farthest
 pub mod Finishing
 pub mod Fronts
 pub mod Lines
+pub mod Numbers
 pub mod Order
 pub mod Ranges
 pub mod Readiness
 pub mod Rings
 pub mod Routes
 pub mod Times
+pub mod Tours

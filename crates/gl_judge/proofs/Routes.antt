@@ -17,7 +17,7 @@ last-earlier : (from earlier : ℕ) (visit : List ℕ) → earlier ≤ from → 
 last-earlier from earlier [] le = le
 last-earlier from earlier (z ∷ zs) le = omega arith
 
-last-after : (fixes : List Fix) (judged : ℕ × ℕ) (zones : List Zone) (from : ℕ) (visit : List ℕ) → IsVisit fixes judged zones from visit → from ≤ last_of from visit
+pub last-after : (fixes : List Fix) (judged : ℕ × ℕ) (zones : List Zone) (from : ℕ) (visit : List ℕ) → IsVisit fixes judged zones from visit → from ≤ last_of from visit
 last-after fixes judged [] from [] v = omega arith
 last-after fixes judged [] from (z ∷ zs) v = absurd v
 last-after fixes judged (zone ∷ zones) from [] v = absurd v

@@ -1,4 +1,5 @@
 pub mod Choices
+pub mod Claimed
 pub mod Claims
 pub mod Crossings
 pub mod Finishes

@@ -1,5 +1,5 @@
 -- How a flight is judged.
-use Rattle.std.specs.Prelude.{◌≡◌, ℕ, ◌+◌, ℤ, pos, ◌-ℤ◌}
+use Rattle.std.specs.Prelude.{◌≡◌, ℕ, ◌+◌, ◌≤◌, length, ℤ, pos, ◌-ℤ◌}
 use Rattle.gl_airspace.specs.declared.volume.Airspace.{Airspace}
 use Rattle.gl_igc.specs.declared.recording.Recording.{Recording}
 use Rattle.gl_task.specs.declared.task.Task.{Task}
@@ -33,6 +33,13 @@ pub record IsFinished (task : Task) (recording : Recording) (judged : ℕ × ℕ
   pub time : ℤ
   pub finish : Finishes task.finish recording.fixes judged task.zones window.first window.last time
   pub flown : pos seconds ≡ time -ℤ window.start
+
+-- a flight finished with this window
+pub record HasFinished (task : Task) (recording : Recording) (window : Window) : Type 0 where
+  pub judged : ℕ × ℕ
+  pub within : judged.1 ≤ length recording.fixes
+  pub seconds : ℕ
+  pub finished : IsFinished task recording judged window seconds
 
 -- A flight landed out: no start is complete, and its window is from the least legal start to the
 -- last judged fix; so many zones, and no more, have a visit from that start on.

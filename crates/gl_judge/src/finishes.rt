@@ -54,7 +54,7 @@ fn finish_at(finish: &Finish, rec: &Recording, judged: Stretch, f: usize) -> Opt
 }
 
 /// How many fixes a finish comes behind the last visit, at least.
-fn lead(finish: &Finish) -> usize
+pub(crate) fn lead(finish: &Finish) -> usize
     ensures { result ≡ lead_of finish.now }
 {
     match finish {

@@ -105,7 +105,7 @@ fn unfinished(task: &Task, rec: &Recording, judged: Stretch) -> Judged
 }
 
 /// The outcome of a flight with these judged fixes.
-fn outcome_of(task: &Task, rec: &Recording, judged: Stretch) -> Judged
+pub(crate) fn outcome_of(task: &Task, rec: &Recording, judged: Stretch) -> Judged
     requires { judged.to ≤ length rec.now.fixes }
     ensures { IsOutcome task.now rec.now (range_of judged) result }
 {

@@ -2,7 +2,10 @@
 //! visited, whether it finished or landed out; and which distance and time count of it.
 #![tactic(auto)]
 
+mod choices;
+mod course;
 mod crossings;
+mod expected;
 mod finishes;
 mod judged_fixes;
 mod judging;
@@ -12,8 +15,11 @@ mod passing;
 mod starts;
 mod stretch;
 mod visits;
+mod zone_lists;
 
+pub use expected::claims;
 pub use judged_fixes::judged_range;
 pub use judging::judge;
+pub use gl_proof::ClaimKind;
 pub use marking::mark;
 pub use outcome::{Judged, Window};

@@ -13,7 +13,7 @@ use gl_task::{Finish, Kind, Task};
 const GREATEST_METRES: u64 = 2_000_000;
 
 /// The distance of two points, in centimetres.
-fn leg(from: Vec3, to: Vec3) -> u64
+pub(crate) fn leg(from: Vec3, to: Vec3) -> u64
     ensures value { result ≡ distance from to }
     ensures bound { result ≤ GREATEST_DISTANCE }
 {
@@ -21,7 +21,7 @@ fn leg(from: Vec3, to: Vec3) -> u64
 }
 
 /// The finish point of a task.
-fn finish_point(finish: &Finish) -> Vec3
+pub(crate) fn finish_point(finish: &Finish) -> Vec3
     ensures { result ≡ finish_point finish.now }
 {
     match finish {
@@ -31,7 +31,7 @@ fn finish_point(finish: &Finish) -> Vec3
 }
 
 /// The radius of the finish ring in centimetres; 0 for a gate.
-fn ring_radius(finish: &Finish) -> u64
+pub(crate) fn ring_radius(finish: &Finish) -> u64
     ensures { result ≡ ring_radius finish.now }
 {
     match finish {

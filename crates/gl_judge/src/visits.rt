@@ -20,7 +20,7 @@ pub(crate) struct Visited {
 }
 
 /// Whether the fix of a number is in a zone.
-fn is_in_zone(zone: &Zone, fixes: &[Fix], i: usize) -> bool
+pub(crate) fn is_in_zone(zone: &Zone, fixes: &[Fix], i: usize) -> bool
     requires { i < length fixes.now }
     ensures { IsTrue result
         ↔ IsSomeAnd (slice_get fixes.now i) (λ fix. IsTrue (is_in_zone zone.now fix.at)) }

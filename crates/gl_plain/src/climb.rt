@@ -31,12 +31,13 @@ fn around<G: Goal>(goal: &G, tuple: &Tuple, free: u32) -> Cell
     cell
 }
 
-/// Dives into the cell round the best tuple in which the axes whose bits are set are free. The only
-/// error is want of memory.
+/// Dives into the cell round the best tuple in which the axes whose bits are set are free, with so
+/// many looks at most. The only error is want of memory.
 fn climb_over<G: Goal>(
     goal: &G,
     best: &mut Option<Best>,
     free: u32,
+    looks: u32,
     candidates: &mut Vec<Candidate>,
     legs: &mut [Leg],
 ) -> Result<(), AllocError>
@@ -48,18 +49,19 @@ fn climb_over<G: Goal>(
     match best {
         Some(known) => {
             let cell = around(goal, &known.tuple, free);
-            dive(goal, &cell, best, candidates, legs)
+            dive(goal, &cell, looks, best, candidates, legs)
         }
         None => Ok(()),
     }
 }
 
 /// Climbs from the best tuple over each set of so many axes in turn, until none of them finds a
-/// better one. The only error is want of memory.
+/// better one, with so many looks at most for each. The only error is want of memory.
 pub(crate) fn climb<G: Goal>(
     goal: &G,
     best: &mut Option<Best>,
     free_axes: u32,
+    looks: u32,
     candidates: &mut Vec<Candidate>,
     legs: &mut [Leg],
 ) -> Result<(), AllocError>
@@ -74,7 +76,7 @@ pub(crate) fn climb<G: Goal>(
         let free = turn % sets;
         let before = *best;
         if free.count_ones() == free_axes {
-            climb_over(goal, best, free, candidates, legs)?;
+            climb_over(goal, best, free, looks, candidates, legs)?;
         }
         idle = if *best == before { idle + 1 } else { 0 };
         if idle >= sets {

@@ -11,9 +11,6 @@ use gl_box::{Cell, split};
 use gl_goal::{Goal, Leg};
 use std::alloc::AllocError;
 
-/// How many cells a dive looks at at most; each look tests two cells.
-const MOST_LOOKS: u32 = 1_000;
-
 /// A cell that may hold a legal tuple worth as much as its bound.
 #[derive(Clone, Copy)]
 pub(crate) struct Candidate {
@@ -96,11 +93,12 @@ fn look<G: Goal>(
 }
 
 /// Searches a cell depth first for better tuples, the half with the greater bound first, and stops
-/// after a fixed number of looks. `candidates` is room to work in. The only error is want of
-/// memory.
+/// after so many looks, each of which tests two cells. `candidates` is room to work in. The only
+/// error is want of memory.
 pub(crate) fn dive<G: Goal>(
     goal: &G,
     cell: &Cell,
+    looks: u32,
     best: &mut Option<Best>,
     candidates: &mut Vec<Candidate>,
     legs: &mut [Leg],
@@ -113,7 +111,7 @@ pub(crate) fn dive<G: Goal>(
 {
     candidates.clear();
     push_some(candidates, tested(goal, cell, best, legs))?;
-    for _ in 0..MOST_LOOKS {
+    for _ in 0..looks {
         let Some(top) = candidates.pop() else {
             return Ok(());
         };

@@ -11,7 +11,13 @@ use std::alloc::{AllocError, Global};
 const CANDIDATE_ROOM: usize = 512;
 
 /// From how many tuples the search climbs over pairs of axes.
-const MOST_CLIMBS: u32 = 4;
+const MOST_CLIMBS: u32 = 2;
+
+/// How many looks a dive takes at most where two axes are free.
+const PAIR_LOOKS: u32 = 4_000;
+
+/// How many looks a dive takes at most where one axis is free, or three.
+const FEW_LOOKS: u32 = 1_000;
 
 /// The best of some tuples that are worth less than the limit, if there is a limit.
 fn best_below(kept: &[Option<Best>], limit: Option<u64>) -> Option<Best>
@@ -43,7 +49,7 @@ pub fn warm_start<G: Goal>(
     let mut kept = spaced_tuples(alloc, goal)?;
     let mut candidates = Vec::with_capacity(alloc, CANDIDATE_ROOM)?;
     for best in kept.iter_mut() {
-        climb(goal, best, 1, &mut candidates, legs)?;
+        climb(goal, best, 1, FEW_LOOKS, &mut candidates, legs)?;
     }
     let mut greatest = None;
     let mut limit = None;
@@ -53,9 +59,9 @@ pub fn warm_start<G: Goal>(
         };
         limit = Some(next.total);
         let mut best = Some(next);
-        climb(goal, &mut best, 2, &mut candidates, legs)?;
+        climb(goal, &mut best, 2, PAIR_LOOKS, &mut candidates, legs)?;
         greatest = better(greatest, best);
     }
-    climb(goal, &mut greatest, 3, &mut candidates, legs)?;
+    climb(goal, &mut greatest, 3, FEW_LOOKS, &mut candidates, legs)?;
     Ok(greatest)
 }

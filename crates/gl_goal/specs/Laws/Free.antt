@@ -27,7 +27,8 @@ get_or-numbers_from first (suc count) (suc place) d below = get_or-numbers_from 
 pub length-numbers_between : (first last : ℕ) → length (numbers_between first last) ≡ suc (last - first)
 length-numbers_between first last = length-numbers_from first (suc (last - first))
 
-numbers_from-rises : (first count : ℕ) → IsStrictlyIncreasing (numbers_from first count)
+-- they rise strictly
+pub numbers_from-rises : (first count : ℕ) → IsStrictlyIncreasing (numbers_from first count)
 numbers_from-rises first count k more =
     let next : k + 1 < count = omega (arith, length-numbers_from first count) in
     omega (arith, get_or-numbers_from first count k 0 (omega arith), get_or-numbers_from first count (k + 1) 0 next)

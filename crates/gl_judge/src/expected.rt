@@ -1,0 +1,107 @@
+ghost use Rattle.std.specs.Prelude.{◌≡◌, ◌≤◌, ◌++◌, length, IfOk};
+ghost use Rattle.std.specs.Option.{option_to_list};
+ghost use Rattle.gl_judge.specs.Claimed.{rules_of_claims};
+ghost use Rattle.gl_judge.specs.Claims.{AreChoices, AreExpected, HaveLegal, free_claims};
+ghost use Rattle.gl_judge.specs.Outcome.{IsOutcome};
+ghost use Rattle.gl_judge.specs.Stretch.{range_of};
+
+use crate::choices::{area_choice, out_choice};
+use crate::judged_fixes::judged_fixes;
+use crate::judging::outcome_of;
+use crate::outcome::Judged;
+use crate::stretch::Stretch;
+use gl_airspace::Airspace;
+use gl_goal::{AnyGoal, FreeGoal};
+use gl_igc::Recording;
+use gl_proof::ClaimKind;
+use gl_task::{Kind, Task};
+use std::alloc::{AllocError, Global};
+
+/// The claim for the distance of a flight, where the rules leave a choice. The only error is want of
+/// memory.
+fn chosen_claim(
+    alloc: Global,
+    task: &Task,
+    rec: &Recording,
+    judged: Stretch,
+    outcome: Judged,
+) -> Result<Option<(ClaimKind, AnyGoal)>, AllocError>
+    requires to_in_list { judged.to ≤ length rec.now.fixes }
+    requires outcome { IsOutcome task.now rec.now (range_of judged) outcome }
+    ensures expected { IfOk result (λ claim. AreChoices task.now.kind task.now rec.now.fixes
+        (range_of judged) outcome (rules_of_claims (option_to_list claim))) }
+    ensures legal { IfOk result (λ claim. HaveLegal (rules_of_claims (option_to_list claim))) }
+{
+    match (outcome, task.kind) {
+        (Judged::Finished { .. }, Kind::Racing) | (Judged::NoStart, _) => Ok(None),
+        (Judged::Finished { window, .. }, Kind::Area { .. }) => {
+            let goal = area_choice(alloc, task, rec, window)?;
+            Ok(Some((ClaimKind::Area, AnyGoal::Area(goal))))
+        }
+        (Judged::Outlanded { window, zones }, _) => {
+            let goal = out_choice(alloc, task, rec, judged, window, zones as usize)?;
+            Ok(Some((ClaimKind::Out, AnyGoal::Out(goal))))
+        }
+    }
+}
+
+/// The claim of the list of free distances, where it is asked for and a fix is judged. The only error
+/// is want of memory.
+fn free_claim(
+    alloc: Global,
+    task: &Task,
+    rec: &Recording,
+    judged: Stretch,
+) -> Result<Option<(ClaimKind, AnyGoal)>, AllocError>
+    requires to_in_list { judged.to ≤ length rec.now.fixes }
+    ensures expected { IfOk result (λ claim. rules_of_claims (option_to_list claim)
+        ≡ free_claims task.now rec.now.fixes (range_of judged)) }
+    ensures legal { IfOk result (λ claim. HaveLegal (rules_of_claims (option_to_list claim))) }
+{
+    if !task.free || judged.to <= judged.from {
+        return Ok(None);
+    }
+    let fixes = rec.fixes.as_slice();
+    let last = judged.to - 1;
+    let goal = FreeGoal::new(alloc, fixes, judged.from as u32, last as u32, task.rules.loss)?;
+    Ok(Some((ClaimKind::Free, AnyGoal::Free(goal))))
+}
+
+/// The claims that there are, the one for the distance first. The only error is want of memory.
+fn listed(
+    alloc: Global,
+    chosen: Option<(ClaimKind, AnyGoal)>,
+    free: Option<(ClaimKind, AnyGoal)>,
+) -> Result<Vec<(ClaimKind, AnyGoal)>, AllocError>
+    ensures { IfOk result (λ claims.
+        claims.items ≡ option_to_list chosen ++ option_to_list free) }
+{
+    let mut claims = Vec::new(alloc);
+    if let Some(claim) = chosen {
+        claims.push(claim)?;
+    }
+    if let Some(claim) = free {
+        claims.push(claim)?;
+    }
+    Ok(claims)
+}
+
+/// The claims that are expected of a flight, each with its goal, in this order: the distance, of one
+/// who finished a task of areas or landed out; the free distance, where the task asks for its list and
+/// a fix is judged. The only error is want of memory.
+pub fn claims(
+    alloc: Global,
+    task: &Task,
+    air: &Airspace,
+    rec: &Recording,
+) -> Result<Vec<(ClaimKind, AnyGoal)>, AllocError>
+    ensures expected { IfOk result (λ claims.
+        AreExpected task.now air.now rec.now (rules_of_claims claims.items)) }
+    ensures legal { IfOk result (λ claims. HaveLegal (rules_of_claims claims.items)) }
+{
+    let judged = judged_fixes(task, air, rec);
+    let outcome = outcome_of(task, rec, judged);
+    let chosen = chosen_claim(alloc, task, rec, judged, outcome)?;
+    let free = free_claim(alloc, task, rec, judged)?;
+    listed(alloc, chosen, free)
+}
