@@ -23,3 +23,6 @@ pub use judging::judge;
 pub use gl_proof::ClaimKind;
 pub use marking::mark;
 pub use outcome::{Judged, Window};
+
+#[cfg(test)]
+mod tests;
