@@ -1,7 +1,7 @@
 use Rattle.std.proofs.Common.{◌≡◌, map, take, drop}
 use Rattle.std.specs.List.{AllZip}
 use Rattle.gl_steward.specs.Penalty.{KeepsRules, held_after, penalty}
-use Rattle.gl_steward.proofs.fine.fine.Given as goal
+use Rattle.gl_steward.proofs.penalty.fine.Given as goal
 
 abbrev pub invariant-loop-steward : goal.invariant-loop-steward
 invariant-loop-steward g l =

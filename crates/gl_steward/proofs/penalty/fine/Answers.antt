@@ -1,6 +1,6 @@
 use Rattle.std.proofs.Common.{◌<◌, length, arith, rules}
 use Rattle.gl_steward.proofs.Charged.{charged_more, rest_more, total_more}
-use Rattle.gl_steward.proofs.fine.fine.Goals as goal
+use Rattle.gl_steward.proofs.penalty.fine.Goals as goal
 
 pub loop-steward-preserved : goal.loop-steward-preserved
 loop-steward-preserved g c =

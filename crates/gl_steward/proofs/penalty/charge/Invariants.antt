@@ -1,6 +1,6 @@
 use Rattle.std.proofs.Common.{◌≡◌, fold, take}
 use Rattle.gl_steward.specs.Penalty.{KeepsRules}
-use Rattle.gl_steward.proofs.fine.charge.Given as goal
+use Rattle.gl_steward.proofs.penalty.charge.Given as goal
 
 abbrev pub invariant-loop-fix : goal.invariant-loop-fix
 invariant-loop-fix g l =

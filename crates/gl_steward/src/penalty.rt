@@ -1,4 +1,4 @@
-ghost use Rattle.std.specs.Prelude.{◌≡◌, map};
+ghost use Rattle.std.specs.Prelude.{◌≡◌, map, vec_len};
 ghost use Rattle.std.specs.List.{AllZip};
 ghost use Rattle.gl_steward.specs.Penalty.{KeepsRules, held_after, penalty};
 
@@ -57,6 +57,7 @@ pub fn fine(stewards: &mut Vec<Box<dyn Steward>>, rules: &LocalRules, fixes: &[F
         ≡ penalty (map
         (λ s. owed s (held_after (opening s rules.now) (fed s) fixes.now))
         stewards.old.items) }
+    ensures length { vec_len stewards.new ≡ vec_len stewards.old }
     ensures held { AllZip
         (λ s t. held t ≡ held_after (opening s rules.now) (fed s) fixes.now)
         stewards.old.items stewards.new.items }
