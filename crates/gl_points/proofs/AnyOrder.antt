@@ -41,7 +41,6 @@ lesser_at_most a b c d u v w x left right = lesser_tested a b c d (is_at_most a 
 
 -- the most points grow with the greatest distance
 most_at_most : (distance other : Fraction) (time : Option ℕ) → 0 < distance.den → 0 < other.den → IsAtMost distance other → IsAtMost (most_points_of_day distance time) (most_points_of_day other time)
-unfolding most_points_of_day
 most_at_most distance other None first second low =
     let grows = less_at_most (distance ⊘ whole 200) (other ⊘ whole 200) (whole 250) (whole 250) (over_at_most distance other (whole 200) (whole 200) low (at_most_itself (whole 200))) (at_most_itself (whole 250)) in
     lesser_at_most (whole 1_000) (points_by_distance distance) (whole 1_000) (points_by_distance other) (omega arith) (omega arith) (omega arith) (omega arith) (at_most_itself (whole 1_000)) grows

@@ -3,7 +3,7 @@ use Rattle.std.specs.Prelude.{◌≡◌, ℕ, List, length, map, filter, Option,
 use Rattle.gl_points.specs.declared.summary.Day.{Day}
 use Rattle.gl_points.specs.declared.performance.Performance.{Performance}
 use Rattle.gl_points.specs.Figures.{IsGreatestFigure, handicapped_distance, handicapped_speed, is_far, is_fast, is_fastest, least_number}
-use Rattle.gl_points.specs.Fraction.{Fraction, ◌÷◌, ◌⊘◌, ◌⊖◌, lesser, whole}
+use Rattle.gl_points.specs.Fraction.{Fraction, ◌÷◌, ◌⊘◌, ◌⊖◌, IsAtMost, lesser, whole}
 use Rattle.gl_points.specs.Limits.{point_limit}
 use Rattle.gl_points.specs.Worth.{worth}
 
@@ -27,8 +27,8 @@ points_by_distance distance = distance ⊘ whole 200 ⊖ whole 250
 abbrev pub points_by_time : ℕ → Fraction
 points_by_time time = time ÷ 9 ⊖ whole 200
 
--- the most points of a day: 1,000, or less by its distance and, where somebody finished, by its time
-unfoldable pub most_points_of_day : Fraction → Option ℕ → Fraction
+-- the most points of a day: 1,000, or less by its distance and, where somebody finished, its time
+abbrev pub most_points_of_day : Fraction → Option ℕ → Fraction
 most_points_of_day distance None = lesser (whole point_limit) (points_by_distance distance)
 most_points_of_day distance (Some time) =
     lesser (lesser (whole point_limit) (points_by_distance distance)) (points_by_time time)
@@ -49,3 +49,12 @@ pub record IsDayOf (list : List Performance) (day : Day) : Type 0 where
       ≡ least_number (map (λ p. p.seconds)
       (filter (is_fastest day.handicap (worth day.speed)) (finishers_of list)))
   pub most : worth day.most ≡ most_points_of_day (worth day.distance) day.time
+
+-- a handicapped distance is within the day's greatest
+abbrev pub IsWithinDistance : Day → Performance → Type 0
+IsWithinDistance day p =
+    IsAtMost (handicapped_distance day.handicap p) (worth day.distance)
+
+-- a handicapped speed is within the day's greatest
+abbrev pub IsWithinSpeed : Day → Performance → Type 0
+IsWithinSpeed day p = IsAtMost (handicapped_speed day.handicap p) (worth day.speed)

@@ -55,8 +55,8 @@ greater a b = if is_at_most a b then b else a
 abbrev pub rounded : Fraction → ℕ
 rounded a = (2 * a.num + a.den) / (2 * a.den)
 
--- A whole number is the nearest to a fraction: the fraction is at least half below it, and less than
--- half above it.
+-- A whole number is the nearest to a fraction: the fraction is at most half below it, and less
+-- than half above it.
 pub record IsNearest (a : Fraction) (n : ℕ) : Type 0 where
   pub below : 2 * n * a.den ≤ 2 * a.num + a.den
   pub above : 2 * a.num < (2 * n + 1) * a.den

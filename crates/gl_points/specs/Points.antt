@@ -52,8 +52,7 @@ exact_points day p =
     day_factor day ⊗ completion_factor day
     ⊗ (if p.finished then points_of_finisher day p else points_of_outlanding day p)
 
--- The points on the sheet, before penalties: 0 for one who wasn't launched, and for all where nobody
--- flew far.
+-- The points before penalties: 0 for one who wasn't launched, and for all where nobody flew far.
 unfoldable pub points_earned : Day → Performance → ℕ
 points_earned day p =
     if not p.launched || (day.far == 0) then 0 else rounded (exact_points day p)

@@ -7,10 +7,13 @@ mod frac;
 mod most;
 mod passes;
 mod performance;
-mod score;
+mod points;
 mod summary;
+#[cfg(test)]
+mod tests;
 
 pub use figures::day;
 pub use frac::Frac;
 pub use performance::Performance;
+pub use points::{net, score};
 pub use summary::Day;

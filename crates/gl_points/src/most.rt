@@ -35,7 +35,7 @@ fn by_time(time: u32) -> Frac
 }
 
 /// The most points that the day gives.
-#[tactic(auto, using(crate::proofs::Orders::at_most_trans), unfolding(crate::specs::Day::most_points_of_day))]
+#[tactic(auto, using(crate::proofs::Orders::at_most_trans))]
 pub(crate) fn most_points(distance: &Frac, time: Option<u32>) -> Frac
     requires num { distance.now.num ≤ distance_limit * handicap_limit }
     requires den { distance.now.den ≤ handicap_limit }

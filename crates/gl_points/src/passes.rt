@@ -48,7 +48,8 @@ pub(crate) fn fast(list: &[Performance], least: u32, greatest: &Frac) -> u32
     requires least { least ≤ handicap_limit }
     requires num { greatest.now.num ≤ distance_limit * handicap_limit }
     requires den { greatest.now.den ≤ handicap_limit * time_limit }
-    ensures { result ≡ length (filter (is_fast least (worth greatest.now)) (finishers_of list.now)) }
+    ensures { result
+        ≡ length (filter (is_fast least (worth greatest.now)) (finishers_of list.now)) }
 {
     list.iter()
         .filter(|p| p.finished)
@@ -75,7 +76,8 @@ pub(crate) fn time_of_fastest(list: &[Performance], least: u32, greatest: &Frac)
 /// The greatest handicapped distance of the launched, or 0.
 pub(crate) fn greatest_distance(list: &[Performance], least: u32) -> Frac
     requires { least ≤ handicap_limit }
-    ensures greatest { IsGreatestFigure (handicapped_distance least) (launched_of list.now) (worth result) }
+    ensures greatest { IsGreatestFigure (handicapped_distance least) (launched_of list.now)
+        (worth result) }
     ensures num { result.num ≤ distance_limit * handicap_limit }
     ensures den { result.den ≤ handicap_limit }
 {
@@ -91,7 +93,8 @@ pub(crate) fn greatest_distance(list: &[Performance], least: u32) -> Frac
 /// The greatest handicapped speed of the finishers, or 0.
 pub(crate) fn greatest_speed(list: &[Performance], least: u32) -> Frac
     requires { least ≤ handicap_limit }
-    ensures greatest { IsGreatestFigure (handicapped_speed least) (finishers_of list.now) (worth result) }
+    ensures greatest { IsGreatestFigure (handicapped_speed least) (finishers_of list.now)
+        (worth result) }
     ensures num { result.num ≤ distance_limit * handicap_limit }
     ensures den { result.den ≤ handicap_limit * time_limit }
 {

@@ -16,7 +16,8 @@ pub struct Day {
     pub handicap: u32,
     /// The greatest handicapped distance of the launched in metres, 0 where nobody was launched.
     pub distance: Frac,
-    /// The greatest handicapped speed of the finishers in metres per second, 0 where nobody finished.
+    /// The greatest handicapped speed of the finishers in metres per second, 0 where nobody
+    /// finished.
     pub speed: Frac,
     /// The least marking time of the finishers with that speed, in seconds.
     pub time: Option<u32>,

@@ -3,7 +3,7 @@ use Rattle.gl_points.specs.Fraction.{Fraction, ◌⊗◌, IsSame}
 use Rattle.gl_points.specs.Worth.{worth}
 use Rattle.gl_points.specs.Points.{points_of_finisher, most_for_speed, most_for_distance, share_of_speed}
 use Rattle.gl_points.proofs.Parts.{finisher_same}
-use Rattle.gl_points.proofs.score.finisher_part.Goals as goal
+use Rattle.gl_points.proofs.points.finisher_part.Goals as goal
 
 pub returns-clause-same : goal.returns-clause-same
 unfolding points_of_finisher most_for_speed most_for_distance

@@ -6,7 +6,7 @@ use Rattle.gl_points.proofs.AnyOrder.{same_in_any_order}
 use Rattle.gl_points.proofs.Divided.{exact_points_above}
 use Rattle.gl_points.proofs.Held.{some_distance}
 use Rattle.gl_points.proofs.Orders.{rounded_nearest}
-use Rattle.gl_points.proofs.score.score.Goals as goal
+use Rattle.gl_points.proofs.points.score.Goals as goal
 
 pub returns-clause-nearest : goal.returns-clause-nearest
 returns-clause-nearest c = λ launched far.

@@ -1,6 +1,7 @@
 ghost use Rattle.std.specs.Prelude.{◌≡◌, ◌<◌, ◌≤◌, ◌+◌, ◌-◌, ◌*◌, ◌^◌, IsTrue, if◌then◌else◌};
-ghost use Rattle.gl_points.specs.Figures.{handicapped_distance, handicapped_speed};
-ghost use Rattle.gl_points.specs.Fraction.{IsAtMost, IsNearest, IsSame, ◌÷◌, ◌⊗◌, ◌⊘◌, rounded};
+ghost use Rattle.gl_points.specs.Day.{IsWithinDistance, IsWithinSpeed};
+ghost use Rattle.gl_points.specs.Figures.{handicapped_distance};
+ghost use Rattle.gl_points.specs.Fraction.{IsNearest, IsSame, ◌÷◌, ◌⊗◌, ◌⊘◌, rounded};
 ghost use Rattle.gl_points.specs.Laws.{IsAheadOfShorter, IsAheadOfSlower, IsBelowFinishers, IsSameInAnyOrder};
 ghost use Rattle.gl_points.specs.Limits.{handicap_limit, performance_limit, point_limit, speed_product_limit};
 ghost use Rattle.gl_points.specs.Points.{IsPartOf, completion_factor, day_factor, exact_points, points_earned, points_of_finisher, points_of_outlanding, share_of_speed};
@@ -12,7 +13,7 @@ use crate::summary::Day;
 
 /// How much the day counts: the factor by how many flew far times that by how many of them were
 /// fast, at most 1.
-#[tactic(auto, using(crate::proofs::Parts::factors_same), unfolding(crate::specs::Points::day_factor, crate::specs::Points::completion_factor))]
+#[tactic(auto, using(crate::proofs::Shares::factor_same))]
 fn factor(day: &Day) -> Frac
     requires { 1 ≤ day.now.far }
     ensures same { IsSame (worth result) (day_factor day.now ⊗ completion_factor day.now) }
@@ -26,10 +27,10 @@ fn factor(day: &Day) -> Frac
 }
 
 /// How far a finisher's speed is on the way from two thirds of the greatest to the greatest.
-#[tactic(auto, using(crate::proofs::Parts::share_same), unfolding(crate::specs::Points::share_of_speed))]
+#[tactic(auto, unfolding(crate::specs::Points::share_of_speed))]
 fn speed_share(day: &Day, performance: &Performance) -> Frac
     requires finished { IsTrue performance.now.finished }
-    requires at_most { IsAtMost (handicapped_speed day.now.handicap performance.now) (worth day.now.speed) }
+    requires at_most { IsWithinSpeed day.now performance.now }
     ensures same { IsSame (worth result) (share_of_speed day.now performance.now) }
     ensures at_most_one { result.num ≤ result.den }
     ensures den { result.den ≤ speed_product_limit }
@@ -49,7 +50,7 @@ fn speed_share(day: &Day, performance: &Performance) -> Frac
 /// A distance as a share of the greatest.
 fn distance_share(day: &Day, performance: &Performance) -> Frac
     requires some { 0 < day.now.distance.num }
-    requires at_most { IsAtMost (handicapped_distance day.now.handicap performance.now) (worth day.now.distance) }
+    requires at_most { IsWithinDistance day.now performance.now }
     ensures worth { worth result
         ≡ handicapped_distance day.now.handicap performance.now ⊘ worth day.now.distance }
     ensures at_most_one { result.num ≤ result.den }
@@ -68,7 +69,8 @@ fn whole_distance_and(share: &Frac, day: &Day) -> Frac
     requires at_most_one { share.now.num ≤ share.now.den }
     requires den { share.now.den ≤ speed_product_limit }
     ensures worth { worth result
-        ≡ (2 * day.now.fast * share.now.num + (3 * day.now.launched - 2 * day.now.fast) * share.now.den)
+        ≡ (2 * day.now.fast * share.now.num
+        + (3 * day.now.launched - 2 * day.now.fast) * share.now.den)
         ÷ (3 * day.now.launched * share.now.den) }
     ensures at_most_one { result.num ≤ result.den }
     ensures den { result.den ≤ 3 * performance_limit * speed_product_limit }
@@ -102,8 +104,9 @@ fn of_distance(share: &Frac, day: &Day) -> Frac
 fn finisher_part(day: &Day, performance: &Performance) -> Frac
     requires launched { 1 ≤ day.now.launched }
     requires finished { IsTrue performance.now.finished }
-    requires at_most { IsAtMost (handicapped_speed day.now.handicap performance.now) (worth day.now.speed) }
-    ensures same { IsSame (worth day.now.most ⊗ worth result) (points_of_finisher day.now performance.now) }
+    requires at_most { IsWithinSpeed day.now performance.now }
+    ensures same { IsSame (worth day.now.most ⊗ worth result)
+        (points_of_finisher day.now performance.now) }
     ensures at_most_one { result.num ≤ result.den }
     ensures den { result.den ≤ 3 * performance_limit * speed_product_limit }
 {
@@ -114,8 +117,9 @@ fn finisher_part(day: &Day, performance: &Performance) -> Frac
 fn outlanding_part(day: &Day, performance: &Performance) -> Frac
     requires launched { 1 ≤ day.now.launched }
     requires some { 0 < day.now.distance.num }
-    requires at_most { IsAtMost (handicapped_distance day.now.handicap performance.now) (worth day.now.distance) }
-    ensures same { IsSame (worth day.now.most ⊗ worth result) (points_of_outlanding day.now performance.now) }
+    requires at_most { IsWithinDistance day.now performance.now }
+    ensures same { IsSame (worth day.now.most ⊗ worth result)
+        (points_of_outlanding day.now performance.now) }
     ensures at_most_one { result.num ≤ result.den }
     ensures den { result.den ≤ 3 * performance_limit * speed_product_limit }
 {
@@ -126,9 +130,9 @@ fn outlanding_part(day: &Day, performance: &Performance) -> Frac
 fn part(day: &Day, performance: &Performance) -> Frac
     requires launched { 1 ≤ day.now.launched }
     requires some { 0 < day.now.distance.num }
-    requires distance { IsAtMost (handicapped_distance day.now.handicap performance.now) (worth day.now.distance) }
+    requires distance { IsWithinDistance day.now performance.now }
     requires speed { IsTrue performance.now.finished
-        → IsAtMost (handicapped_speed day.now.handicap performance.now) (worth day.now.speed) }
+        → IsWithinSpeed day.now performance.now }
     ensures same { IsSame (worth day.now.most ⊗ worth result)
         (if performance.now.finished
         then points_of_finisher day.now performance.now

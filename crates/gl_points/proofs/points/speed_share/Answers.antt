@@ -4,7 +4,7 @@ use Rattle.gl_points.specs.Worth.{worth}
 use Rattle.gl_points.specs.Points.{share_of_speed}
 use Rattle.gl_points.proofs.Parts.{share_same}
 use Rattle.gl_points.proofs.Shares.{share_of_speed-some}
-use Rattle.gl_points.proofs.score.speed_share.Goals as goal
+use Rattle.gl_points.proofs.points.speed_share.Goals as goal
 
 pub returns-clause-same : goal.returns-clause-same
 returns-clause-same c =

@@ -5,7 +5,7 @@ use Rattle.gl_points.specs.Worth.{worth}
 use Rattle.gl_points.proofs.Divided.{exact_points_above}
 use Rattle.gl_points.proofs.Held.{some_distance, within_distance, within_speed}
 use Rattle.gl_points.proofs.Orders.{rounded_same, times_same}
-use Rattle.gl_points.proofs.score.earned.Goals as goal
+use Rattle.gl_points.proofs.points.earned.Goals as goal
 
 pub part-requires-clause-some : goal.part-requires-clause-some
 part-requires-clause-some c = some_distance c.requires.part.list c.args.day.now c.requires.part.day_of c.requires.far
