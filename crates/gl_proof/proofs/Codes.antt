@@ -142,13 +142,12 @@ high_at text behind low rest span more number hyphen at =
 
 pub span_front : (text behind : List ℕ) (low : ℕ) (rest : List ℕ) (high : ℕ) (last : List ℕ) (span : ℕ × ℕ) (more : List ℕ) → IsNumberAt (2 ^ 32) text low rest → rest ≡ 45 ∷ behind → IsNumberAt (2 ^ 32) behind high last → IsSpanAt text span more → (low ≡ span.0) × (high ≡ span.1)
 span_front text behind low rest high last span more number hyphen end at =
-    let other = high_at text behind low rest span more number hyphen at in
-    (
+    let other = high_at text behind low rest span more number hyphen at in (
       (low_front text low rest span more number at).0,
       (number_unique high span.1 last more (omega (arith, end.below)) (omega (arith, other.below)) end.stops other.stops (sym end.is ∙ other.is)).0,
     )
 
-is_number_parts : (number : List ℕ) → is_number number ≡ true → (1 ≤ length number) × (length number ≤ 8) × (list_all is_ascii_alphanumeric number ≡ true)
+pub is_number_parts : (number : List ℕ) → is_number number ≡ true → (1 ≤ length number) × (length number ≤ 8) × (list_all is_ascii_alphanumeric number ≡ true)
 is_number_parts number is =
     let parts = and_parts (nat_le 1 (length number) && nat_le (length number) 8) (list_all is_ascii_alphanumeric number) is in
     let ends = and_parts (nat_le 1 (length number)) (nat_le (length number) 8) parts.0 in

@@ -1,4 +1,5 @@
 pub mod Claim
+pub mod ClaimFront
 pub mod Fronts
 pub mod Kept
 pub mod Line

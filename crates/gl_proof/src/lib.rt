@@ -4,6 +4,7 @@
 
 mod claim;
 mod front;
+mod line;
 mod proof;
 mod write;
 
