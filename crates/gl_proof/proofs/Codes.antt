@@ -4,6 +4,7 @@ use Rattle.std.specs.Char.{is_ascii_alphanumeric, is_ascii_digit}
 use Rattle.std.specs.Fmt.{decimal}
 use Rattle.std.specs.List.{list_all, prefix_len, take_while}
 use Rattle.std.specs.Prelude.{All, nat_le}
+use Rattle.std.specs.Str.{IsAscii}
 use Rattle.std.proofs.lemmas.Bool.{cases_Bool, false≢true, and_parts, and_from, le-leb, leb-true}
 use Rattle.std.proofs.lemmas.Bool.Decides.{nat_tests}
 use Rattle.std.proofs.lemmas.Fmt.{decimal_by_steps, decimal_injective}
@@ -165,3 +166,12 @@ entrant_front text front back number rest all stops is at =
     let same = front_unique is_ascii_alphanumeric front number back (32 ∷ rest) all parts.2 stops refl (sym is ∙ at.1) in
     let long = ap length same.0 in
     (same.0, same.1, omega (arith, long, parts.0), omega (arith, long, parts.1))
+
+letter_small : (b : ℕ) → is_ascii_alphanumeric b ≡ true → b < 128
+letter_small b letter = grind (arith, nat_tests)
+
+-- letters and digits are ASCII
+pub letters_ascii : (text : List ℕ) → list_all is_ascii_alphanumeric text ≡ true → IsAscii text
+letters_ascii [] all k = omega arith
+letters_ascii (b ∷ bs) all zero = letter_small b (and_parts (is_ascii_alphanumeric b) (list_all is_ascii_alphanumeric bs) all).0
+letters_ascii (b ∷ bs) all (suc k) = letters_ascii bs (and_parts (is_ascii_alphanumeric b) (list_all is_ascii_alphanumeric bs) all).1 k

@@ -1,3 +1,4 @@
 pub mod Appended
+pub mod Chain
 pub mod Codes
 pub mod Lines

@@ -3,11 +3,15 @@
 #![tactic(auto)]
 
 mod claim;
+mod claim_lines;
+mod error;
 mod front;
 mod line;
 mod proof;
+mod read;
 mod write;
 
 pub use claim::{Claim, ClaimKind};
+pub use error::ProofError;
 pub use proof::Proof;
 pub use write::write_claim;
