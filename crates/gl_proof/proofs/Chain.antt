@@ -1,5 +1,5 @@
 -- The lines of a proof, one behind the other, and where no further line may stand.
-use Rattle.std.proofs.Common.{◌≡◌, ◌≢◌, ◌∙◌, sym, ap, refl, subst, ℕ, ◌+◌, ◌^◌, ◌<◌, ◌≤◌, ◌⊎◌, inl, inr, Bool, true, false, List, [], ◌∷◌, ◌++◌, length, map, append_assoc, Option, Some, None, arith}
+use Rattle.std.proofs.Common.{◌≡◌, ◌≢◌, ◌∙◌, sym, ap, refl, subst, ℕ, ◌+◌, ◌^◌, ◌<◌, inl, inr, true, List, [], ◌∷◌, ◌++◌, length, map, append_assoc, Option, Some, None, arith}
 use Rattle.std.specs.List.{flat_map}
 use Rattle.std.specs.Prelude.{All, IfSome, IsSome, IsTrue, MatchOption, min}
 use Rattle.std.proofs.lemmas.Bool.{false≢true}
@@ -14,8 +14,8 @@ use Rattle.gl_proof.specs.Claim.{IsStatement, Statement, box_line, claim_lines, 
 use Rattle.gl_proof.specs.Fronts.{IsClaimAt}
 use Rattle.gl_proof.specs.Line.{AreFixes, AreSpans, Line, HeadingLine, ClaimLine, FixLine, BoxLine, EndLine, IsLine, ended, goes_on, may_follow}
 use Rattle.gl_proof.specs.Number.{is_number}
-use Rattle.gl_proof.specs.Passage.{AreBoxesAt, AreClaimedAt, IsClaimRead, LacksClaim, LacksFixesBehind, NoBox, NoClaim, NoFixes, OrMemory}
-use Rattle.gl_proof.specs.Refusal.{Follow, HasLine, IsRefused, NoneFollows, RunsThrough, last_line}
+use Rattle.gl_proof.specs.Passage.{AreBoxesAt, AreClaimedAt, IsClaimRead, LacksClaim, NoBox, NoClaim, NoFixes, OrMemory}
+use Rattle.gl_proof.specs.Refusal.{Follow, IsRefused, NoneFollows, RunsThrough, last_line}
 
 pub follow_append : (last : Line) (a b : List Line) → Follow last a → Follow (last_line last a) b → Follow last (a ++ b)
 follow_append last [] b front back = back

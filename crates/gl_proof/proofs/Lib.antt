@@ -2,3 +2,4 @@ pub mod Appended
 pub mod Chain
 pub mod Codes
 pub mod Lines
+pub mod Unique

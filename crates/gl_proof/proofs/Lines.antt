@@ -1,20 +1,18 @@
 -- Lines that stand at the front of a text, part by part.
-use Rattle.std.proofs.Common.{◌≡◌, ◌∙◌, sym, ap, refl, subst, ℕ, zero, suc, ◌+◌, ◌^◌, ◌<◌, ◌≤◌, Bool, true, List, [], ◌∷◌, ◌++◌, length, get_or, take, drop, map, slice_set, append_assoc, Option, Some, None, arith}
+use Rattle.std.proofs.Common.{◌≡◌, ◌∙◌, sym, ap, refl, ℕ, ◌+◌, ◌^◌, ◌<◌, ◌≤◌, true, List, [], ◌∷◌, ◌++◌, length, get_or, take, map, slice_set, append_assoc, Option, Some, None, arith}
 use Rattle.std.specs.Char.{is_ascii_alphanumeric, is_ascii_digit}
 use Rattle.std.specs.Fmt.{decimal}
 use Rattle.std.specs.List.{list_all}
 use Rattle.std.specs.Prelude.{All, IfSome, codes}
 use Rattle.std.proofs.lemmas.Fmt.{decimal_nonempty}
 use Rattle.std.proofs.lemmas.List.{append-nil, append_cancel_left, length-append, length-map, length-take-le, take_more_set}
-use Rattle.std.proofs.lemmas.List.Elements.{All-push}
 use Rattle.gl_box.specs.declared.closed.Why.{Why}
-use Rattle.gl_box.specs.declared.closed.Why.TheVariants.{Disordered, Shut, Bound}
 use Rattle.gl_box.specs.declared.span.Span.{Span}
 use Rattle.gl_box.specs.Cell.{ends}
 use Rattle.gl_proof.specs.declared.claim.ClaimKind.{ClaimKind}
 use Rattle.gl_proof.specs.declared.claim.ClaimKind.TheVariants.{Area, Out, Free, Triangle}
-use Rattle.gl_proof.specs.Fronts.{AreFixesAt, AreSpansAt, IsClaimAt, IsEntrantAt, IsKindAt, IsNumberAt, IsSpanAt, IsTotalAt, Stops}
-use Rattle.gl_proof.specs.Line.{AreFixes, AreSpans, BoxLine, ClaimLine, FixLine, IsLine, IsSpan, ended, kind_word, reason_word, spaced, span_word, total_word}
+use Rattle.gl_proof.specs.Fronts.{AreFixesAt, AreSpansAt, IsEntrantAt, IsNumberAt, IsTotalAt, Stops}
+use Rattle.gl_proof.specs.Line.{BoxLine, ClaimLine, FixLine, IsSpan, ended, kind_word, reason_word, spaced, span_word, total_word}
 use Rattle.gl_proof.proofs.Appended.{pieces_push}
 use Rattle.gl_proof.proofs.Codes.{Continues, IsSpelledOnce, decimal_digits, entrant_front, front_unique, is_number_parts, number_unique, spaced_stops, span_unique, words_front}
 

@@ -14,4 +14,5 @@ mod write;
 pub use claim::{Claim, ClaimKind};
 pub use error::ProofError;
 pub use proof::Proof;
+pub use read::read_proof;
 pub use write::write_claim;

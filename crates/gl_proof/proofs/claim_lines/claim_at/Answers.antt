@@ -1,4 +1,4 @@
-use Rattle.std.proofs.Common.{◌≡◌, ◌∙◌, sym, ap, inr, subst, ℕ, length, map, arith}
+use Rattle.std.proofs.Common.{◌≡◌, inr, subst, ℕ, length, map, arith}
 use Rattle.std.proofs.lemmas.List.{length-map}
 use Rattle.gl_box.specs.Closed.{box_of}
 use Rattle.gl_proof.specs.ClaimFront.{said_of}

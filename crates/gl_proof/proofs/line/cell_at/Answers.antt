@@ -1,4 +1,4 @@
-use Rattle.std.proofs.Common.{◌≡◌, ◌∙◌, sym, ap, subst, ℕ, ◌+◌, ◌<◌, ◌≤◌, List, [], ◌∷◌, ◌++◌, length, map, take, drop, slice_set, arith}
+use Rattle.std.proofs.Common.{◌≡◌, ◌∙◌, sym, ap, subst, ℕ, ◌+◌, ◌<◌, List, ◌∷◌, ◌++◌, length, map, take, arith}
 use Rattle.std.specs.Prelude.{All}
 use Rattle.std.proofs.lemmas.List.{drop-set-lt, drop_more, length-set}
 use Rattle.std.proofs.lemmas.List.Elements.{All-push, All-rest}

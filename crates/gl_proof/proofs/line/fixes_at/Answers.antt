@@ -1,4 +1,4 @@
-use Rattle.std.proofs.Common.{ap, ℕ, ◌^◌, ◌<◌, ◌∷◌, ◌++◌, length, map, arith}
+use Rattle.std.proofs.Common.{ℕ, ◌^◌, ◌<◌, ◌∷◌, ◌++◌, map, arith}
 use Rattle.std.specs.Fmt.{decimal}
 use Rattle.gl_proof.specs.Line.{spaced}
 use Rattle.gl_proof.proofs.Lines.{fixes_on, next_word, no_word, number_next}
