@@ -16,3 +16,6 @@ pub use error::ProofError;
 pub use proof::Proof;
 pub use read::read_proof;
 pub use write::write_claim;
+
+#[cfg(test)]
+mod tests;
