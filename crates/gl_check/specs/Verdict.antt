@@ -50,14 +50,14 @@ pub record ComesTo (rule : Rule) (total : Option ℕ) (fixes : List ℕ)
 
 -- a number tells the box at a place: they count from 1, and there is no number above the last of 32
 -- bits
-abbrev pub Tells : ℕ → ℕ → Type 0
-Tells number place = number ≡ min (place + 1) 4_294_967_295
+abbrev pub NumbersBox : ℕ → ℕ → Type 0
+NumbersBox number place = number ≡ min (place + 1) 4_294_967_295
 
 -- the box of this number is the first that is wrong, in this way
 abbrev pub IsFirst : Rule → Option ℕ → List ℕ → List (List (ℕ × ℕ) × Why) → ℕ → (ℕ → Type 0)
     → Type 0
 IsFirst rule total fixes boxes number IsWrong =
-    (place : ℕ) × Tells number place × ComesTo rule total fixes boxes place × IsWrong place
+    (place : ℕ) × NumbersBox number place × ComesTo rule total fixes boxes place × IsWrong place
 
 -- The first of these that holds. Fixes: there is a total, and no legal tuple has these fixes. Total:
 -- they aren't worth the total. Then the first box that is wrong. Extra: the boxes before it are

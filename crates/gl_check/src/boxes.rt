@@ -3,7 +3,7 @@ ghost use Rattle.gl_box.specs.Cell.{Covers, spans_of};
 ghost use Rattle.gl_box.specs.Closed.{box_of};
 ghost use Rattle.gl_goal.specs.Rule.{whole_cell};
 ghost use Rattle.gl_goal.specs.Certificate.{IsClaimed, IsClosedFor};
-ghost use Rattle.gl_check.specs.Verdict.{IsVerdict, Tells};
+ghost use Rattle.gl_check.specs.Verdict.{IsVerdict, NumbersBox};
 ghost use Rattle.gl_check.specs.Walk.{IsWalked, open_cells};
 
 use crate::verdict::Verdict;
@@ -20,7 +20,7 @@ const LEG_ROOM: usize = 4_096;
 
 /// The number of the box at a place, as it is told.
 fn number_of(place: usize) -> u32
-    ensures { Tells result place }
+    ensures { NumbersBox result place }
 {
     place.saturating_add(1).min(u32::MAX as usize) as u32
 }

@@ -10,3 +10,6 @@ mod walk;
 
 pub use check::check_claim;
 pub use verdict::Verdict;
+
+#[cfg(test)]
+mod tests;

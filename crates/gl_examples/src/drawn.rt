@@ -20,7 +20,7 @@ impl Draws {
 /// A recording of a flight that wanders about 47 degrees north and 11 degrees east, one fix a
 /// minute: each fix is drawn up to 3 minutes of latitude and of longitude from the one before, and
 /// at 500 m to 3,000 m.
-fn wandering(alloc: Global, seed: u64, fixes: u64) -> Result<Vec<u8>, AllocError> {
+pub fn wandering(alloc: Global, seed: u64, fixes: u64) -> Result<Vec<u8>, AllocError> {
     let mut draws = Draws { state: seed };
     let mut lat: u64 = 2_820_000;
     let mut lon: u64 = 660_000;

@@ -1,13 +1,14 @@
 -- What is spelled at the front of a text can be spelled in no other way.
-use Rattle.std.proofs.Common.{◌≡◌, ◌∙◌, sym, ap, refl, subst, ℕ, zero, suc, ◌+◌, ◌-◌, ◌%◌, ◌^◌, ◌<◌, ◌≤◌, Bool, true, false, cond, ◌&&◌, List, [], ◌∷◌, ◌++◌, length, get_or, take, drop, map, append_assoc, arith, inl, inr}
+use Rattle.std.proofs.Common.{◌≡◌, ◌∙◌, sym, ap, refl, subst, ℕ, zero, suc, ◌+◌, ◌%◌, ◌^◌, ◌<◌, ◌≤◌, Bool, true, ◌&&◌, List, [], ◌∷◌, ◌++◌, length, get_or, take, drop, map, append_assoc, arith, inl, inr}
 use Rattle.std.specs.Char.{is_ascii_alphanumeric, is_ascii_digit}
 use Rattle.std.specs.Fmt.{decimal}
 use Rattle.std.specs.List.{list_all, prefix_len, take_while}
 use Rattle.std.specs.Prelude.{All, nat_le}
+use Rattle.std.specs.Str.{IsAscii}
 use Rattle.std.proofs.lemmas.Bool.{cases_Bool, false≢true, and_parts, and_from, le-leb, leb-true}
 use Rattle.std.proofs.lemmas.Bool.Decides.{nat_tests}
 use Rattle.std.proofs.lemmas.Fmt.{decimal_by_steps, decimal_injective}
-use Rattle.std.proofs.lemmas.List.{append_cancel_left, length-take-le, take-append-drop}
+use Rattle.std.proofs.lemmas.List.{length-take-le, take-append-drop}
 use Rattle.std.proofs.lemmas.List.Elements.{All-head, All-tail}
 use Rattle.std.proofs.lemmas.List.Folds.{list_all-append}
 use Rattle.std.proofs.lemmas.List.Sums.{prefix_len-le-length}
@@ -142,13 +143,12 @@ high_at text behind low rest span more number hyphen at =
 
 pub span_front : (text behind : List ℕ) (low : ℕ) (rest : List ℕ) (high : ℕ) (last : List ℕ) (span : ℕ × ℕ) (more : List ℕ) → IsNumberAt (2 ^ 32) text low rest → rest ≡ 45 ∷ behind → IsNumberAt (2 ^ 32) behind high last → IsSpanAt text span more → (low ≡ span.0) × (high ≡ span.1)
 span_front text behind low rest high last span more number hyphen end at =
-    let other = high_at text behind low rest span more number hyphen at in
-    (
+    let other = high_at text behind low rest span more number hyphen at in (
       (low_front text low rest span more number at).0,
       (number_unique high span.1 last more (omega (arith, end.below)) (omega (arith, other.below)) end.stops other.stops (sym end.is ∙ other.is)).0,
     )
 
-is_number_parts : (number : List ℕ) → is_number number ≡ true → (1 ≤ length number) × (length number ≤ 8) × (list_all is_ascii_alphanumeric number ≡ true)
+pub is_number_parts : (number : List ℕ) → is_number number ≡ true → (1 ≤ length number) × (length number ≤ 8) × (list_all is_ascii_alphanumeric number ≡ true)
 is_number_parts number is =
     let parts = and_parts (nat_le 1 (length number) && nat_le (length number) 8) (list_all is_ascii_alphanumeric number) is in
     let ends = and_parts (nat_le 1 (length number)) (nat_le (length number) 8) parts.0 in
@@ -166,3 +166,12 @@ entrant_front text front back number rest all stops is at =
     let same = front_unique is_ascii_alphanumeric front number back (32 ∷ rest) all parts.2 stops refl (sym is ∙ at.1) in
     let long = ap length same.0 in
     (same.0, same.1, omega (arith, long, parts.0), omega (arith, long, parts.1))
+
+letter_small : (b : ℕ) → is_ascii_alphanumeric b ≡ true → b < 128
+letter_small b letter = grind (arith, nat_tests)
+
+-- letters and digits are ASCII
+pub letters_ascii : (text : List ℕ) → list_all is_ascii_alphanumeric text ≡ true → IsAscii text
+letters_ascii [] all k = omega arith
+letters_ascii (b ∷ bs) all zero = letter_small b (and_parts (is_ascii_alphanumeric b) (list_all is_ascii_alphanumeric bs) all).0
+letters_ascii (b ∷ bs) all (suc k) = letters_ascii bs (and_parts (is_ascii_alphanumeric b) (list_all is_ascii_alphanumeric bs) all).1 k

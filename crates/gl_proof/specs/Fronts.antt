@@ -6,7 +6,7 @@ use Rattle.std.proofs.Common.{Bor}
 use Rattle.gl_box.specs.declared.closed.Why.{Why}
 use Rattle.gl_proof.specs.declared.claim.ClaimKind.{ClaimKind}
 use Rattle.gl_proof.specs.Claim.{box_line}
-use Rattle.gl_proof.specs.Line.{AreFixes, AreSpans, ClaimLine, FixLine, IsLine, IsSpan, ended, kind_word, reason_word, spaced, span_word, total_word}
+use Rattle.gl_proof.specs.Line.{AreFixes, AreSpans, ClaimLine, IsLine, IsSpan, ended, kind_word, reason_word, spaced, span_word, total_word}
 use Rattle.gl_proof.specs.Number.{is_number}
 
 -- A reader took something from the front of a text and left the rest, or nothing of the kind stands

@@ -1,8 +1,11 @@
 pub mod Claim
+pub mod ClaimFront
 pub mod Fronts
 pub mod Kept
 pub mod Line
 pub mod Number
+pub mod Passage
+pub mod Refusal
 pub mod Text
 pub use Rattle.gl_box.specs.Cell
 pub use Rattle.gl_box.specs.Closed

@@ -3,10 +3,19 @@
 #![tactic(auto)]
 
 mod claim;
+mod claim_lines;
+mod error;
 mod front;
+mod line;
 mod proof;
+mod read;
 mod write;
 
 pub use claim::{Claim, ClaimKind};
+pub use error::ProofError;
 pub use proof::Proof;
+pub use read::read_proof;
 pub use write::write_claim;
+
+#[cfg(test)]
+mod tests;

@@ -1,4 +1,4 @@
-use Rattle.std.proofs.Common.{◌≡◌, ◌∙◌, refl, ap, ◌^◌, ◌≤◌, ◌++◌, arith, List, ℕ}
+use Rattle.std.proofs.Common.{◌∙◌, refl, ap, ◌^◌, ◌++◌, arith, List, ℕ}
 use Rattle.std.specs.Char.{is_ascii_digit}
 use Rattle.gl_proof.proofs.Codes.{cut_front, number_front}
 use Rattle.gl_proof.proofs.front.number_at.Goals as goal

@@ -1,0 +1,17 @@
+use Rattle.std.proofs.Common.{◌≡◌, ℕ, ◌++◌, List, length, map}
+use Rattle.std.specs.Prelude.{All}
+use Rattle.gl_box.specs.declared.closed.Why.{Why}
+use Rattle.gl_box.specs.Closed.{box_of}
+use Rattle.gl_proof.specs.Claim.{box_line, spelled}
+use Rattle.gl_proof.specs.Line.{AreSpans}
+use Rattle.gl_proof.proofs.claim_lines.boxes_at.Given as goal
+
+-- the boxes so far are read
+abbrev pub invariant-boxes : goal.invariant-boxes
+invariant-boxes l = record {
+  each : All (λ (box : List (ℕ × ℕ) × Why). AreSpans box.0) (map box_of l.cells.items);
+  is : l.text ≡ spelled (map box_line (map box_of l.cells.items)) ++ l.rest;
+}
+
+abbrev pub decreases-boxes : goal.decreases-boxes
+decreases-boxes l = length l.rest

@@ -1,0 +1,78 @@
+-- How a text is gone over, claim by claim.
+use Rattle.std.specs.Prelude.{◌≡◌, ℕ, ◌+◌, ◌<◌, min, List, [], ◌++◌, length, map, Option, IsSome, MatchOption, All, ⊤, ◌⊎◌}
+use Rattle.gl_box.specs.declared.closed.Why.{Why}
+use Rattle.gl_proof.specs.declared.claim.ClaimKind.{ClaimKind}
+use Rattle.gl_proof.specs.declared.error.ProofError.{ProofError}
+use Rattle.gl_proof.specs.declared.error.ProofError.TheVariants.{Heading, Line as WrongLine, Cut, Memory}
+use Rattle.gl_proof.specs.Claim.{IsStatement, Statement, box_line, claim_lines, claim_text, fix_lines, spelled}
+use Rattle.gl_proof.specs.Fronts.{IsBoxAt, IsClaimAt}
+use Rattle.gl_proof.specs.Line.{AreFixes, AreSpans, FixLine, ended}
+use Rattle.gl_proof.specs.Refusal.{HasLine}
+
+-- no line of a box begins a text
+abbrev pub NoBox : List ℕ → Type 0
+NoBox text = (box : List (ℕ × ℕ) × Why) (more : List ℕ) → IsBoxAt text box more → ⊥
+
+-- no line of a claim begins it
+abbrev pub NoClaim : List ℕ → Type 0
+NoClaim text = (said : List ℕ × ClaimKind × Option ℕ) (more : List ℕ) → IsClaimAt text said more → ⊥
+
+-- no line of fixes begins it
+abbrev pub NoFixes : List ℕ → Type 0
+NoFixes text = (fixes more : List ℕ) → AreFixes fixes → text ≡ ended (FixLine fixes) ++ more → ⊥
+
+-- the lines of boxes at the front of a text, all of them
+pub record AreBoxesAt (text : List ℕ) (boxes : List (List (ℕ × ℕ) × Why)) (rest : List ℕ)
+    : Type 0 where
+  pub each : All (λ box. AreSpans box.0) boxes
+  pub is : text ≡ spelled (map box_line boxes) ++ rest
+  pub last : NoBox rest
+
+-- the line of the fixes at the front of a text, where there is a total
+pub record AreClaimedAt (total : Option ℕ) (text numbers rest : List ℕ) : Type 0 where
+  pub fixes : MatchOption total (numbers ≡ []) (λ _. AreFixes numbers)
+  pub is : text ≡ spelled (fix_lines total numbers) ++ rest
+
+-- the line at the front of a text, which has this number, can't stand there: it is wrong where it
+-- is ended by LF, and cut else
+abbrev pub IsMisfit : List ℕ → ℕ → ProofError → Type 0
+IsMisfit text number Heading = ⊥
+IsMisfit text number (WrongLine told) = HasLine text × (told ≡ number)
+IsMisfit text number Cut = HasLine text → ⊥
+IsMisfit text number Memory = ⊥
+
+-- want of memory, or another fault
+abbrev pub OrMemory : ProofError → Type 0 → Type 0
+OrMemory Heading P = P
+OrMemory (WrongLine told) P = P
+OrMemory Cut P = P
+OrMemory Memory P = ⊤
+
+-- there is a total, and no line of fixes begins the text
+pub record LacksFixes (total : Option ℕ) (text : List ℕ) (number : ℕ) (error : ProofError)
+    : Type 0 where
+  pub some : IsSome total
+  pub none : NoFixes text
+  pub misfit : IsMisfit text number error
+
+-- the lines of a claim at the front of a text, the first of which has this number; the line behind
+-- them has the next one
+pub record IsClaimRead (text : List ℕ) (number : ℕ) (statement : Statement) (rest : List ℕ)
+    (next : ℕ) : Type 0 where
+  pub is_statement : IsStatement statement
+  pub is : text ≡ claim_text statement ++ rest
+  pub last : NoBox rest
+  pub counted : next ≡ min (number + length (claim_lines statement)) 4_294_967_295
+  pub shorter : length rest < length text
+
+-- the line of a claim is there, but the line behind it lacks the fixes
+pub record LacksFixesBehind (text : List ℕ) (number : ℕ) (error : ProofError) : Type 0 where
+  pub said : List ℕ × ClaimKind × Option ℕ
+  pub rest : List ℕ
+  pub claim : IsClaimAt text said rest
+  pub lacks : LacksFixes said.2 rest (min (number + 1) 4_294_967_295) error
+
+-- no line of a claim begins the text, or its fixes are lacking
+abbrev pub LacksClaim : List ℕ → ℕ → ProofError → Type 0
+LacksClaim text number error =
+    (NoClaim text × IsMisfit text number error) ⊎ LacksFixesBehind text number error

@@ -1,0 +1,149 @@
+ghost use Rattle.std.specs.Prelude.{◌≡◌, ◌+◌, ◌*◌, ◌≤◌, ◌<◌, ◌↔◌, ℕ, List, length, map, min, IfOk, IfErr, IsTrue};
+ghost use Rattle.gl_box.specs.Closed.{box_of};
+ghost use Rattle.gl_proof.specs.Claim.{fix_lines, statement_of};
+ghost use Rattle.gl_proof.specs.Number.{is_number};
+ghost use Rattle.gl_proof.specs.Passage.{AreBoxesAt, AreClaimedAt, IsClaimRead, IsMisfit, LacksClaim, LacksFixes, OrMemory};
+ghost use Rattle.gl_proof.specs.Refusal.{HasLine};
+
+use crate::claim::Claim;
+use crate::error::ProofError;
+use crate::front::behind;
+use crate::line::{box_line_at, claim_line_at, fixes_at};
+use gl_box::Closed;
+use gl_desk::Name;
+use std::alloc::{AllocError, Global};
+use std::str::from_utf8;
+
+/// The fewest bytes of a box's line behind its word: a letter, a space, a span and LF.
+const LEAST_BOX: usize = 6;
+
+/// The number of the line that stands so many lines later, as it is told.
+pub fn later(line: u32, lines: usize) -> u32
+    ensures { result ≡ min (line + lines) 4_294_967_295 }
+{
+    line.saturating_add(lines.min(u32::MAX as usize) as u32)
+}
+
+/// Whether LF comes in a text.
+fn has_line(text: &[u8]) -> bool
+    ensures { IsTrue result ↔ HasLine text.now }
+{
+    text.contains(&b'\n')
+}
+
+/// What is told of the line at the front of a text, which has this number, where it can't stand
+/// there.
+fn misfit(text: &[u8], line: u32) -> ProofError
+    ensures { IsMisfit text.now line result }
+{
+    if has_line(text) {
+        return ProofError::Line(line);
+    }
+    ProofError::Cut
+}
+
+/// How many lines at the front of a text look like boxes: so many can be there at most, and each of
+/// them takes 10 bytes at least.
+fn count_boxes(text: &[u8]) -> usize
+    ensures { 10 * result ≤ length text.now }
+{
+    let mut count = 0;
+    let mut rest = text;
+    'lines: while let Some(line) = behind(rest, b"BOX ") {
+        match line.iter().position(|&byte| byte == b'\n') {
+            Some(end) if end + 1 >= LEAST_BOX => {
+                count += 1;
+                rest = &line[end + 1..];
+            }
+            _ => return count,
+        }
+    }
+    count
+}
+
+/// The boxes whose lines stand at the front of a text, and what follows them. They are counted
+/// first, so that their list takes the memory of its boxes and no more. The only error is want of
+/// memory.
+fn boxes_at(alloc: Global, text: &[u8]) -> Result<(Vec<Closed>, &[u8]), AllocError>
+    ensures { IfOk result (λ read. AreBoxesAt text.now (map box_of read.0.items) read.1.now) }
+{
+    let mut cells = Vec::with_capacity(alloc, count_boxes(text))?;
+    let mut rest = text;
+    'boxes: while let Some((closed, after)) = box_line_at(rest) {
+        cells.push(closed)?;
+        rest = after;
+    }
+    Ok((cells, rest))
+}
+
+/// The numbers of the fixes whose line stands at the front of a text where there is a total, and
+/// what follows it. That line has this number.
+fn claimed_at(
+    alloc: Global,
+    total: Option<u64>,
+    text: &[u8],
+    line: u32,
+) -> Result<(Vec<u32>, &[u8]), ProofError>
+    ensures ok { IfOk result (λ read. AreClaimedAt total text.now read.0.items read.1.now) }
+    ensures refused { IfErr result (λ error.
+        OrMemory error (LacksFixes total text.now line error)) }
+{
+    if total.is_none() {
+        return Ok((Vec::new(alloc), text));
+    }
+    let Some(words) = behind(text, b"FIX") else {
+        return Err(misfit(text, line));
+    };
+    let Some(read) = fixes_at(alloc, words)? else {
+        return Err(misfit(text, line));
+    };
+    Ok(read)
+}
+
+/// How many lines of a claim stand before its boxes.
+fn lines_before_boxes(total: Option<u64>) -> usize
+    ensures { (fixes : List ℕ) → result ≡ 1 + length (fix_lines total fixes) }
+{
+    match total {
+        None => 1,
+        Some(_) => 2,
+    }
+}
+
+/// The name of an entrant's number. The only error is want of memory.
+fn name_of(alloc: Global, number: &[u8]) -> Result<Name, AllocError>
+    requires { IsTrue (is_number number.now) }
+    ensures { IfOk result (λ name. name ≡ number.now) }
+{
+    let Ok(text) = from_utf8(number) else {
+        unreachable!();
+    };
+    Name::from_text(alloc, text)
+}
+
+/// The claim whose lines stand at the front of a text, what follows them, and the number of the line
+/// that follows. The first of them has the number that is given.
+pub fn claim_at(alloc: Global, text: &[u8], line: u32) -> Result<(Claim, &[u8], u32), ProofError>
+    ensures ok { IfOk result (λ read.
+        IsClaimRead text.now line (statement_of read.0) read.1.now read.2) }
+    ensures refused { IfErr result (λ error. OrMemory error (LacksClaim text.now line error)) }
+{
+    let Some((front, rest)) = claim_line_at(text) else {
+        return Err(misfit(text, line));
+    };
+    let (fixes, rest) = match claimed_at(alloc, front.total, rest, later(line, 1)) {
+        Ok(read) => read,
+        Err(error) => return Err(error),
+    };
+    let (cells, rest) = boxes_at(alloc, rest)?;
+    let behind_front = later(line, lines_before_boxes(front.total));
+    let next = later(behind_front, cells.len());
+    let claim = Claim {
+        number: name_of(alloc, front.number)?,
+        kind: front.kind,
+        total: front.total,
+        fixes,
+        cells,
+    };
+    Ok((claim, rest, next))
+}

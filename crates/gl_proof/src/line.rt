@@ -1,0 +1,142 @@
+ghost use Rattle.std.specs.Prelude.{◌≡◌, ◌≤◌, ℕ, List, length, IfOk};
+ghost use Rattle.gl_box.specs.Cell.{spans_of};
+ghost use Rattle.gl_box.specs.Closed.{box_of};
+ghost use Rattle.gl_proof.specs.Fronts.{AreFixesAt, AreSpansAt, IsBoxAt, IsClaimAt, IsKindAt, IsReasonAt, IsTotalAt, Reads};
+ghost use Rattle.gl_proof.specs.ClaimFront.{said_of};
+
+use crate::claim::ClaimKind;
+use crate::front::{behind, entrant_at, number_at, short_number_at, span_at};
+use gl_box::{Cell, Closed, MOST_AXES, Span, Why};
+use std::alloc::{AllocError, Global};
+
+/// What the first line of a claim says.
+#[derive(Clone, Copy, Debug)]
+pub struct ClaimFront<'a> {
+    /// The number of the entrant.
+    pub number: &'a [u8],
+    pub kind: ClaimKind,
+    pub total: Option<u64>,
+}
+
+/// The reason whose letter stands at the front of a text, and what follows it.
+fn reason_at(text: &[u8]) -> Option<(Why, &[u8])>
+    ensures { Reads (λ why. why) (IsReasonAt text.now) result }
+{
+    if let Some(rest) = behind(text, b"D") {
+        return Some((Why::Disordered, rest));
+    }
+    if let Some(rest) = behind(text, b"S") {
+        return Some((Why::Shut, rest));
+    }
+    if let Some(rest) = behind(text, b"B") {
+        return Some((Why::Bound, rest));
+    }
+    None
+}
+
+/// The cell whose spans stand at the front of a text, each behind a space and LF behind the last
+/// one, and what follows.
+fn cell_at(text: &[u8]) -> Option<(Cell, &[u8])>
+    ensures { Reads spans_of (AreSpansAt text.now) result }
+{
+    let mut spans = [Span { lo: 0, hi: 0 }; MOST_AXES];
+    let mut axes = 0;
+    let mut rest = text;
+    'axes: while let Some(word) = behind(rest, b" ") {
+        if axes == MOST_AXES {
+            return None;
+        }
+        let (span, after) = span_at(word)?;
+        spans[axes] = span;
+        axes += 1;
+        rest = after;
+    }
+    let rest = behind(rest, b"\n")?;
+    if axes == 0 {
+        return None;
+    }
+    let axes = axes as u8;
+    Some((Cell { axes, spans }, rest))
+}
+
+/// The box whose line stands at the front of a text, and what follows.
+pub fn box_line_at(text: &[u8]) -> Option<(Closed, &[u8])>
+    ensures { Reads box_of (IsBoxAt text.now) result }
+{
+    let (why, rest) = reason_at(behind(text, b"BOX ")?)?;
+    let (cell, rest) = cell_at(rest)?;
+    Some((Closed { cell, why }, rest))
+}
+
+/// The numbers of fixes at the front of a text, each behind a space and LF behind the last one, and
+/// what follows. The only error is want of memory.
+pub fn fixes_at(alloc: Global, text: &[u8]) -> Result<Option<(Vec<u32>, &[u8])>, AllocError>
+    ensures { IfOk result (Reads (λ fixes. fixes.items) (AreFixesAt text.now)) }
+{
+    let mut fixes = Vec::with_capacity(alloc, MOST_AXES)?;
+    let mut rest = text;
+    'fixes: while let Some(word) = behind(rest, b" ") {
+        if fixes.len() == MOST_AXES {
+            return Ok(None);
+        }
+        let Some((fix, after)) = short_number_at(word) else {
+            return Ok(None);
+        };
+        fixes.push(fix)?;
+        rest = after;
+    }
+    let Some(after) = behind(rest, b"\n") else {
+        return Ok(None);
+    };
+    if fixes.is_empty() {
+        return Ok(None);
+    }
+    Ok(Some((fixes, after)))
+}
+
+/// The kind of claim whose word stands at the front of a text with a space behind it, and what
+/// follows that.
+fn kind_at(text: &[u8]) -> Option<(ClaimKind, &[u8])>
+    ensures { Reads (λ kind. kind) (IsKindAt text.now) result }
+{
+    if let Some(rest) = behind(text, b"AREA ") {
+        return Some((ClaimKind::Area, rest));
+    }
+    if let Some(rest) = behind(text, b"OUT ") {
+        return Some((ClaimKind::Out, rest));
+    }
+    if let Some(rest) = behind(text, b"FREE ") {
+        return Some((ClaimKind::Free, rest));
+    }
+    if let Some(rest) = behind(text, b"TRIANGLE ") {
+        return Some((ClaimKind::Triangle, rest));
+    }
+    None
+}
+
+/// The total at the front of a text with LF behind it, and what follows that.
+fn total_at(text: &[u8]) -> Option<(Option<u64>, &[u8])>
+    ensures { Reads (λ total. total) (IsTotalAt text.now) result }
+{
+    if let Some(rest) = behind(text, b"NONE\n") {
+        return Some((None, rest));
+    }
+    let (total, rest) = number_at(text)?;
+    let rest = behind(rest, b"\n")?;
+    Some((Some(total), rest))
+}
+
+/// What the first line of a claim says, which stands at the front of a text, and what follows.
+pub fn claim_line_at(text: &[u8]) -> Option<(ClaimFront<'_>, &[u8])>
+    ensures { Reads said_of (IsClaimAt text.now) result }
+{
+    let (number, rest) = entrant_at(behind(text, b"CLAIM ")?)?;
+    let (kind, rest) = kind_at(rest)?;
+    let (total, rest) = total_at(rest)?;
+    let front = ClaimFront {
+        number,
+        kind,
+        total,
+    };
+    Some((front, rest))
+}

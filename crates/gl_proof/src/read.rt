@@ -1,0 +1,72 @@
+ghost use Rattle.std.specs.Prelude.{◌≡◌, ◌≢◌, ◌↔◌, ◌⊎◌, ◌++◌, ℕ, List, IfOk, IfErr, IsErrOf, IsTrue, MatchResult};
+ghost use Rattle.gl_proof.specs.declared.error.ProofError.{ProofError};
+ghost use Rattle.gl_proof.specs.declared.error.ProofError.TheVariants.{Memory};
+ghost use Rattle.gl_proof.specs.Claim.{Statement};
+ghost use Rattle.gl_proof.specs.Line.{EndLine, ended};
+ghost use Rattle.gl_proof.specs.Refusal.{IsRefused};
+ghost use Rattle.gl_proof.specs.Text.{IsTextOf, statements_of};
+
+use crate::claim_lines::{claim_at, later};
+use crate::error::ProofError;
+use crate::front::behind;
+use crate::proof::Proof;
+use std::alloc::Global;
+
+/// The heading of a proof, which tells the version of the format.
+const HEADING: &[u8] = b"GLIDEPROOF 1\n";
+
+/// The line with which a proof ends.
+const END: &[u8] = b"END\n";
+
+/// Whether the line at the front of a text ends a proof.
+fn is_end(text: &[u8]) -> bool
+    ensures { IsTrue result ↔ ((rest : List ℕ) × (text.now ≡ ended EndLine ++ rest)) }
+{
+    behind(text, END).is_some()
+}
+
+/// The proof of a text, or why it is none.
+fn read_lines(alloc: Global, text: &[u8]) -> Result<Proof, ProofError>
+    ensures ok { IfOk result (λ proof. IsTextOf text.now (statements_of proof)) }
+    ensures refused { IfErr result (IsRefused text.now) }
+{
+    let Some(mut rest) = behind(text, HEADING) else {
+        return Err(ProofError::Heading);
+    };
+    let mut line = 2;
+    let mut claims = Vec::new(alloc);
+    'claims: while !is_end(rest) {
+        let (claim, after, next) = match claim_at(alloc, rest, line) {
+            Ok(read) => read,
+            Err(error) => return Err(error),
+        };
+        claims.push(claim)?;
+        rest = after;
+        line = next;
+    }
+    if rest.len() > END.len() {
+        return Err(ProofError::Line(later(line, 1)));
+    }
+    Ok(Proof { claims })
+}
+
+/// Reads a proof from its text, as docs/proof-file.md has it: the one proof with this text. So what
+/// was written is read again, and there is no second spelling of a proof.
+///
+/// [`ProofError::Heading`] comes where the text doesn't begin with the heading and its LF,
+/// [`ProofError::Line`] with the first line, ended by LF, that may not stand where it stands, or
+/// that begins behind the end, and [`ProofError::Cut`] where neither of these is so and the end is
+/// missing; [`ProofError::Memory`] only for want of memory.
+pub fn read_proof(alloc: Global, text: &[u8]) -> Result<Proof, ProofError>
+    // What is read has this text, and what has this text is read.
+    ensures ok { IfOk result (λ proof. IsTextOf text.now (statements_of proof)) }
+    ensures only { (statements : List Statement) → IsTextOf text.now statements
+        → MatchResult result (λ proof. statements_of proof ≡ statements) (λ error. error ≡ Memory) }
+
+    // What is told is so, and what is so is told.
+    ensures refused { IfErr result (IsRefused text.now) }
+    ensures exact { (error : ProofError) → error ≢ Memory → IsRefused text.now error
+        → IsErrOf result error ⊎ IsErrOf result Memory }
+{
+    read_lines(alloc, text)
+}
