@@ -22,7 +22,7 @@ use Rattle.gl_goal.specs.Rule.{IsInTimeOrder, IsLegal, IsTuple, Rule, chosen}
 use Rattle.gl_goal.specs.Laws.Free.{numbers_from-rises}
 use Rattle.gl_judge.specs.Choices.{numbers_before, numbers_in_zone, zone_lists}
 use Rattle.gl_judge.specs.Visits.{HasVisit, IsVisit, VisitsFirst, last_of}
-use Rattle.gl_judge.proofs.Numbers.{IsPlaced, before-named, before-placed, zone-named, zone-placed, zone-rises}
+use Rattle.gl_judge.proofs.Numbers.{before-named, before-placed, zone-named, zone-placed, zone-rises}
 use Rattle.gl_judge.proofs.Routes.{last-after}
 
 -- a choice from lists that names these fixes, in time order

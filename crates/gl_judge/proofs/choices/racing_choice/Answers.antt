@@ -1,4 +1,4 @@
-use Rattle.std.proofs.Common.{◌∙◌, ◌≤◌, ◌<◌, ◌+◌, arith}
+use Rattle.std.proofs.Common.{◌∙◌, ◌<◌, ◌+◌, arith}
 use Rattle.std.proofs.lemmas.Result.{IfOk-weaker}
 use Rattle.gl_judge.proofs.Tours.{legal-as, lists-as, one-list, out_goal-as, racing-legal, racing-lists}
 use Rattle.gl_judge.proofs.choices.racing_choice.Goals as goal

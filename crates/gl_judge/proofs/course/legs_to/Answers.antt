@@ -1,5 +1,5 @@
-use Rattle.std.proofs.Common.{◌∙◌, ◌≡◌, ◌+◌, ◌<◌, ◌≤◌, List, ap, get_or, length, map, take, ◌++◌, ◌∷◌, [], arith}
-use Rattle.std.proofs.lemmas.List.{get_or-take, length-take, length-take-le}
+use Rattle.std.proofs.Common.{◌∙◌, ◌≡◌, ◌+◌, ◌<◌, List, ap, get_or, length, map, take, ◌++◌, ◌∷◌, [], arith}
+use Rattle.std.proofs.lemmas.List.{get_or-take, length-take-le}
 use Rattle.gl_zone.specs.declared.zone.Zone.{Zone}
 use Rattle.gl_goal.specs.Chain.{legs}
 use Rattle.gl_goal.proofs.Listed.{way_more}
