@@ -82,7 +82,9 @@ impl Goal for AreaGoal {
 
     #[inline]
     fn bound(&self, cell: &Cell) -> u64 {
-        let way = self.lists.greatest_way(Hull::point(self.start), cell, self.lists.count());
+        let way = self
+            .lists
+            .greatest_way(Hull::point(self.start), cell, self.lists.count());
         (way.length + leg_at_most(&way.end, &Hull::point(self.finish))).saturating_sub(self.off)
     }
 

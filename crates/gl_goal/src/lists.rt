@@ -60,11 +60,7 @@ impl Lists {
     ghost use Rattle.gl_goal.specs.Rule.{IsDisordered, IsInTimeOrder, IsTuple, chosen, fix_at, whole_cell};
 
     /// The lists with these numbers of fixes. The only error is want of memory.
-    pub fn new(
-        alloc: Global,
-        fixes: &[Fix],
-        lists: Vec<Vec<u32>>,
-    ) -> Result<Lists, AllocError>
+    pub fn new(alloc: Global, fixes: &[Fix], lists: Vec<Vec<u32>>) -> Result<Lists, AllocError>
         requires most { length fixes.now ≤ 90_000 }
         requires lists { AreLists fixes.now (map (λ list. list.items) lists.items) }
         ensures fixes { IfOk result (λ made. made.fixes ≡ fixes.now) }
@@ -126,7 +122,9 @@ impl Lists {
         ensures { slice_get (hulls_of self.now.fixes self.now.lists (spans_of cell.now)) axis
             ≡ Some (box_of result) }
     {
-        self.axes[axis as usize].hulls.hull(cell.spans[axis as usize])
+        self.axes[axis as usize]
+            .hulls
+            .hull(cell.spans[axis as usize])
     }
 
     /// Whether the fixes that a tuple chooses are in time order.

@@ -85,7 +85,8 @@ fn racing_choice(
     lists.push(numbers_of(alloc, stretch)?)?;
     let start = course_point(task, count);
     let target = course_point(task, count + 1);
-    OutGoal::new(alloc, rec.fixes.as_slice(), lists, start, legs_to(task, count), target)
+    let fixed = legs_to(task, count);
+    OutGoal::new(alloc, rec.fixes.as_slice(), lists, start, fixed, target)
 }
 
 /// The choice of an outlanding in a task of areas: a fix in each visited zone, and the fix that comes

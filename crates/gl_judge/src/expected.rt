@@ -63,7 +63,8 @@ fn free_claim(
     }
     let fixes = rec.fixes.as_slice();
     let last = judged.to - 1;
-    let goal = FreeGoal::new(alloc, fixes, judged.from as u32, last as u32, task.rules.loss)?;
+    let first = judged.from as u32;
+    let goal = FreeGoal::new(alloc, fixes, first, last as u32, task.rules.loss)?;
     Ok(Some((ClaimKind::Free, AnyGoal::Free(goal))))
 }
 

@@ -18,9 +18,9 @@ mod visits;
 mod zone_lists;
 
 pub use expected::claims;
+pub use gl_proof::ClaimKind;
 pub use judged_fixes::judged_range;
 pub use judging::judge;
-pub use gl_proof::ClaimKind;
 pub use marking::mark;
 pub use outcome::{Judged, Window};
 
