@@ -156,8 +156,8 @@ fn outcome_of(task: &Task, rec: &Recording, judged: Stretch) -> Judged
 /// With a complete start, which is a legal one after which every zone is visited in order and the
 /// finish reached, the flight finished: the window is from the last complete start to the first
 /// finish that completes it. Else, with a legal start, it landed out: the window is from the first
-/// legal start to the last judged fix, and `zones` is the greatest number of zones that were visited
-/// in order.
+/// legal start to the last judged fix, and `zones` is the greatest number of zones that were
+/// visited in order.
 pub fn judge(task: &Task, air: &Airspace, rec: &Recording) -> Judged
     ensures judged { IsJudged task.now air.now rec.now result }
     ensures seconds { OnFinished result (λ window seconds. seconds ≤ 100_000) }
