@@ -1,5 +1,5 @@
 -- What isn't below or above a number.
-use Rattle.std.proofs.Common.{◌≡◌, ℕ, ◌+◌, ◌<◌, ◌≤◌, Option, Some, None, true, subst, arith, inl, inr}
+use Rattle.std.proofs.Common.{◌≡◌, ℕ, ◌+◌, ◌<◌, ◌≤◌, Option, Some, None, true, refl, subst, arith, inl, inr}
 use Rattle.std.specs.Prelude.{IfSome, IfNone, is_some}
 use Rattle.std.proofs.lemmas.Bool.{cases_lt}
 
@@ -42,3 +42,7 @@ none_when (Some x) P h = tt
 pub some_is : {X : Type 0} (o : Option X) (P : X → Type 0) → is_some o ≡ true → IfSome o P → (x : X) × P x
 some_is None P is h = absurd (cc)
 some_is (Some x) P is h = (x, h)
+
+pub is_some_when : {X : Type 0} (o : Option X) (P : Type 0) → IfNone o P → (P → ⊥) → is_some o ≡ true
+is_some_when None P h not = absurd (not h)
+is_some_when (Some x) P h not = refl

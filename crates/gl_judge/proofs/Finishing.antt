@@ -76,3 +76,31 @@ is-finished task recording judged window seconds last time first start least fin
       finish = finishes;
       flown = flown;
     }
+
+-- the zones can be finished where all of them are visited and some finish comes after that
+pub finishes-all : (task : Task) (recording : Recording) (judged : ℕ × ℕ) (from count last f : ℕ) (time : ℤ) → count ≡ length task.zones → IsLeast (HasVisit recording.fixes judged (take count task.zones) from) last → IsFinish task.finish recording.fixes judged last f time
+    → CanFinish task.finish recording.fixes judged task.zones from
+finishes-all task recording judged from count last f time all least finish =
+    let whole : take count task.zones ≡ task.zones = ap (λ (n : ℕ). take n task.zones) all ∙ take-length task.zones in
+    let visited : HasVisit recording.fixes judged task.zones from last = subst (λ (zones : List Zone). HasVisit recording.fixes judged zones from last) whole least.is in
+    record { f = f; time = time; finishes = record { last = last; visited = visited; finished = finish } }
+
+-- and only there
+pub all-counted : (task : Task) (recording : Recording) (judged : ℕ × ℕ) (from count : ℕ) → IsGreatest (VisitsFirst recording.fixes judged task.zones from) count → CanFinish task.finish recording.fixes judged task.zones from → count ≡ length task.zones
+all-counted task recording judged from count most c =
+    let whole : HasVisit recording.fixes judged (take (length task.zones) task.zones) from c.finishes.last = subst (λ (some : List Zone). HasVisit recording.fixes judged some from c.finishes.last) (sym (take-length task.zones)) c.finishes.visited in
+    let more : length task.zones ≤ count = most.greatest (length task.zones) (record { within = omega arith; last = c.finishes.last; visited = whole }) in
+    let within : count ≤ length task.zones = most.is.within in
+    omega arith
+
+pub finish-after : (task : Task) (recording : Recording) (judged : ℕ × ℕ) (from count last : ℕ) → IsGreatest (VisitsFirst recording.fixes judged task.zones from) count → IsLeast (HasVisit recording.fixes judged (take count task.zones) from) last
+    → CanFinish task.finish recording.fixes judged task.zones from → ((f : ℕ) (time : ℤ) → IsFinish task.finish recording.fixes judged last f time → ⊥) → ⊥
+finish-after task recording judged from count last most least c none =
+    let all : IsLeast (HasVisit recording.fixes judged task.zones from) last = least-all recording.fixes judged task.zones from count last c.finishes.last most c.finishes.visited least in
+    let le : last ≤ c.finishes.last = all.least c.finishes.last c.finishes.visited in
+    none c.f c.time (finish-earlier task.finish recording.fixes judged c.finishes.last last c.f c.time le c.finishes.finished)
+
+-- where the first start can't be completed, no start can
+pub none-complete : (task : Task) (recording : Recording) (judged : ℕ × ℕ) (first : ℕ) → IsLeast (IsStart task.start recording judged) first → (CanFinish task.finish recording.fixes judged task.zones first → ⊥) → (b : ℕ) → IsCompleteStart task recording judged b → ⊥
+none-complete task recording judged first least none b h =
+    none (can_finish-earlier task.finish recording.fixes judged task.zones b first (least.least b h.start) h.completed)

@@ -9,8 +9,9 @@ use Rattle.gl_airspace.specs.Inside.{is_inside}
 abbrev pub is_in_airspace : List Volume → Fix → Bool
 is_in_airspace volumes fix = list_any (λ volume. is_inside volume fix) volumes
 
--- The fix of this number is judged: a fix up to it has second 0 or more; none up to it is later than
--- the last second that counts; and none up to it is inside a volume, of those with second 0 or more.
+-- The fix of this number is judged: a fix up to it has second 0 or more; none up to it is later
+-- than the last second that counts; and of those up to it with second 0 or more none is inside a
+-- volume.
 pub record IsJudgedFix (closes : ℤ) (volumes : List Volume) (fixes : List Fix) (i : ℕ)
     : Type 0 where
   pub there : i < length fixes

@@ -12,8 +12,8 @@ pub record IsInZone (fixes : List Fix) (judged : ℕ × ℕ) (zone : Zone) (i : 
   pub is_judged : IsInRange judged i
   pub inside : IsSomeAnd (slice_get fixes i) (λ fix. IsTrue (is_in_zone zone fix.at))
 
--- A visit of some zones from a fix on: for each zone the number of a judged fix in it, none below the
--- number for the zone before, and the first not below that fix.
+-- A visit of some zones from a fix on: for each zone the number of a judged fix in it, none below
+-- the number for the zone before, and the first not below that fix.
 abbrev pub IsVisit : List Fix → ℕ × ℕ → List Zone → ℕ → List ℕ → Type 0
 IsVisit fixes judged [] from [] = Unit {0}
 IsVisit fixes judged [] from (z ∷ zs) = ⊥

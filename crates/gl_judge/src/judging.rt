@@ -1,10 +1,10 @@
-ghost use Rattle.std.specs.Prelude.{ℕ, ◌≡◌, ◌≤◌, ◌≤ℤ◌, ◌-ℤ◌, pos, length, IfSome, IfNone};
+ghost use Rattle.std.specs.Prelude.{ℕ, ◌≡◌, ◌≤◌, ◌≤ℤ◌, ◌-ℤ◌, ◌↔◌, pos, IsTrue, length, take, IfSome, IfNone};
 ghost use Rattle.gl_judge.specs.Greatest.{IsGreatest, IsLeast};
 ghost use Rattle.gl_judge.specs.JudgedFixes.{IsInRange};
 ghost use Rattle.gl_judge.specs.Outcome.{IsCompleteStart, IsJudged, IsOutcome, OnFinished};
 ghost use Rattle.gl_judge.specs.Starts.{IsLegalStart, IsStart};
 ghost use Rattle.gl_judge.specs.Stretch.{range_of};
-ghost use Rattle.gl_judge.specs.Visits.{HasVisit};
+ghost use Rattle.gl_judge.specs.Visits.{CanFinish, HasVisit, VisitsFirst};
 
 use crate::finishes::first_finish;
 use crate::judged_fixes::judged_fixes;
@@ -12,7 +12,7 @@ use crate::outcome::{Judged, Window};
 use crate::passing::Passing;
 use crate::starts::{first_start, last_start};
 use crate::stretch::Stretch;
-use crate::visits::{last_ready, visit_zones};
+use crate::visits::{Visited, last_ready, visit_zones};
 use gl_airspace::Airspace;
 use gl_igc::Recording;
 use gl_task::Task;
@@ -72,35 +72,71 @@ fn finished(task: &Task, rec: &Recording, judged: Stretch, start: Passing) -> Ju
     }
 }
 
+/// The outcome of a flight with a complete start.
+fn finished_from_last(task: &Task, rec: &Recording, judged: Stretch, first: usize) -> Judged
+    requires to_in_list { judged.to ≤ length rec.now.fixes }
+    requires complete { IsCompleteStart task.now rec.now (range_of judged) first }
+    ensures { IsOutcome task.now rec.now (range_of judged) result }
+{
+    match last_complete_start(task, rec, judged) {
+        Some(start) => finished(task, rec, judged, start),
+        None => unreachable!(),
+    }
+}
+
 /// The outcome of a flight without a complete start, whose first legal start is this.
-fn outlanded(task: &Task, rec: &Recording, judged: Stretch, start: Passing) -> Judged
+fn outlanded(task: &Task, rec: &Recording, judged: Stretch, start: Passing, count: usize) -> Judged
     requires to_in_list { judged.to ≤ length rec.now.fixes }
     requires legal { IsLegalStart task.now.start rec.now (range_of judged) start.fix start.second }
     requires first { IsLeast (IsStart task.now.start rec.now (range_of judged)) start.fix }
     requires incomplete { (b : ℕ) → IsCompleteStart task.now rec.now (range_of judged) b → ⊥ }
+    requires visited { IsGreatest
+        (VisitsFirst rec.now.fixes (range_of judged) task.now.zones start.fix) count }
     ensures { IsOutcome task.now rec.now (range_of judged) result }
 {
-    let zones = task.zones.as_slice();
-    let visited = visit_zones(zones, rec.fixes.as_slice(), judged, start.fix);
     Judged::Outlanded {
         window: Window {
             first: start.fix as u32,
             last: (judged.to - 1) as u32,
             start: start.second,
         },
-        zones: visited.count as u8,
+        zones: count as u8,
     }
 }
 
-/// The outcome of a flight without a complete start.
-fn unfinished(task: &Task, rec: &Recording, judged: Stretch) -> Judged
+/// Whether the zones can be visited from the fix of a number on with a finish after them, where the
+/// visits got so far from it.
+fn can_finish(task: &Task, rec: &Recording, judged: Stretch, from: usize, visited: Visited) -> bool
     requires to_in_list { judged.to ≤ length rec.now.fixes }
-    requires incomplete { (b : ℕ) → IsCompleteStart task.now rec.now (range_of judged) b → ⊥ }
+    requires judged { IsInRange (range_of judged) visited.last }
+    requires most { IsGreatest
+        (VisitsFirst rec.now.fixes (range_of judged) task.now.zones from) visited.count }
+    requires least { IsLeast
+        (HasVisit rec.now.fixes (range_of judged) (take visited.count task.now.zones) from)
+        visited.last }
+    ensures { IsTrue result
+        ↔ CanFinish task.now.finish rec.now.fixes (range_of judged) task.now.zones from }
+{
+    if visited.count < task.zones.len() {
+        return false;
+    }
+    first_finish(&task.finish, rec, judged, visited.last).is_some()
+}
+
+/// The outcome of a flight whose first legal start is this. From no later start on more zones are
+/// visited, so one pass shows whether any start is complete.
+fn outcome_from(task: &Task, rec: &Recording, judged: Stretch, first: Passing) -> Judged
+    requires to_in_list { judged.to ≤ length rec.now.fixes }
+    requires legal { IsLegalStart task.now.start rec.now (range_of judged) first.fix first.second }
+    requires first { IsLeast (IsStart task.now.start rec.now (range_of judged)) first.fix }
     ensures { IsOutcome task.now rec.now (range_of judged) result }
 {
-    match first_start(&task.start, rec, judged) {
-        Some(start) => outlanded(task, rec, judged, start),
-        None => Judged::NoStart,
+    let zones = task.zones.as_slice();
+    let visited = visit_zones(zones, rec.fixes.as_slice(), judged, first.fix);
+    if can_finish(task, rec, judged, first.fix, visited) {
+        finished_from_last(task, rec, judged, first.fix)
+    } else {
+        outlanded(task, rec, judged, first, visited.count)
     }
 }
 
@@ -109,9 +145,9 @@ pub(crate) fn outcome_of(task: &Task, rec: &Recording, judged: Stretch) -> Judge
     requires { judged.to ≤ length rec.now.fixes }
     ensures { IsOutcome task.now rec.now (range_of judged) result }
 {
-    match last_complete_start(task, rec, judged) {
-        Some(start) => finished(task, rec, judged, start),
-        None => unfinished(task, rec, judged),
+    match first_start(&task.start, rec, judged) {
+        Some(first) => outcome_from(task, rec, judged, first),
+        None => Judged::NoStart,
     }
 }
 
@@ -120,8 +156,8 @@ pub(crate) fn outcome_of(task: &Task, rec: &Recording, judged: Stretch) -> Judge
 /// With a complete start, which is a legal one after which every zone is visited in order and the
 /// finish reached, the flight finished: the window is from the last complete start to the first
 /// finish that completes it. Else, with a legal start, it landed out: the window is from the first
-/// legal start to the last judged fix, and `zones` is the greatest number of zones that were visited
-/// in order.
+/// legal start to the last judged fix, and `zones` is the greatest number of zones that were
+/// visited in order.
 pub fn judge(task: &Task, air: &Airspace, rec: &Recording) -> Judged
     ensures judged { IsJudged task.now air.now rec.now result }
     ensures seconds { OnFinished result (λ window seconds. seconds ≤ 100_000) }

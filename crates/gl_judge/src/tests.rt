@@ -43,7 +43,8 @@ fn place(letter: &str) -> &'static str {
     }
 }
 
-/// The recording of a flight: its day, DDMMYY, and for each fix its time and the letter of its place.
+/// The recording of a flight: its day, DDMMYY, and for each fix its time and the letter of its
+/// place.
 fn recording(alloc: Global, flight: &str) -> Result<Recording, Fail> {
     let (day, fixes) = flight.split_once(' ').ok_or("no day")?;
     let mut text = format!(in alloc; "AXXXABC\nHFDTE{day}\n")?;
@@ -56,8 +57,8 @@ fn recording(alloc: Global, flight: &str) -> Result<Recording, Fail> {
     Ok(read_igc(alloc, text.as_bytes(), Some(DAY))?)
 }
 
-/// How a flight is judged, in words: the first fix, the last fix and the start of its window, and its
-/// seconds or its zones.
+/// How a flight is judged, in words: the first fix, the last fix and the start of its window, and
+/// its seconds or its zones.
 fn told(alloc: Global, judged: Judged) -> Result<String, AllocError> {
     match judged {
         Judged::Finished { window, seconds } => format!(in alloc;

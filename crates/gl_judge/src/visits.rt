@@ -11,8 +11,8 @@ use gl_igc::{Fix, Recording};
 use gl_task::Task;
 use gl_zone::{Zone, holds};
 
-/// How far a task was flown: how many of its zones were visited, and the fix in the last of them, or
-/// that of the start.
+/// How far a task was flown: how many of its zones were visited, and the fix in the last of them,
+/// or that of the start.
 #[derive(Clone, Copy, Debug)]
 pub(crate) struct Visited {
     pub count: usize,
@@ -71,7 +71,8 @@ pub(crate) fn visit_zones(zones: &[Zone], fixes: &[Fix], judged: Stretch, from: 
     requires to_in_list { judged.to ≤ length fixes.now }
     requires from_judged { IsInRange (range_of judged) from }
     ensures judged { IsInRange (range_of judged) result.last }
-    ensures most { IsGreatest (VisitsFirst fixes.now (range_of judged) zones.now from) result.count }
+    ensures most { IsGreatest
+        (VisitsFirst fixes.now (range_of judged) zones.now from) result.count }
     ensures least { IsLeast
         (HasVisit fixes.now (range_of judged) (take result.count zones.now) from) result.last }
 {

@@ -89,8 +89,8 @@ const AT_THE_EDGES: &str = "\
     010724 100000-W 101000-E 102000-x 103000-y 104000-y 110640-f: finished 1 5 36300 3700\n\
     010724 100000-W 101000-E 102000-x 103000-y 104000-y 110641-f: outlanded 1 4 36300 3\n";
 
-/// Flights each of whose fixes is in all zones and in the ring, one of them without a second between
-/// start and finish.
+/// Flights each of whose fixes is in all zones and in the ring, one of them without a second
+/// between start and finish.
 const WITHIN_THE_RING: &str = "\
     010724 100000-W 101000-o 102000-a: finished 1 1 36600 0\n\
     010724 100000-W 101000-a 102000-W 103000-x 104000-f: finished 3 3 37250 550\n";
