@@ -59,10 +59,10 @@ abbrev pub IsFirst : Rule → Option ℕ → List ℕ → List (List (ℕ × ℕ
 IsFirst rule total fixes boxes number IsWrong =
     (place : ℕ) × NumbersBox number place × ComesTo rule total fixes boxes place × IsWrong place
 
--- The first of these that holds. Fixes: there is a total, and no legal tuple has these fixes. Total:
--- they aren't worth the total. Then the first box that is wrong. Extra: the boxes before it are
--- already the whole. Place: with it they begin no partition of the whole. Cell: it isn't closed.
--- Open: the boxes end before they are the whole. Yes: nothing is wrong.
+-- The first of these that holds. Fixes: there is a total, and no legal tuple has these fixes.
+-- Total: they aren't worth the total. Then the first box that is wrong. Extra: the boxes before it
+-- are already the whole. Place: with it they begin no partition of the whole. Cell: it isn't
+-- closed. Open: the boxes end before they are the whole. Yes: nothing is wrong.
 abbrev pub IsVerdict : Rule → Option ℕ → List ℕ → List (List (ℕ × ℕ) × Why) → Verdict → Type 0
 IsVerdict rule total fixes boxes Yes = IsCertificate rule total fixes boxes
 IsVerdict rule total fixes boxes Fixes =

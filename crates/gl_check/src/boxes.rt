@@ -58,7 +58,8 @@ fn walk_boxes<G: Goal>(
     opened: &mut Vec<Cell>,
     legs: &mut [Leg],
 ) -> Result<Verdict, AllocError>
-    requires walked { IsWalked (whole_cell (G.rule goal.now).axes) [] (open_cells opened.old.items) }
+    requires walked { IsWalked (whole_cell (G.rule goal.now).axes) []
+        (open_cells opened.old.items) }
     requires legs { G.are_legs goal.now legs.old }
     ensures { IfOk result (λ verdict. (fixes : List ℕ)
         → IsClaimed (G.rule goal.now) total fixes

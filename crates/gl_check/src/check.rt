@@ -20,10 +20,10 @@ fn verdict_of<G: Goal>(alloc: Global, goal: &G, claim: &Claim) -> Result<Verdict
     check_boxes(alloc, goal, claim.total, claim.cells.as_slice())
 }
 
-/// Checks a claim against a goal: `Yes` exactly where its boxes certify its total and its fixes, and
-/// else the first thing that is wrong, in the order of [`Verdict`] and then of the boxes. Nothing is
-/// taken on trust of whoever made the claim. Where the answer is `Yes`, the total is the optimum of
-/// the goal. The only error is want of memory.
+/// Checks a claim against a goal: `Yes` exactly where its boxes certify its total and its fixes,
+/// and else the first thing that is wrong, in the order of [`Verdict`] and then of the boxes.
+/// Nothing is taken on trust of whoever made the claim. Where the answer is `Yes`, the total is the
+/// optimum of the goal. The only error is want of memory.
 pub fn check_claim<G: Goal>(alloc: Global, goal: &G, claim: &Claim) -> Result<Verdict, AllocError>
     ensures verdict { IfOk result (IsCheckedAs (G.rule goal.now) claim.now) }
     ensures yes { IfOk result (λ verdict.

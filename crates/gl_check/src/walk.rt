@@ -30,9 +30,9 @@ fn is_same(cell: &Cell, other: &Cell) -> bool
     covers(cell, other) && covers(other, cell)
 }
 
-/// Goes down from the first open cell to a cell, over lower halves alone, and takes it from the open
-/// ones; the upper halves on the way stay open. Answers whether the cell is there; if not, the open
-/// cells serve for nothing any more. The only error is want of memory.
+/// Goes down from the first open cell to a cell, over lower halves alone, and takes it from the
+/// open ones; the upper halves on the way stay open. Answers whether the cell is there; if not, the
+/// open cells serve for nothing any more. The only error is want of memory.
 pub fn go_down(opened: &mut Vec<Cell>, cell: &Cell) -> Result<bool, AllocError>
     ensures there { IfOk result (λ there. IsTrue there → (more : List (List (ℕ × ℕ)))
         → AreFrontiers (open_cells opened.old.items) (spans_of cell.now ∷ more)

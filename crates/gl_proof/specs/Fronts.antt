@@ -11,7 +11,8 @@ use Rattle.gl_proof.specs.Number.{is_number}
 
 -- A reader took something from the front of a text and left the rest, or nothing of the kind stands
 -- there.
-abbrev pub Reads : {X Y : Type 0} → (Y → X) → (X → List ℕ → Type 0) → Option (Y × Bor (List ℕ)) → Type 0
+abbrev pub Reads : {X Y : Type 0} → (Y → X) → (X → List ℕ → Type 0) → Option (Y × Bor (List ℕ))
+    → Type 0
 Reads view StandsAt None = (x : _) (rest : List ℕ) → StandsAt x rest → ⊥
 Reads view StandsAt (Some taken) = StandsAt (view taken.0) taken.1.now
 

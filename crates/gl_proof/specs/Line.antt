@@ -8,8 +8,9 @@ use Rattle.gl_proof.specs.declared.claim.ClaimKind.{ClaimKind}
 use Rattle.gl_proof.specs.declared.claim.ClaimKind.TheVariants.{Area, Out, Free, Triangle}
 use Rattle.gl_proof.specs.Number.{is_number}
 
--- What a line says: that the text is a proof; whose claim follows, of which kind and of which total;
--- the numbers of its fixes; a box, by which reason it is closed and its spans; that the proof ends.
+-- What a line says: that the text is a proof; whose claim follows, of which kind and of which
+-- total; the numbers of its fixes; a box, by which reason it is closed and its spans; that the
+-- proof ends.
 pub data Line : Type 0 where
   HeadingLine : Line
   ClaimLine : List ℕ → ClaimKind → Option ℕ → Line

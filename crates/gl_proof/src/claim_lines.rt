@@ -121,8 +121,8 @@ fn name_of(alloc: Global, number: &[u8]) -> Result<Name, AllocError>
     Name::from_text(alloc, text)
 }
 
-/// The claim whose lines stand at the front of a text, what follows them, and the number of the line
-/// that follows. The first of them has the number that is given.
+/// The claim whose lines stand at the front of a text, what follows them, and the number of the
+/// line that follows. The first of them has the number that is given.
 pub fn claim_at(alloc: Global, text: &[u8], line: u32) -> Result<(Claim, &[u8], u32), ProofError>
     ensures ok { IfOk result (λ read.
         IsClaimRead text.now line (statement_of read.0) read.1.now read.2) }
