@@ -1,4 +1,4 @@
-use Rattle.gl_goal.specs.declared.out.OutGoal.{OutGoal}
+use Rattle.gl_goal.specs.declared.outlanding.OutGoal.{OutGoal}
 use Rattle.gl_goal.specs.Out.{out_goal}
 use Rattle.gl_goal.specs.Lists.{AreLists}
 use Rattle.gl_goal.specs.Rule.{Rule}

@@ -1,6 +1,6 @@
 use crate::area::AreaGoal;
 use crate::free::FreeGoal;
-use crate::out::OutGoal;
+use crate::outlanding::OutGoal;
 
 /// A goal of any of the kinds that a flight can be asked for.
 #[derive(Debug, Drop)]

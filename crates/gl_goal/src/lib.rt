@@ -14,8 +14,8 @@ mod leg;
 mod legs;
 mod lists;
 mod numbers;
-mod out;
 mod out_goal;
+mod outlanding;
 mod way;
 
 pub use any::AnyGoal;
@@ -24,4 +24,4 @@ pub use free::FreeGoal;
 pub use goal::Goal;
 pub use leg::Leg;
 pub use numbers::fix_numbers;
-pub use out::OutGoal;
+pub use outlanding::OutGoal;

@@ -9,7 +9,7 @@ use crate::goal::Goal;
 use crate::leg::Leg;
 use crate::legs::{leg, leg_at_least, leg_at_most};
 use crate::lists::Lists;
-use crate::out::OutGoal;
+use crate::outlanding::OutGoal;
 use gl_box::{Cell, Tuple};
 use gl_hull::Hull;
 use gl_igc::Fix;
