@@ -80,8 +80,7 @@ pub(crate) fn push_standing(
     entrant: &Entrant,
 ) -> Result<(), AllocError>
     requires { partial_of line.old ≡ [] }
-    ensures fields {
-        OnOk result (fields_of line.new ≡ fields_of line.old ++ standing_fields rank entrant.now) }
+    ensures fields { OnOk result (fields_of line.new ≡ fields_of line.old ++ standing_fields rank entrant.now) }
     ensures partial { OnOk result (partial_of line.new ≡ []) }
 {
     line.push_field(&digits(alloc, rank)?)?;
@@ -91,11 +90,7 @@ pub(crate) fn push_standing(
 }
 
 /// Appends result, metres and seconds.
-pub(crate) fn push_flight(
-    alloc: Global,
-    line: &mut ByteRecord,
-    row: &Row,
-) -> Result<(), AllocError>
+pub(crate) fn push_flight(alloc: Global, line: &mut ByteRecord, row: &Row) -> Result<(), AllocError>
     requires { partial_of line.old ≡ [] }
     ensures fields { OnOk result (fields_of line.new ≡ fields_of line.old ++ flight_fields row.now) }
     ensures partial { OnOk result (partial_of line.new ≡ []) }
@@ -107,11 +102,7 @@ pub(crate) fn push_flight(
 }
 
 /// Appends penalty and points.
-pub(crate) fn push_points(
-    alloc: Global,
-    line: &mut ByteRecord,
-    row: &Row,
-) -> Result<(), AllocError>
+pub(crate) fn push_points(alloc: Global, line: &mut ByteRecord, row: &Row) -> Result<(), AllocError>
     requires { partial_of line.old ≡ [] }
     ensures fields { OnOk result (fields_of line.new ≡ fields_of line.old ++ point_fields row.now) }
     ensures partial { OnOk result (partial_of line.new ≡ []) }
@@ -122,11 +113,7 @@ pub(crate) fn push_points(
 }
 
 /// Appends the two list columns.
-pub(crate) fn push_lists(
-    alloc: Global,
-    line: &mut ByteRecord,
-    row: &Row,
-) -> Result<(), AllocError>
+pub(crate) fn push_lists(alloc: Global, line: &mut ByteRecord, row: &Row) -> Result<(), AllocError>
     requires { partial_of line.old ≡ [] }
     ensures fields { OnOk result (fields_of line.new ≡ fields_of line.old ++ list_fields row.now) }
     ensures partial { OnOk result (partial_of line.new ≡ []) }

@@ -2,6 +2,9 @@
 #![tactic(auto)]
 
 mod columns;
+mod line;
 mod row;
+mod text;
 
 pub use row::{Listed, Outcome, Row};
+pub use text::sheet;
