@@ -4,6 +4,8 @@
 mod columns;
 mod line;
 mod row;
+#[cfg(test)]
+mod tests;
 mod text;
 
 pub use row::{Listed, Outcome, Row};

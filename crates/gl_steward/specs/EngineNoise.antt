@@ -8,7 +8,7 @@ abbrev pub is_noisy : ℕ → Option ℕ → Bool
 is_noisy level None = false
 is_noisy level (Some noise) = nat_le level noise
 
--- whether there is a level, the level, what noise costs, and how many noisy fixes there were, up to 3
+-- whether there is a level, the level, what noise costs, and how many fixes were noisy, up to 3
 abbrev pub noise_list : Option ℕ → ℕ → ℕ → List ℕ
 noise_list (Some level) points noisy = 1 ∷ level ∷ points ∷ noisy ∷ []
 noise_list None points noisy = 0 ∷ 0 ∷ 0 ∷ 0 ∷ []

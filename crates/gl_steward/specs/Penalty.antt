@@ -3,8 +3,8 @@ use Rattle.std.specs.Prelude.{◌≡◌, ℕ, min, List, fold, sum}
 use Rattle.gl_igc.specs.declared.fix.Fix.{Fix}
 use Rattle.gl_task.specs.declared.task.LocalRules.{LocalRules}
 
--- The rules of a steward are the same before and after: the list that it opens a flight with, what a
--- fix makes of a list, and what is owed for a list.
+-- The rules of a steward are the same before and after: the list that it opens a flight with, what
+-- a fix makes of a list, and what is owed for a list.
 pub record KeepsRules (opening reopening : LocalRules → List ℕ)
     (fed refed : List ℕ → Fix → List ℕ) (owed reowed : List ℕ → ℕ) : Type 0 where
   pub opening_kept : (rules : LocalRules) → reopening rules ≡ opening rules

@@ -7,8 +7,8 @@ use gl_task::LocalRules;
 /// How many noisy fixes cost points.
 const NOISY_FIXES: u32 = 3;
 
-/// A steward of the engine: it owes the engine points of the local rules where at least three fixes of
-/// the flight had a noise of at least the engine level, and nothing where there is no level.
+/// A steward of the engine: it owes the engine points of the local rules where at least three fixes
+/// of the flight had a noise of at least the engine level, and nothing where there is no level.
 #[derive(Debug, Drop)]
 pub struct EngineNoise {
     level: Option<u16>,

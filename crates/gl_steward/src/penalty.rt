@@ -39,7 +39,8 @@ fn charge(steward: &mut Box<dyn Steward>, rules: &LocalRules, fixes: &[Fix]) -> 
     ensures due { result
         ≡ owed steward.old
         (held_after (opening steward.old rules.now) (fed steward.old) fixes.now) }
-    ensures held { held steward.new ≡ held_after (opening steward.old rules.now) (fed steward.old) fixes.now }
+    ensures held { held steward.new
+        ≡ held_after (opening steward.old rules.now) (fed steward.old) fixes.now }
     ensures rules { KeepsRules (opening steward.old) (opening steward.new)
         (fed steward.old) (fed steward.new) (owed steward.old) (owed steward.new) }
 {
@@ -50,8 +51,8 @@ fn charge(steward: &mut Box<dyn Steward>, rules: &LocalRules, fixes: &[Fix]) -> 
     due(steward)
 }
 
-/// The penalty of a flight: what all stewards charge for its fixes, at most 1,000 points. Each steward
-/// keeps its rules and holds afterwards what they make of this flight, whatever it held before.
+/// The penalty of a flight: what all stewards charge for its fixes, at most 1,000 points. Each
+/// steward keeps its rules and holds afterwards what they make of this flight, whatever it held before.
 pub fn fine(stewards: &mut Vec<Box<dyn Steward>>, rules: &LocalRules, fixes: &[Fix]) -> u32
     ensures penalty { result
         ≡ penalty (map

@@ -25,13 +25,15 @@ pub trait Steward: Drop {
     /// Begins a flight.
     fn begin(&mut self, rules: &LocalRules)
         ensures held { held self.new ≡ opening self.old rules.now }
-        ensures rules { KeepsRules (opening self.old) (opening self.new) (fed self.old) (fed self.new)
+        ensures rules { KeepsRules (opening self.old) (opening self.new)
+            (fed self.old) (fed self.new)
             (owed self.old) (owed self.new) };
 
     /// Takes the next fix of the flight.
     fn feed(&mut self, fix: &Fix)
         ensures held { held self.new ≡ fed self.old (held self.old) fix.now }
-        ensures rules { KeepsRules (opening self.old) (opening self.new) (fed self.old) (fed self.new)
+        ensures rules { KeepsRules (opening self.old) (opening self.new)
+            (fed self.old) (fed self.new)
             (owed self.old) (owed self.new) };
 
     /// The points that the flight owes so far.
