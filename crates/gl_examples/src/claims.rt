@@ -1,3 +1,8 @@
+ghost use Rattle.std.specs.Prelude.{IfOk, IfSome};
+ghost use Rattle.gl_goal.specs.FreeGoal.{rule_of};
+ghost use Rattle.gl_plain.specs.Search.{IsSound};
+ghost use Rattle.gl_proof.specs.Claim.{IsWritable};
+
 use crate::drawn::wandering;
 use gl_check::{Verdict, check_claim};
 use gl_desk::Name;
@@ -8,27 +13,27 @@ use gl_proof::{Claim, ClaimKind, read_proof, write_claim};
 use std::alloc::{AllocError, Global};
 use std::test::Fail;
 
-/// The claim of what a search found.
-fn claim_of(alloc: Global, goal: &FreeGoal, found: Found) -> Result<Claim, AllocError> {
+/// The claim of what a search found over five axes.
+fn claim_of(alloc: Global, goal: &FreeGoal, found: Found) -> Result<Option<Claim>, AllocError>
+    requires { IsSound (rule_of goal.now) found.best }
+    ensures { IfOk result (λ claim. IfSome claim IsWritable) }
+{
     let Found { best, closed } = found;
     let number = Name::from_text(alloc, "AA")?;
-    let kind = ClaimKind::Free;
-    match best {
-        None => Ok(Claim {
-            number,
-            kind,
-            total: None,
-            fixes: Vec::new(alloc),
-            cells: closed,
-        }),
-        Some(best) => Ok(Claim {
-            number,
-            kind,
-            total: Some(best.total),
-            fixes: fix_numbers(alloc, goal, &best.tuple)?,
-            cells: closed,
-        }),
+    let Some(best) = best else {
+        return Ok(None);
+    };
+    let fixes = fix_numbers(alloc, goal, &best.tuple)?;
+    if fixes.is_empty() || fixes.len() > 10 {
+        return Ok(None);
     }
+    Ok(Some(Claim {
+        number,
+        kind: ClaimKind::Free,
+        total: Some(best.total),
+        fixes,
+        cells: closed,
+    }))
 }
 
 /// What a search finds is written, read and accepted.
@@ -38,7 +43,8 @@ fn found_claims_are_accepted(rt: HostRuntime) -> Result<(), Fail> {
         let recording = read_igc(rt.alloc(), &wandering(rt.alloc(), seed, fixes)?, None)?;
         let last = recording.fixes.len() as u32 - 1;
         let goal = FreeGoal::new(rt.alloc(), recording.fixes.as_slice(), 0, last, 1_000)?;
-        let claim = claim_of(rt.alloc(), &goal, search_one(rt.alloc(), &goal)?)?;
+        let found = search_one(rt.alloc(), &goal)?;
+        let claim = claim_of(rt.alloc(), &goal, found)?.ok_or("a claim")?;
         let mut text = Vec::from_slice(rt.alloc(), b"GLIDEPROOF 1\n")?;
         write_claim(&mut text, &claim)?;
         text.extend_from_slice(b"END\n")?;
