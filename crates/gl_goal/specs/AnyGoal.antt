@@ -28,6 +28,7 @@ pub any_goal-is_goal : (g : AnyGoal) → IsGoal (any_rule g)
 any_goal-is_goal (Area g) =
     area_goal-is_goal g.lists.fixes g.lists.lists g.start g.finish g.off (area_lists g)
 any_goal-is_goal (Out g) =
-    out_goal-is_goal g.lists.fixes g.lists.lists g.start g.fixed g.target (out_lists g) g.fixed_below
+    out_goal-is_goal g.lists.fixes g.lists.lists g.start g.fixed g.target (out_lists g)
+    g.fixed_below
 any_goal-is_goal (Free g) =
     free_goal-is_goal g.fixes.items g.first g.last g.loss g.in_order g.within

@@ -7,7 +7,8 @@ use Rattle.gl_igc.specs.declared.fix.Fix.{Fix}
 abbrev pub AreNamed : List Fix → List ℕ → Type 0
 AreNamed fixes numbers = All (λ number. number < length fixes) numbers
 
--- 1 to 10 lists of numbers that name fixes, none of them empty, and the numbers of each rise strictly
+-- 1 to 10 lists of numbers that name fixes, none of them empty, and the numbers of each rise
+-- strictly
 pub record AreLists (fixes : List Fix) (lists : List (List ℕ)) : Type 0 where
   pub some_list : 0 < length lists
   pub ten_lists : length lists ≤ 10

@@ -5,8 +5,8 @@ ghost use Rattle.gl_goal.specs.Lists.{AreNamed};
 use crate::lists::Lists;
 use gl_sphere::Vec3;
 
-/// The distance of an area task: one fix from each list, in time order, worth the legs from the start
-/// point through them to the finish point, less `off` centimetres, and not below 0.
+/// The distance of an area task: one fix from each list, in time order, worth the legs from the
+/// start point through them to the finish point, less `off` centimetres, and not below 0.
 #[derive(Debug, Drop)]
 pub struct AreaGoal {
     pub(crate) lists: Lists,

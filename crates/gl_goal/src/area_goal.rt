@@ -47,7 +47,8 @@ impl AreaGoal {
 impl Goal for AreaGoal {
     ghost rule = { area_rule };
 
-    ghost laws = { λ g. area_goal-is_goal g.lists.fixes g.lists.lists g.start g.finish g.off (area_lists g) };
+    ghost laws = { λ g.
+        area_goal-is_goal g.lists.fixes g.lists.lists g.start g.finish g.off (area_lists g) };
 
     fn axes(&self) -> u8 {
         self.lists.count()

@@ -14,7 +14,8 @@ pub trait Goal {
     /// The goal as the rules say it.
     ghost rule: { Self → Rule };
 
-    /// The legs that a search has measured are legs of this goal, and there is room for one at least.
+    /// The legs that a search has measured are legs of this goal, and there is room for one at
+    /// least.
     ghost are_legs: { Self → List Leg → Type 0 };
 
     /// How many axes there are, from 1 to 10.
@@ -61,8 +62,8 @@ pub trait Goal {
     fn leg(&self) -> Leg
         ensures { (count : ℕ) → 0 < count → are_legs self.now (replicate count result) };
 
-    /// The same as `bound`, sooner where some of the legs are among those that were measured: only the
-    /// others are measured, and join them.
+    /// The same as `bound`, sooner where some of the legs are among those that were measured: only
+    /// the others are measured, and join them.
     fn bound_by(&self, cell: &Cell, legs: &mut [Leg]) -> u64
         requires covers { Covers (whole_cell (rule self.now).axes) (spans_of cell.now) }
         requires legs { are_legs self.now legs.old }

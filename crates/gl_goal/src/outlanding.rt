@@ -6,9 +6,9 @@ use crate::lists::Lists;
 use gl_sphere::Vec3;
 
 /// The distance of an outlanding: one fix from each list, in time order, the last of them the one
-/// that comes nearest to the target. They are worth `fixed` centimetres, the legs from the start point
-/// through the fixes but the last, and how much nearer to the target the last one is than the one
-/// before.
+/// that comes nearest to the target. They are worth `fixed` centimetres, the legs from the start
+/// point through the fixes but the last, and how much nearer to the target the last one is than the
+/// one before.
 #[derive(Debug, Drop)]
 pub struct OutGoal {
     pub(crate) lists: Lists,

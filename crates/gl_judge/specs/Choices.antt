@@ -41,8 +41,9 @@ zone_lists fixes zones first behind = map (numbers_in_zone fixes first behind) z
 abbrev pub start_point : Task → Vec3
 start_point task = task.start.line.centre
 
--- The choice of one who finished a task of areas: a fix in each zone, from the start up to the finish,
--- or up to the fix before the one that crossed a finish line. The radius of a finish ring is off.
+-- The choice of one who finished a task of areas: a fix in each zone, from the start up to the
+-- finish, or up to the fix before the one that crossed a finish line. The radius of a finish ring
+-- is off.
 abbrev pub area_choice : Task → List Fix → Window → Rule
 area_choice task fixes window =
     area_goal fixes
@@ -53,8 +54,9 @@ area_choice task fixes window =
 abbrev pub course_point : Task → ℕ → Vec3
 course_point task count = slice_index_or (course_of task) count (start_point task)
 
--- The choice of an outlanding in a racing task with so many visited zones: the fix that comes nearest
--- to the next point of the course, from some fix on. The legs to the last visited zone are fixed.
+-- The choice of an outlanding in a racing task with so many visited zones: the fix that comes
+-- nearest to the next point of the course, from some fix on. The legs to the last visited zone are
+-- fixed.
 abbrev pub racing_choice : Task → List Fix → Window → ℕ → ℕ → Rule
 racing_choice task fixes window count from =
     out_goal fixes (numbers_before from (window.last + 1) ∷ []) (course_point task count)
@@ -69,8 +71,8 @@ areas_choice task fixes window count =
     ++ numbers_before window.first (window.last + 1) ∷ [])
     (start_point task) 0 (course_point task (count + 1))
 
--- The choice of an outlanding. In a racing task it begins where the last visited zone can be reached
--- first.
+-- The choice of an outlanding. In a racing task it begins where the last visited zone can be
+-- reached first.
 abbrev pub IsOutChoice : Kind → Task → List Fix → ℕ × ℕ → Window → ℕ → Rule → Type 0
 IsOutChoice Racing task fixes judged window count rule =
     (from : ℕ) × IsLeast (HasVisit fixes judged (take count task.zones) window.first) from

@@ -58,9 +58,9 @@ fn first_visit(task: &Task, rec: &Recording, judged: Stretch, start: usize, coun
     visit_zones(zones, rec.fixes.as_slice(), judged, start).last
 }
 
-/// The choice of an outlanding in a racing task: the fix that comes nearest to the next point of the
-/// task, from the first one on with which a visit of the visited zones ends. The only error is want
-/// of memory.
+/// The choice of an outlanding in a racing task: the fix that comes nearest to the next point of
+/// the task, from the first one on with which a visit of the visited zones ends. The only error is
+/// want of memory.
 fn racing_choice(
     alloc: Global,
     task: &Task,
@@ -89,8 +89,8 @@ fn racing_choice(
     OutGoal::new(alloc, rec.fixes.as_slice(), lists, start, fixed, target)
 }
 
-/// The choice of an outlanding in a task of areas: a fix in each visited zone, and the fix that comes
-/// nearest to the next point of the task. The only error is want of memory.
+/// The choice of an outlanding in a task of areas: a fix in each visited zone, and the fix that
+/// comes nearest to the next point of the task. The only error is want of memory.
 fn areas_choice(
     alloc: Global,
     task: &Task,

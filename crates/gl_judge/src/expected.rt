@@ -17,8 +17,8 @@ use gl_proof::ClaimKind;
 use gl_task::{Kind, Task};
 use std::alloc::{AllocError, Global};
 
-/// The claim for the distance of a flight, where the rules leave a choice. The only error is want of
-/// memory.
+/// The claim for the distance of a flight, where the rules leave a choice. The only error is want
+/// of memory.
 fn chosen_claim(
     alloc: Global,
     task: &Task,
@@ -45,8 +45,8 @@ fn chosen_claim(
     }
 }
 
-/// The claim of the list of free distances, where it is asked for and a fix is judged. The only error
-/// is want of memory.
+/// The claim of the list of free distances, where it is asked for and a fix is judged. The only
+/// error is want of memory.
 fn free_claim(
     alloc: Global,
     task: &Task,
@@ -87,9 +87,9 @@ fn listed(
     Ok(claims)
 }
 
-/// The claims that are expected of a flight, each with its goal, in this order: the distance, of one
-/// who finished a task of areas or landed out; the free distance, where the task asks for its list and
-/// a fix is judged. The only error is want of memory.
+/// The claims that are expected of a flight, each with its goal, in this order: the distance, of
+/// one who finished a task of areas or landed out; the free distance, where the task asks for its
+/// list and a fix is judged. The only error is want of memory.
 pub fn claims(
     alloc: Global,
     task: &Task,

@@ -101,8 +101,9 @@ fn marking_time(kind: Kind, flown: u32) -> u32
 /// The distance of one who finished a racing task is that of the task: from the centre of the start
 /// line through the centres of the zones to the finish point, less the radius of a finish ring, not
 /// below 0. Of one who finished a task of areas or landed out it is `best`, the best of the choices
-/// of fixes, in centimetres. It counts in whole metres, at most 2,000,000. The time of a finisher is
-/// the flown time, at least 1 s and in a task of areas at least the task's minimum; else it is 0.
+/// of fixes, in centimetres. It counts in whole metres, at most 2,000,000. The time of a finisher
+/// is the flown time, at least 1 s and in a task of areas at least the task's minimum; else it is
+/// 0.
 ///
 /// `handicap` is in thousandths, from 1 to 2,000.
 pub fn mark(task: &Task, handicap: u32, judged: &Judged, best: Option<u64>) -> Performance

@@ -80,7 +80,8 @@ pub(crate) fn push_standing(
     entrant: &Entrant,
 ) -> Result<(), AllocError>
     requires { partial_of line.old ≡ [] }
-    ensures fields { OnOk result (fields_of line.new ≡ fields_of line.old ++ standing_fields rank entrant.now) }
+    ensures fields { OnOk result
+        (fields_of line.new ≡ fields_of line.old ++ standing_fields rank entrant.now) }
     ensures partial { OnOk result (partial_of line.new ≡ []) }
 {
     line.push_field(&digits(alloc, rank)?)?;
@@ -92,7 +93,8 @@ pub(crate) fn push_standing(
 /// Appends result, metres and seconds.
 pub(crate) fn push_flight(alloc: Global, line: &mut ByteRecord, row: &Row) -> Result<(), AllocError>
     requires { partial_of line.old ≡ [] }
-    ensures fields { OnOk result (fields_of line.new ≡ fields_of line.old ++ flight_fields row.now) }
+    ensures fields { OnOk result
+        (fields_of line.new ≡ fields_of line.old ++ flight_fields row.now) }
     ensures partial { OnOk result (partial_of line.new ≡ []) }
 {
     line.push_field(&result_field(alloc, row.outcome)?)?;

@@ -16,7 +16,8 @@ pub(crate) struct Line<'a> {
     pub row: &'a Row,
 }
 
-/// How two lines stand: by points, the greater first, and at equal points by the bytes of the number.
+/// How two lines stand: by points, the greater first, and at equal points by the bytes of the
+/// number.
 fn compare(a: &Line, b: &Line) -> Ordering
     ensures { result
         ≡ line_cmp (line_of a.now) (line_of b.now) }

@@ -109,8 +109,8 @@ fn text_of(alloc: Global, rows: &[Row], lines: &[Line]) -> Result<Vec<u8>, Alloc
     Ok(text)
 }
 
-/// The sheet of a day, as text: the heading and a line for each entrant, by points. The rows are those
-/// of the task's entrants, in their order. The only error is want of memory.
+/// The sheet of a day, as text: the heading and a line for each entrant, by points. The rows are
+/// those of the task's entrants, in their order. The only error is want of memory.
 pub fn sheet(alloc: Global, task: &Task, rows: &[Row]) -> Result<Vec<u8>, AllocError>
     requires { length rows.now ≡ length task.now.entrants }
     ensures { IfOk result (λ text. IsSheet task.now.entrants rows.now text.items) }

@@ -52,7 +52,8 @@ fn charge(steward: &mut Box<dyn Steward>, rules: &LocalRules, fixes: &[Fix]) -> 
 }
 
 /// The penalty of a flight: what all stewards charge for its fixes, at most 1,000 points. Each
-/// steward keeps its rules and holds afterwards what they make of this flight, whatever it held before.
+/// steward keeps its rules and holds afterwards what they make of this flight, whatever it held
+/// before.
 pub fn fine(stewards: &mut Vec<Box<dyn Steward>>, rules: &LocalRules, fixes: &[Fix]) -> u32
     ensures penalty { result
         ≡ penalty (map

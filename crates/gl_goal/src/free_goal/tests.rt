@@ -21,7 +21,8 @@ fn fix_at(second: i32, grid: Grid, below: u8) -> Fix {
     }
 }
 
-// The origin of the grid, one degree north of it and one degree east, each lower than the one before.
+// The origin of the grid, one degree north of it and one degree east, each lower than the one
+// before.
 fn three_fixes() -> [Fix; 3] {
     [
         fix_at(0, Grid { lat: 0, lon: 0 }, 0),
