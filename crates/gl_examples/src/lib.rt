@@ -5,6 +5,8 @@
 #[cfg(test)]
 mod airspace;
 #[cfg(test)]
+mod areas;
+#[cfg(test)]
 mod claims;
 #[cfg(test)]
 mod desk;
