@@ -5,7 +5,7 @@ ghost use Rattle.gl_igc.specs.Dates.{day_number, day_of, after_letters, after_sp
 use gl_text::read_digits;
 use jiff::civil::Date;
 
-/// The day number, from 1970-01-01, of a day; `None` where the calendar hasn't the day.
+/// The day number of a day of the calendar; `None` where it hasn't the day.
 fn civil_day(year: i16, month: i8, day: i8) -> Option<i32>
     ensures some { IsDate year month day
         → result ≡ Some (days_from_civil year (unsigned_abs month) (unsigned_abs day)) }
@@ -17,8 +17,8 @@ fn civil_day(year: i16, month: i8, day: i8) -> Option<i32>
     }
 }
 
-/// The same of numbers without a sign.
-fn day_of_numbers(year: u32, month: u32, day: u32) -> Option<i32>
+/// The day number, from 1970-01-01, of a day; `None` where the calendar hasn't the day.
+pub fn day_number(year: u32, month: u32, day: u32) -> Option<i32>
     requires year { year < 2_100 }
     requires month { month < 100 }
     requires day { day < 100 }
@@ -37,7 +37,7 @@ fn day(digits: &[u8]) -> Option<i32>
     let day = read_digits(&digits[..2])?;
     let month = read_digits(&digits[2..4])?;
     let year = read_digits(&digits[4..])?;
-    day_of_numbers(2000 + year, month, day)
+    day_number(2000 + year, month, day)
 }
 
 /// The text without these letters at its front, where they stand there.

@@ -25,6 +25,7 @@ mod shift;
 mod track;
 mod track_steps;
 
+pub use date::day_number;
 pub use error::IgcError;
 pub use fix::Fix;
 pub use items::Items;

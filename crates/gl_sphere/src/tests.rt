@@ -1,6 +1,7 @@
 // The expected values were computed by a program of exact whole numbers in another language,
 // written from the formulas alone.
 ghost use Rattle.std.specs.Prelude.{◌≡◌};
+ghost use Rattle.gl_sphere.specs.Range.{IsWithin};
 ghost use Rattle.gl_sphere.specs.Sphere.{half_turn, pi, quarter_turn, radius, unit};
 
 use crate::square_root::root_by_guess;
@@ -15,6 +16,23 @@ const ORIGIN: Vec3 = Vec3 {
     y: 0,
     z: 0,
 };
+
+/// The place at these angles.
+fn place(lat: i32, lon: i32) -> Grid
+    requires lat_in_range { IsWithin quarter_turn lat }
+    requires lon_in_range { IsWithin half_turn lon }
+{
+    Grid { lat, lon }
+}
+
+/// The point with these components.
+fn point(x: i32, y: i32, z: i32) -> Vec3
+    requires x_in_range { IsWithin radius x }
+    requires y_in_range { IsWithin radius y }
+    requires z_in_range { IsWithin radius z }
+{
+    Vec3 { x, y, z }
+}
 
 /// Takes what threads may share.
 fn share<T: Send + Sync>(_value: &T) {}
@@ -51,155 +69,53 @@ fn sines_and_cosines(rt: HostRuntime) {
 
 #[test]
 fn points_on_the_axes(rt: HostRuntime) {
-    assert_eq!(rt; vector(Grid { lat: 0, lon: 0 }), ORIGIN);
-    let east = Vec3 {
-        x: 0,
-        y: 637_100_000,
-        z: 0,
-    };
-    assert_eq!(rt;
-        vector(Grid {
-            lat: 0,
-            lon: 540_000_000
-        }),
-        east
-    );
-    let north = Vec3 {
-        x: 551_744_785,
-        y: 0,
-        z: 318_550_000,
-    };
-    assert_eq!(rt;
-        vector(Grid {
-            lat: 180_000_000,
-            lon: 0
-        }),
-        north
-    );
-    let west = Vec3 {
-        x: 637_002_967,
-        y: -11_118_928,
-        z: 0,
-    };
-    assert_eq!(rt;
-        vector(Grid {
-            lat: 0,
-            lon: -6_000_000
-        }),
-        west
-    );
-    let far_side = Vec3 {
-        x: -637_100_000,
-        y: 0,
-        z: 0,
-    };
-    assert_eq!(rt;
-        vector(Grid {
-            lat: 0,
-            lon: -1_080_000_000
-        }),
-        far_side
-    );
+    let cases = [
+        (place(0, 0), ORIGIN),
+        (place(0, 540_000_000), point(0, 637_100_000, 0)),
+        (place(180_000_000, 0), point(551_744_785, 0, 318_550_000)),
+        (place(0, -6_000_000), point(637_002_967, -11_118_928, 0)),
+        (place(0, -1_080_000_000), point(-637_100_000, 0, 0)),
+    ];
+    for (grid, expected) in cases {
+        assert_eq!(rt; vector(grid), expected);
+    }
 }
 
 #[test]
 fn points_between_the_axes(rt: HostRuntime) {
-    let north_east = Vec3 {
-        x: 387_390_461,
-        y: 58_166_151,
-        z: 502_435_807,
-    };
-    let place = Grid {
-        lat: 312_345_678,
-        lon: 51_234_567,
-    };
-    assert_eq!(rt; vector(place), north_east);
-    let south_west = Vec3 {
-        x: -437_337_292,
-        y: -87_195_905,
-        z: -455_004_810,
-    };
-    let place = Grid {
-        lat: -273_456_789,
-        lon: -1_012_345_678,
-    };
-    assert_eq!(rt; vector(place), south_west);
+    let north_east = point(387_390_461, 58_166_151, 502_435_807);
+    assert_eq!(rt; vector(place(312_345_678, 51_234_567)), north_east);
+    let south_west = point(-437_337_292, -87_195_905, -455_004_810);
+    assert_eq!(rt; vector(place(-273_456_789, -1_012_345_678)), south_west);
     assert_eq!(rt; sq(north_east, south_west), 1_617_998_528_974_316_834);
     assert_eq!(rt; sq(ORIGIN, north_east), 318_179_895_145_488_571);
-    let past_west = Vec3 {
-        x: -1,
-        y: -409_519_988,
-        z: 488_046_914,
-    };
-    let place = Grid {
-        lat: 299_999_999,
-        lon: -540_000_001,
-    };
-    assert_eq!(rt; vector(place), past_west);
+    let past_west = point(-1, -409_519_988, 488_046_914);
+    assert_eq!(rt; vector(place(299_999_999, -540_000_001)), past_west);
 }
 
 #[test]
 fn directions(rt: HostRuntime) {
-    let place = Grid {
-        lat: 312_345_678,
-        lon: 51_234_567,
-    };
-    assert_eq!(rt;
-        north(place),
-        Vec3 {
-            x: -496_866_195,
-            y: -74_603_784,
-            z: 391_732_906,
-        }
-    );
-    assert_eq!(rt;
-        east(place),
-        Vec3 {
-            x: -94_599_290,
-            y: 630_037_605,
-            z: 0,
-        }
-    );
-    let place = Grid {
-        lat: -273_456_789,
-        lon: -1_012_345_678,
-    };
-    assert_eq!(rt;
-        north(place),
-        Vec3 {
-            x: -446_222_127,
-            y: -88_967_355,
-            z: 445_945_101,
-        }
-    );
-    assert_eq!(rt;
-        east(place),
-        Vec3 {
-            x: 124_572_533,
-            y: -624_802_444,
-            z: 0,
-        }
-    );
-    let pole = Grid {
-        lat: 540_000_000,
-        lon: -540_000_000,
-    };
-    assert_eq!(rt;
-        north(pole),
-        Vec3 {
-            x: 0,
-            y: 637_100_000,
-            z: 0,
-        }
-    );
-    assert_eq!(rt;
-        east(pole),
-        Vec3 {
-            x: 637_100_000,
-            y: 0,
-            z: 0,
-        }
-    );
+    let cases = [
+        (
+            place(312_345_678, 51_234_567),
+            point(-496_866_195, -74_603_784, 391_732_906),
+            point(-94_599_290, 630_037_605, 0),
+        ),
+        (
+            place(-273_456_789, -1_012_345_678),
+            point(-446_222_127, -88_967_355, 445_945_101),
+            point(124_572_533, -624_802_444, 0),
+        ),
+        (
+            place(540_000_000, -540_000_000),
+            point(0, 637_100_000, 0),
+            point(637_100_000, 0, 0),
+        ),
+    ];
+    for (grid, to_north, to_east) in cases {
+        assert_eq!(rt; north(grid), to_north);
+        assert_eq!(rt; east(grid), to_east);
+    }
 }
 
 /// The guess serves for squares, numbers around them and halfway between two, as far as chords of

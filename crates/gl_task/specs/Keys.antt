@@ -15,7 +15,7 @@ first_failed [] = None
 first_failed (None ∷ tests) = first_failed tests
 first_failed (Some wrong ∷ tests) = Some wrong
 
--- a key by its row, the item of its list and the part
+-- a key: its row in the table of keys (docs/task-file.md), the item of its list, and the part
 abbrev pub key_of : ℕ → ℕ → ℕ → Key
 key_of r i p = record { row = r; item = i; part = p }
 

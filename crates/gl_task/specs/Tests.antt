@@ -1,5 +1,5 @@
--- The tests of a task file, in the order of the rows of its table of keys. The first that fails
--- decides.
+-- The tests of a task file, in the order in which docs/task-file.md has its keys. The first that
+-- fails decides.
 use Rattle.std.specs.Prelude.{ℕ, max, codes, List, [], ◌∷◌, ◌++◌, Option, None, Some, unwrap_or, is_some, if◌then◌else◌, Bool}
 use Rattle.toml.specs.Data.{Data, Members, get_member, as_table}
 use Rattle.gl_task.specs.Keys.{Test, key_of, needed, optional, right_value, said, list_of, list_at, table_at, table_of, some_item, at_most, each_item}
@@ -11,13 +11,13 @@ use Rattle.gl_task.specs.Twice.{number_twice}
 abbrev pub has : List ℕ → Members → Bool
 has name table = is_some (get_member name table)
 
--- row 3: the minimum of an area task, in seconds; a racing task has none
+-- the minimum of an area task, in seconds; a racing task has none
 abbrev pub minimum_test : Option KindWord → Members → Test
 minimum_test (Some area) file = needed (key_of 3 0 0) (codes "minimum") (whole 1 100_000) file
 minimum_test (Some racing) file = None
 minimum_test None file = None
 
--- rows 1 to 5
+-- the day: its date, the kind of its task, its end and the airspace file
 unfoldable pub day_tests : Members → List Test
 day_tests file =
     needed (key_of 1 0 0) (codes "date") day file
@@ -27,17 +27,18 @@ day_tests file =
     ∷ optional (key_of 5 0 0) (codes "airspace") file_name file
     ∷ []
 
--- row 6: at most two words
+-- one word of the lists that are asked for
 unfoldable pub word_tests : ℕ → Data → List Test
 word_tests n word = right_value (key_of 6 n 0) (list_word word) ∷ []
 
+-- the lists that are asked for: at most two words
 unfoldable pub lists_tests : Members → List Test
 lists_tests file =
     optional (key_of 6 0 0) (codes "lists") list_of file
     ∷ at_most (key_of 6 0 0) 2 (list_at (codes "lists") file)
     ∷ each_item word_tests 1 (list_at (codes "lists") file)
 
--- rows 7 to 12; lengths in metres
+-- the start: its line and its times; lengths in metres
 unfoldable pub start_tests : Members → List Test
 start_tests file =
     let start = table_at (codes "start") file in
@@ -49,7 +50,7 @@ start_tests file =
     ∷ needed (key_of 12 0 0) (codes "close") (whole (unwrap_or (said (codes "open") (whole 0 100_000) start) 0) 100_000) start
     ∷ []
 
--- rows 17 to 20, of a sector; radials in thousandths of a degree
+-- a sector: its two lengths and its two radials, in thousandths of a degree
 abbrev pub sector_tests : ℕ → ℕ → Members → List Test
 sector_tests zone part table =
     let inner = unwrap_or (said (codes "inner") (whole 0 500_000) table) 0 in
@@ -59,7 +60,7 @@ sector_tests zone part table =
     ∷ needed (key_of 20 zone part) (codes "to") (whole 0 359_999) table
     ∷ []
 
--- row 15 of one part, and rows 16 to 20
+-- one part of a zone: a cylinder where it has a radius, else a sector
 unfoldable pub part_tests : ℕ → ℕ → Data → List Test
 part_tests zone part value =
     let table = table_of value in
@@ -67,7 +68,7 @@ part_tests zone part value =
     ∷ optional (key_of 16 zone part) (codes "radius") (whole 1 500_000) table
     ∷ (if has (codes "radius") table then [] else sector_tests zone part table)
 
--- row 13 of one zone, and rows 14 to 20
+-- one zone: its centre, its list of parts and each part
 unfoldable pub zone_tests : ℕ → Data → List Test
 zone_tests zone value =
     let table = table_of value in
@@ -79,7 +80,7 @@ zone_tests zone value =
     ∷ at_most (key_of 15 zone 0) 4 parts
     ∷ each_item (part_tests zone) 1 parts
 
--- row 13, and rows 14 to 20 of each zone
+-- the list of zones, and each zone
 unfoldable pub zones_tests : Members → List Test
 zones_tests file =
     let zones = list_at (codes "zone") file in
@@ -88,14 +89,14 @@ zones_tests file =
     ∷ at_most (key_of 13 0 0) 8 zones
     ∷ each_item zone_tests 1 zones
 
--- rows 24 and 25, of a finish line
+-- the finish line of a finish without a ring
 abbrev pub gate_tests : Members → List Test
 gate_tests finish =
     needed (key_of 24 0 0) (codes "half") (whole 1 500_000) finish
     ∷ needed (key_of 25 0 0) (codes "towards") (place_away_from (said (codes "at") place finish)) finish
     ∷ []
 
--- rows 21 to 25
+-- the finish: a ring, or a line
 unfoldable pub finish_tests : Members → List Test
 finish_tests file =
     let finish = table_at (codes "finish") file in
@@ -104,7 +105,7 @@ finish_tests file =
     ∷ optional (key_of 23 0 0) (codes "ring") (whole 1 500_000) finish
     ∷ (if has (codes "ring") finish then [] else gate_tests finish)
 
--- rows 27 to 31
+-- the keys of the local rules
 abbrev pub rule_tests : Members → List Test
 rule_tests rules =
     optional (key_of 27 0 0) (codes "ceiling") (whole 0 32_767) rules
@@ -114,12 +115,12 @@ rule_tests rules =
     ∷ optional (key_of 31 0 0) (codes "closing") (whole 0 500_000) rules
     ∷ []
 
--- row 26, and rows 27 to 31
+-- the local rules: their section, and its keys
 unfoldable pub rules_tests : Members → List Test
 rules_tests file =
     optional (key_of 26 0 0) (codes "rules") as_table file ∷ rule_tests (table_at (codes "rules") file)
 
--- row 32 of one entrant, and rows 33 to 36
+-- one entrant: its number, its name, its handicap and its file
 unfoldable pub entrant_tests : ℕ → Data → List Test
 entrant_tests n value =
     let table = table_of value in
@@ -130,7 +131,7 @@ entrant_tests n value =
     ∷ needed (key_of 36 n 0) (codes "file") file_name table
     ∷ []
 
--- row 32, and rows 33 to 36 of each entrant
+-- the list of entrants, and each entrant
 unfoldable pub entrants_tests : Members → List Test
 entrants_tests file =
     let entrants = list_at (codes "entrant") file in
@@ -139,27 +140,27 @@ entrants_tests file =
     ∷ at_most (key_of 32 0 0) 200 entrants
     ∷ each_item entrant_tests 1 entrants
 
--- rows 1 to 6
+-- the keys of the day, and the lists
 unfoldable pub head_tests : Members → List Test
 head_tests file = day_tests file ++ lists_tests file
 
--- rows 13 to 25
+-- the zones and the finish
 unfoldable pub way_tests : Members → List Test
 way_tests file = zones_tests file ++ finish_tests file
 
--- rows 7 to 25
+-- the start, the zones and the finish
 unfoldable pub course_tests : Members → List Test
 course_tests file = start_tests file ++ way_tests file
 
--- rows 1 to 25
+-- the day, the lists, the start, the zones and the finish
 unfoldable pub plan_tests : Members → List Test
 plan_tests file = head_tests file ++ course_tests file
 
--- rows 32 to 36, and then that no entrant has the number of an earlier one
+-- the entrants, and then that no entrant has the number of an earlier one
 unfoldable pub numbered_tests : Members → List Test
 numbered_tests file = entrants_tests file ++ number_twice (list_at (codes "entrant") file) ∷ []
 
--- rows 26 to 36
+-- the local rules and the entrants
 unfoldable pub people_tests : Members → List Test
 people_tests file = rules_tests file ++ numbered_tests file
 

@@ -14,6 +14,6 @@ abbrev pub twice_at : Option ℕ → Test
 twice_at None = None
 twice_at (Some n) = Some (Twice (key_of 33 n 0))
 
--- row 33 again: no entrant has the number of an earlier one
+-- no entrant has the number of an earlier one
 abbrev pub number_twice : List Data → Test
 number_twice entrants = twice_at (first_repeated (map number_in entrants))

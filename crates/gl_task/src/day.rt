@@ -1,11 +1,9 @@
-ghost use Rattle.std.specs.Prelude.{◌≡◌, ◌<◌, ◌≤◌, ◌↔◌, Some, IsNone, unsigned_abs};
-ghost use Rattle.jiff_core.specs.Calendar.{IsDate, days_from_civil};
-ghost use Rattle.gl_igc.specs.Dates.{day_number};
+ghost use Rattle.std.specs.Prelude.{◌≡◌, ◌<◌};
 ghost use Rattle.toml.specs.View.{view};
 ghost use Rattle.gl_task.specs.Values.{day, day_of, recent_day};
 
+use gl_igc::day_number;
 use gl_text::read_digits;
-use jiff::civil::Date;
 use toml::Value;
 
 /// How many bytes write a day.
@@ -16,28 +14,6 @@ const FIRST_YEAR: u32 = 2_000;
 
 const LAST_YEAR: u32 = 2_099;
 
-/// The day number, from 1970-01-01, of a day; `None` where the calendar hasn't the day.
-fn civil_day(year: i16, month: i8, day: i8) -> Option<i32>
-    ensures some { IsDate year month day
-        → result ≡ Some (days_from_civil year (unsigned_abs month) (unsigned_abs day)) }
-    ensures none { IsNone result ↔ ¬ IsDate year month day }
-{
-    match Date::new(year, month, day) {
-        Ok(date) => Some(date.to_plain().to_unix_epoch_day()),
-        Err(_) => None,
-    }
-}
-
-/// The same of numbers without a sign.
-fn day_of_numbers(year: u32, month: u32, day: u32) -> Option<i32>
-    requires year { year < 2_100 }
-    requires month { month < 100 }
-    requires day { day < 100 }
-    ensures { result ≡ day_number year month day }
-{
-    civil_day(year as i16, month as i8, day as i8)
-}
-
 /// The day number of a day in the years 2000 to 2099.
 #[tactic(auto, unfolding(crate::specs::Values::recent_day))]
 fn recent_day(year: u32, month: u32, day: u32) -> Option<i32>
@@ -46,7 +22,7 @@ fn recent_day(year: u32, month: u32, day: u32) -> Option<i32>
     ensures { result ≡ recent_day year month day }
 {
     if FIRST_YEAR <= year && year <= LAST_YEAR {
-        day_of_numbers(year, month, day)
+        day_number(year, month, day)
     } else {
         None
     }

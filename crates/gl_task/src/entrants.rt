@@ -6,6 +6,7 @@ ghost use Rattle.gl_task.specs.Meaning.{Each, IsEntrant};
 ghost use Rattle.gl_task.specs.Tests.{entrant_tests, entrants_tests};
 
 use crate::error::TaskError;
+use crate::item::{ReadItem, read_items};
 use crate::key::{
     at_most, item_table, needed_file_name, needed_list, needed_name, needed_number, needed_whole,
     row, row_of_item, some_item,
@@ -16,47 +17,31 @@ use gl_desk::Name;
 use std::alloc::Global;
 use toml::{Table, Value};
 
-/// An entrant.
-#[tactic(auto, unfolding(crate::specs::Tests::entrant_tests))]
-fn read_entrant(alloc: Global, value: &Value, n: u32) -> Result<Entrant, TaskError>
-    ensures ok { IfOk result (IsEntrant (view value.now)) }
-    ensures passes { IfOk result (λ made. first_failed (entrant_tests n (view value.now)) ≡ None) }
-    ensures refused { IfErr result (λ e. e ≢ Memory
-        → first_failed (entrant_tests n (view value.now)) ≡ Some e) }
-{
-    let table = item_table(value, row_of_item(32, n))?;
-    let number = needed_number(table, "number", row_of_item(33, n))?;
-    let name = needed_name(table, "name", row_of_item(34, n))?;
-    let handicap = needed_whole(table, "handicap", row_of_item(35, n), 1, GREATEST_HANDICAP)?;
-    let file = needed_file_name(table, "file", row_of_item(36, n))?;
-    Ok(Entrant {
-        number: Name::from_text(alloc, number)?,
-        name: Name::from_text(alloc, name)?,
-        handicap,
-        file: Name::from_text(alloc, file)?,
-    })
-}
+/// Reads the entrants of a task.
+#[derive(Clone, Copy)]
+struct EntrantReader;
 
-/// The entrants of the tables of a list.
-#[tactic(auto, using(crate::proofs::TestLemmas::behind_all, crate::proofs::TestLemmas::before_all))]
-fn read_entrant_list(alloc: Global, values: &[Value]) -> Result<Vec<Entrant>, TaskError>
-    requires { length values.now ≤ 200 }
-    ensures ok { IfOk result (λ entrants. Each IsEntrant (map view values.now) entrants.items) }
-    ensures count { IfOk result (λ entrants. vec_len entrants ≡ length values.now) }
-    ensures passes { IfOk result
-        (λ entrants. first_failed (each_item entrant_tests 1 (map view values.now)) ≡ None) }
-    ensures refused { IfErr result (λ e. e ≢ Memory
-        → first_failed (each_item entrant_tests 1 (map view values.now)) ≡ Some e) }
-{
-    let mut entrants = Vec::new(alloc);
-    let mut n = 0;
-    let mut rest = values;
-    'entrants: while let Some((value, others)) = rest.split_first() {
-        n += 1;
-        entrants.push(read_entrant(alloc, value, n)?)?;
-        rest = others;
+impl ReadItem for EntrantReader {
+    type Item = Entrant;
+
+    ghost tests = { λ reader. entrant_tests };
+
+    ghost says = { λ reader. IsEntrant };
+
+    #[tactic(auto, unfolding(crate::specs::Tests::entrant_tests))]
+    fn read_item(&self, alloc: Global, value: &Value, n: u32) -> Result<Entrant, TaskError> {
+        let table = item_table(value, row_of_item(32, n))?;
+        let number = needed_number(table, "number", row_of_item(33, n))?;
+        let name = needed_name(table, "name", row_of_item(34, n))?;
+        let handicap = needed_whole(table, "handicap", row_of_item(35, n), 1, GREATEST_HANDICAP)?;
+        let file = needed_file_name(table, "file", row_of_item(36, n))?;
+        Ok(Entrant {
+            number: Name::from_text(alloc, number)?,
+            name: Name::from_text(alloc, name)?,
+            handicap,
+            file: Name::from_text(alloc, file)?,
+        })
     }
-    Ok(entrants)
 }
 
 /// The entrants of a task, whose numbers may still be the same.
@@ -74,5 +59,5 @@ pub fn read_entrants(alloc: Global, file: &Table) -> Result<Vec<Entrant>, TaskEr
     let values = needed_list(file, "entrant", row(32))?;
     some_item(values, row(32))?;
     at_most(values, row(32), MOST_ENTRANTS)?;
-    read_entrant_list(alloc, values)
+    read_items(alloc, &EntrantReader, values)
 }

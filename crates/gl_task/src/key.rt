@@ -46,10 +46,7 @@ pub fn needed<'a>(table: &'a Table, name: &str, key: Key) -> Result<&'a Value, T
     ensures ok { IfOk result (λ value. get_member name.now (table_view table.now) ≡ Some (view value.now)) }
     ensures missing { IfErr result (λ e. (get_member name.now (table_view table.now) ≡ None) × (e ≡ Missing key)) }
 {
-    match value_at(table, name) {
-        Some(value) => Ok(value),
-        None => Err(TaskError::Missing(key)),
-    }
+    value_at(table, name).ok_or(TaskError::Missing(key))
 }
 
 /// The whole number from `low` to `high` under a key that has to be there.
@@ -68,10 +65,7 @@ pub fn needed_whole(
     ensures range { IfOk result (λ x. (low ≤ x) × (x ≤ high)) }
 {
     let value = needed(table, name, key)?;
-    match value::whole(value, low, high) {
-        Some(x) => Ok(x),
-        None => Err(TaskError::Value(key)),
-    }
+    value::whole(value, low, high).ok_or(TaskError::Value(key))
 }
 
 /// The whole number from `low` to `high` under a key, if it is there.
@@ -93,11 +87,8 @@ pub fn optional_whole(
     ensures range { IfOk result (λ found. ForSome found (λ x. (low ≤ x) × (x ≤ high))) }
 {
     match value_at(table, name) {
+        Some(value) => Ok(Some(value::whole(value, low, high).ok_or(TaskError::Value(key))?)),
         None => Ok(None),
-        Some(value) => match value::whole(value, low, high) {
-            Some(x) => Ok(Some(x)),
-            None => Err(TaskError::Value(key)),
-        },
     }
 }
 
@@ -110,10 +101,7 @@ pub fn needed_place(table: &Table, name: &str, key: Key) -> Result<Grid, TaskErr
         (λ e. needed key name.now place (table_view table.now) ≡ Some e) }
 {
     let value = needed(table, name, key)?;
-    match value::place(value) {
-        Some(x) => Ok(x),
-        None => Err(TaskError::Value(key)),
-    }
+    value::place(value).ok_or(TaskError::Value(key))
 }
 
 /// The place, which is another point than `from`, under a key that has to be there.
@@ -130,10 +118,7 @@ pub fn needed_place_away_from(
         (λ e. needed key name.now (place_away_from (Some from)) (table_view table.now) ≡ Some e) }
 {
     let value = needed(table, name, key)?;
-    match value::place_away_from(from, value) {
-        Some(x) => Ok(x),
-        None => Err(TaskError::Value(key)),
-    }
+    value::place_away_from(from, value).ok_or(TaskError::Value(key))
 }
 
 /// The table under a key that has to be there.
@@ -145,10 +130,7 @@ pub fn needed_table<'a>(table: &'a Table, name: &str, key: Key) -> Result<&'a Ta
         (λ e. needed key name.now as_table (table_view table.now) ≡ Some e) }
 {
     let value = needed(table, name, key)?;
-    match value::table(value) {
-        Some(x) => Ok(x),
-        None => Err(TaskError::Value(key)),
-    }
+    value::table(value).ok_or(TaskError::Value(key))
 }
 
 /// The table under a key, if it is there.
@@ -167,11 +149,8 @@ pub fn optional_table<'a>(
         (λ e. optional key name.now as_table (table_view table.now) ≡ Some e) }
 {
     match value_at(table, name) {
+        Some(value) => Ok(Some(value::table(value).ok_or(TaskError::Value(key))?)),
         None => Ok(None),
-        Some(value) => match value::table(value) {
-            Some(x) => Ok(Some(x)),
-            None => Err(TaskError::Value(key)),
-        },
     }
 }
 
@@ -184,10 +163,7 @@ pub fn needed_list<'a>(table: &'a Table, name: &str, key: Key) -> Result<&'a [Va
         (λ e. needed key name.now list_of (table_view table.now) ≡ Some e) }
 {
     let value = needed(table, name, key)?;
-    match value::list(value) {
-        Some(x) => Ok(x),
-        None => Err(TaskError::Value(key)),
-    }
+    value::list(value).ok_or(TaskError::Value(key))
 }
 
 /// The values of the list under a key, if it is there.
@@ -206,11 +182,8 @@ pub fn optional_list<'a>(
         (λ e. optional key name.now list_of (table_view table.now) ≡ Some e) }
 {
     match value_at(table, name) {
+        Some(value) => Ok(Some(value::list(value).ok_or(TaskError::Value(key))?)),
         None => Ok(None),
-        Some(value) => match value::list(value) {
-            Some(x) => Ok(Some(x)),
-            None => Err(TaskError::Value(key)),
-        },
     }
 }
 
@@ -223,10 +196,7 @@ pub fn needed_day(table: &Table, name: &str, key: Key) -> Result<i32, TaskError>
         (λ e. needed key name.now date (table_view table.now) ≡ Some e) }
 {
     let value = needed(table, name, key)?;
-    match day(value) {
-        Some(x) => Ok(x),
-        None => Err(TaskError::Value(key)),
-    }
+    day(value).ok_or(TaskError::Value(key))
 }
 
 /// The kind of the task under a key that has to be there.
@@ -238,10 +208,7 @@ pub fn needed_kind(table: &Table, name: &str, key: Key) -> Result<KindWord, Task
         (λ e. needed key name.now kind (table_view table.now) ≡ Some e) }
 {
     let value = needed(table, name, key)?;
-    match kind(value) {
-        Some(x) => Ok(x),
-        None => Err(TaskError::Value(key)),
-    }
+    kind(value).ok_or(TaskError::Value(key))
 }
 
 /// The name of a file under a key that has to be there.
@@ -254,10 +221,7 @@ pub fn needed_file_name<'a>(table: &'a Table, name: &str, key: Key) -> Result<&'
     ensures form { IfOk result (λ x. IsTrue (is_file_name x.now)) }
 {
     let value = needed(table, name, key)?;
-    match value::file_name(value) {
-        Some(x) => Ok(x),
-        None => Err(TaskError::Value(key)),
-    }
+    value::file_name(value).ok_or(TaskError::Value(key))
 }
 
 /// The number of an entrant under a key that has to be there.
@@ -270,10 +234,7 @@ pub fn needed_number<'a>(table: &'a Table, name: &str, key: Key) -> Result<&'a s
     ensures form { IfOk result (λ x. IsTrue (is_number x.now)) }
 {
     let value = needed(table, name, key)?;
-    match value::number(value) {
-        Some(x) => Ok(x),
-        None => Err(TaskError::Value(key)),
-    }
+    value::number(value).ok_or(TaskError::Value(key))
 }
 
 /// The name of an entrant under a key that has to be there.
@@ -286,10 +247,7 @@ pub fn needed_name<'a>(table: &'a Table, name: &str, key: Key) -> Result<&'a str
     ensures form { IfOk result (λ x. IsTrue (is_name x.now)) }
 {
     let value = needed(table, name, key)?;
-    match value::name(value) {
-        Some(x) => Ok(x),
-        None => Err(TaskError::Value(key)),
-    }
+    value::name(value).ok_or(TaskError::Value(key))
 }
 
 /// The name of a file under a key, if it is there.
@@ -307,11 +265,8 @@ pub fn optional_file_name<'a>(
     ensures form { IfOk result (λ found. IfSome found (λ x. IsTrue (is_file_name x.now))) }
 {
     match value_at(table, name) {
+        Some(value) => Ok(Some(value::file_name(value).ok_or(TaskError::Value(key))?)),
         None => Ok(None),
-        Some(value) => match value::file_name(value) {
-            Some(x) => Ok(Some(x)),
-            None => Err(TaskError::Value(key)),
-        },
     }
 }
 
@@ -321,10 +276,7 @@ pub fn item_table<'a>(value: &'a Value, key: Key) -> Result<&'a Table, TaskError
     ensures passes { IfOk result (λ table. right_value key (as_table (view value.now)) ≡ None) }
     ensures refused { IfErr result (λ e. right_value key (as_table (view value.now)) ≡ Some e) }
 {
-    match value::table(value) {
-        Some(table) => Ok(table),
-        None => Err(TaskError::Value(key)),
-    }
+    value::table(value).ok_or(TaskError::Value(key))
 }
 
 /// Tests that a needed list has an item.

@@ -10,6 +10,7 @@ mod error;
 mod finish;
 mod form;
 mod head;
+mod item;
 mod key;
 mod limit;
 mod lists;

@@ -7,7 +7,7 @@ ghost use Rattle.gl_task.specs.Ranges.{has_minimum};
 use crate::day_type::Kind;
 use gl_desk::Name;
 
-/// What the first rows say: the day, the kind of the task, its end, its airspace file.
+/// The day: its date, the kind of its task, its end, its airspace file.
 #[derive(Debug, Drop)]
 pub struct Day {
     pub date: i32,

@@ -28,7 +28,7 @@ use gl_zone::Zone;
 use std::alloc::Global;
 use toml::Table;
 
-/// What the rows 1 to 5 say.
+/// The day: its date, the kind of its task, its end and its airspace file.
 #[tactic(auto, unfolding(crate::specs::Tests::day_tests))]
 fn read_day(alloc: Global, file: &Table) -> Result<Day, TaskError>
     ensures ok { IfOk result (IsDay (table_view file.now)) }
@@ -49,7 +49,7 @@ fn read_day(alloc: Global, file: &Table) -> Result<Day, TaskError>
     })
 }
 
-/// What the rows 1 to 6 say.
+/// The day, and the lists that are asked for.
 #[tactic(auto, unfolding(crate::specs::Tests::head_tests), using(crate::proofs::TestLemmas::behind_all, crate::proofs::TestLemmas::before_all))]
 fn read_head(alloc: Global, file: &Table) -> Result<(Day, Lists), TaskError>
     ensures ok { IfOk result (λ head. IsHead (table_view file.now) head.0 head.1) }
@@ -62,7 +62,7 @@ fn read_head(alloc: Global, file: &Table) -> Result<(Day, Lists), TaskError>
     Ok((day, lists))
 }
 
-/// What the rows 13 to 25 say.
+/// The zones and the finish.
 #[tactic(auto, unfolding(crate::specs::Tests::way_tests), using(crate::proofs::TestLemmas::behind_all, crate::proofs::TestLemmas::before_all))]
 fn read_way(alloc: Global, file: &Table) -> Result<(Vec<Zone>, Finish), TaskError>
     ensures zones { IfOk result
@@ -80,7 +80,7 @@ fn read_way(alloc: Global, file: &Table) -> Result<(Vec<Zone>, Finish), TaskErro
     Ok((zones, finish))
 }
 
-/// What the rows 7 to 25 say.
+/// The way: the start, the zones and the finish.
 #[tactic(auto, unfolding(crate::specs::Tests::course_tests), using(crate::proofs::TestLemmas::behind_all, crate::proofs::TestLemmas::before_all))]
 fn read_course(alloc: Global, file: &Table) -> Result<Course, TaskError>
     ensures ok { IfOk result (IsCourse (table_view file.now)) }
@@ -98,7 +98,7 @@ fn read_course(alloc: Global, file: &Table) -> Result<Course, TaskError>
     })
 }
 
-/// What the rows 1 to 25 say.
+/// The day, the lists and the way.
 #[tactic(auto, unfolding(crate::specs::Tests::plan_tests), using(crate::proofs::TestLemmas::behind_all, crate::proofs::TestLemmas::before_all))]
 pub fn read_plan(alloc: Global, file: &Table) -> Result<(Day, Lists, Course), TaskError>
     ensures head { IfOk result (λ plan. IsHead (table_view file.now) plan.0 plan.1) }
@@ -131,7 +131,7 @@ fn read_numbered(alloc: Global, file: &Table) -> Result<Vec<Entrant>, TaskError>
     Ok(entrants)
 }
 
-/// What the rows 26 to 36 say.
+/// The local rules and the entrants, whose numbers differ.
 #[tactic(auto, unfolding(crate::specs::Tests::people_tests), using(crate::proofs::TestLemmas::behind_all, crate::proofs::TestLemmas::before_all))]
 pub fn read_people(alloc: Global, file: &Table) -> Result<(LocalRules, Vec<Entrant>), TaskError>
     ensures rules { IfOk result (λ people. IsRules (table_view file.now) people.0) }

@@ -1,7 +1,5 @@
 ghost use Rattle.std.specs.Prelude.{◌≡◌, ◌<◌, option_map, option_and_then, map, Some, IfSome, IsTrue};
-ghost use Rattle.gl_igc.specs.Dates.{day_number};
 ghost use Rattle.gl_sphere.specs.declared.place.Grid.{Grid};
-ghost use Rattle.jiff_core.specs.Calendar.{IsDate, days_from_civil};
 ghost use Rattle.std.specs.Ordering.{int_eq};
 ghost use Rattle.toml.specs.Data.{as_table};
 ghost use Rattle.toml.specs.View.{view, table_view};

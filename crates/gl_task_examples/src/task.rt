@@ -5,6 +5,7 @@ use gl_sphere::{Grid, Vec3, vector};
 use gl_task::{Entrant, Finish, Key, Kind, LocalRules, Start, Task, TaskError, read_task};
 use gl_zone::{Cylinder, Line, Part, Sector, holds};
 use std::alloc::{AllocError, Global};
+use std::process::Abort;
 use std::test::Fail;
 
 /// A racing task, written with a header for each table.
@@ -366,353 +367,539 @@ fn twice(item: u32) -> Option<TaskError> {
     }))
 }
 
-/// The area task with one part of its text replaced.
-#[test]
-fn the_first_keys(rt: HostRuntime) -> Result<(), Fail> {
-    let text = area(rt.alloc())?;
-    let rows = [
-        ("date = ", "day = ", missing(1, 0, 0)),
-        ("\"2024-08-17\"", "20240817", value(1, 0, 0)),
-        ("\"2024-08-17\"", "2024-08-17", value(1, 0, 0)),
-        ("2024-08-17", "1999-12-31", value(1, 0, 0)),
-        ("2024-08-17", "2000-01-01", None),
-        ("2024-08-17", "2099-12-31", None),
-        ("2024-08-17", "2100-01-01", value(1, 0, 0)),
-        ("2024-08-17", "2024-02-29", None),
-        ("2024-08-17", "2023-02-29", value(1, 0, 0)),
-        ("2024-08-17", "2024-8-17", value(1, 0, 0)),
-        ("2024-08-17", "2024-08-17 ", value(1, 0, 0)),
-        ("kind = ", "sort = ", missing(2, 0, 0)),
-        ("\"area\"", "true", value(2, 0, 0)),
-        ("\"area\"", "\"Area\"", value(2, 0, 0)),
-        ("\"area\"", "\"\"", value(2, 0, 0)),
-        ("minimum = ", "least = ", missing(3, 0, 0)),
-        ("minimum = 10800", "minimum = \"10800\"", value(3, 0, 0)),
-        ("minimum = 10800", "minimum = 10800.0", value(3, 0, 0)),
-        ("minimum = 10800", "minimum = 0", value(3, 0, 0)),
-        ("minimum = 10800", "minimum = 1", None),
-        ("minimum = 10800", "minimum = 100000", None),
-        ("minimum = 10800", "minimum = 100001", value(3, 0, 0)),
-        ("\"area\"\nminimum = 10800", "\"racing\"\nminimum = 0", None),
-        ("closes = ", "ends = ", missing(4, 0, 0)),
-        ("closes = 72000", "closes = 20:00:00", value(4, 0, 0)),
-        ("closes = 72000", "closes = 0", value(4, 0, 0)),
-        ("closes = 72000", "closes = 1", None),
-        ("closes = 72000", "closes = 100000", None),
-        ("closes = 72000", "closes = 100001", value(4, 0, 0)),
-        (
-            "closes = 72000",
-            "closes = -9223372036854775808",
-            value(4, 0, 0),
-        ),
-        ("closes = 72000", "closes = 4295039296", value(4, 0, 0)),
-        (
-            "closes = 72000",
-            "closes = 9223372036854775808",
-            Some(TaskError::Toml),
-        ),
-        ("airspace = ", "air = ", None),
-        ("\"AIR.TXT\"", "[\"AIR.TXT\"]", value(5, 0, 0)),
-        ("AIR.TXT", "", value(5, 0, 0)),
-        ("AIR.TXT", ".", value(5, 0, 0)),
-        ("AIR.TXT", "..", value(5, 0, 0)),
-        ("AIR.TXT", "...", None),
-        ("AIR.TXT", "AIR/TXT", value(5, 0, 0)),
-        ("lists = ", "list = ", None),
-        ("[\"free\", \"triangle\"]", "\"free\"", value(6, 0, 0)),
-        ("[\"free\", \"triangle\"]", "[]", None),
-        ("[\"free\", \"triangle\"]", "[\"free\", \"free\"]", None),
-        ("[\"free\", \"triangle\"]", "[\"Free\", 1]", value(6, 1, 0)),
-        ("[\"free\", \"triangle\"]", "[\"free\", 1]", value(6, 2, 0)),
-        ("[\"free\", \"triangle\"]", "[1, 2, 3]", too_many(6, 0)),
-    ];
-    for (old, new, expected) in rows {
-        let changed = replaced(rt.alloc(), text.as_str(), old, new)?;
-        assert_eq!(rt; answer(rt.alloc(), changed.as_str()), expected, "at {new}");
+/// A part of a text, what stands in its place, and why the changed text is refused.
+type Change<'a> = (&'a str, &'a str, Option<TaskError>);
+
+/// Asserts that a text is answered as expected after each of the changes, one at a time.
+fn assert_answers(
+    rt: &(impl AllocGlobal + Abort),
+    text: &str,
+    changes: &[Change],
+) -> Result<(), Fail> {
+    for (old, new, expected) in changes {
+        let changed = replaced(rt.alloc(), text, old, new)?;
+        assert_eq!(rt; answer(rt.alloc(), changed.as_str()), *expected, "at {new}");
     }
     Ok(())
 }
 
-/// The same in the tables of the start and of the finish.
-#[test]
-fn start_and_finish(rt: HostRuntime) -> Result<(), Fail> {
+/// The same of the area task.
+fn assert_area_answers(rt: &(impl AllocGlobal + Abort), changes: &[Change]) -> Result<(), Fail> {
     let text = area(rt.alloc())?;
-    let rows = [
-        ("[start]", "[begin]", missing(7, 0, 0)),
-        ("[start]", "[[start]]", value(7, 0, 0)),
-        ("at = \"4800000N", "of = \"4800000N", missing(8, 0, 0)),
-        ("at = \"4800000N01100000E\"", "at = 48", value(8, 0, 0)),
-        ("at = \"4800000N", "at = \"9000000N", None),
-        ("at = \"4800000N", "at = \"9000001N", value(8, 0, 0)),
-        ("at = \"4800000N", "at = \"0060000N", value(8, 0, 0)),
-        ("towards = \"4830000N", "to = \"4830000N", missing(9, 0, 0)),
-        (
-            "towards = \"4830000N01100000E\"",
-            "towards = {}",
-            value(9, 0, 0),
-        ),
-        (
-            "towards = \"4830000N",
-            "towards = \"4830000n",
-            value(9, 0, 0),
-        ),
-        (
-            "towards = \"4830000N",
-            "towards = \"4800000N",
-            value(9, 0, 0),
-        ),
-        ("half = 5000", "width = 5000", missing(10, 0, 0)),
-        ("half = 5000", "half = \"5000\"", value(10, 0, 0)),
-        ("half = 5000", "half = 0", value(10, 0, 0)),
-        ("half = 5000", "half = 1", None),
-        ("half = 5000", "half = 500000", None),
-        ("half = 5000", "half = 500001", value(10, 0, 0)),
-        ("open = ", "opens = ", missing(11, 0, 0)),
-        ("open = 36000", "open = \"10:00\"", value(11, 0, 0)),
-        ("open = 36000", "open = -1", value(11, 0, 0)),
-        ("open = 36000", "open = 0", None),
-        ("open = 36000", "open = 100001", value(11, 0, 0)),
-        ("open = 36000", "open = 100000", value(12, 0, 0)),
-        (
-            "open = 36000\nclose = 43200",
-            "open = 100000\nclose = 100000",
-            None,
-        ),
-        ("close = ", "shut = ", missing(12, 0, 0)),
-        ("close = 43200", "close = []", value(12, 0, 0)),
-        ("close = 43200", "close = 35999", value(12, 0, 0)),
-        ("close = 43200", "close = 36000", None),
-        ("close = 43200", "close = 100000", None),
-        ("close = 43200", "close = 100001", value(12, 0, 0)),
-        ("[finish]", "[goal]", missing(21, 0, 0)),
-        ("[finish]", "[[finish]]", value(21, 0, 0)),
-        ("at = \"4810000N", "of = \"4810000N", missing(22, 0, 0)),
-        ("at = \"4810000N01110000E\"", "at = false", value(22, 0, 0)),
-        ("at = \"4810000N", "at = \"481000N", value(22, 0, 0)),
-        ("half = 2000", "ring = \"2000\"", value(23, 0, 0)),
-        ("half = 2000", "ring = 0", value(23, 0, 0)),
-        ("half = 2000", "ring = 1", None),
-        ("half = 2000", "ring = 500000", None),
-        ("half = 2000", "ring = 500001", value(23, 0, 0)),
-        ("half = 2000\ntowards = ", "ring = 1\nhalf = 0\nto = ", None),
-        ("half = 2000", "width = 2000", missing(24, 0, 0)),
-        ("half = 2000", "half = 2000.0", value(24, 0, 0)),
-        ("half = 2000", "half = 0", value(24, 0, 0)),
-        ("half = 2000", "half = 1", None),
-        ("half = 2000", "half = 500000", None),
-        ("half = 2000", "half = 500001", value(24, 0, 0)),
-        ("towards = \"4800000N", "to = \"4800000N", missing(25, 0, 0)),
-        (
-            "towards = \"4800000N01100000E\"",
-            "towards = 48",
-            value(25, 0, 0),
-        ),
-        (
-            "towards = \"4800000N01100000E",
-            "towards = \"4810000N01110000E",
-            value(25, 0, 0),
-        ),
-    ];
-    for (old, new, expected) in rows {
-        let changed = replaced(rt.alloc(), text.as_str(), old, new)?;
-        assert_eq!(rt; answer(rt.alloc(), changed.as_str()), expected, "at {new}");
-    }
-    Ok(())
+    assert_answers(rt, text.as_str(), changes)
 }
 
-/// The same in the zones.
 #[test]
-fn zones_and_parts(rt: HostRuntime) -> Result<(), Fail> {
-    let text = area(rt.alloc())?;
-    let rows = [
-        ("zone = [", "zones = [", missing(13, 0, 0)),
-        ("zone = [", "zone = []\nother = [", missing(13, 0, 0)),
-        ("zone = [", "zone = 5\nother = [", value(13, 0, 0)),
-        ("zone = [", "zone = {}\nother = [", value(13, 0, 0)),
-        ("zone = [", "zone = [1, 2, 3, 4, 5, 6, ", value(13, 1, 0)),
-        ("zone = [", "zone = [1, 2, 3, 4, 5, 6, 7, ", too_many(13, 0)),
-        (OTHER_ZONE, "[]", value(13, 2, 0)),
-        ("at = \"4900000S", "of = \"4900000S", missing(14, 2, 0)),
-        ("at = \"4900000S01200000W\"", "at = 49", value(14, 2, 0)),
-        ("4900000S", "9000000S", None),
-        ("4900000S", "9000001S", value(14, 2, 0)),
-        ("4900000S", "4960000S", value(14, 2, 0)),
-        ("01200000W", "18000000W", None),
-        ("01200000W", "18000001W", value(14, 2, 0)),
-        ("01200000W", "01200000W ", value(14, 2, 0)),
-        ("part = [{ outer", "parts = [{ outer", missing(15, 2, 0)),
-        (
-            "part = [{ outer",
-            "part = [], other = [{ outer",
-            missing(15, 2, 0),
-        ),
-        (
-            "part = [{ outer",
-            "part = 5, other = [{ outer",
-            value(15, 2, 0),
-        ),
-        (
-            "part = [{ outer",
-            "part = [1, 2, 3, { outer",
-            value(15, 2, 1),
-        ),
-        (
-            "part = [{ outer",
-            "part = [1, 2, 3, 4, { outer",
-            too_many(15, 2),
-        ),
-        ("{ radius = 3000 }", "3000", value(15, 1, 2)),
-        (
-            "{ radius = 3000 }",
-            "{ radius = 3000 }, { radius = 1 }, { radius = 2 }",
-            None,
-        ),
-        ("radius = 3000", "radius = \"3000\"", value(16, 1, 2)),
-        ("radius = 3000", "radius = 0", value(16, 1, 2)),
-        ("radius = 3000", "radius = 1", None),
-        ("radius = 3000", "radius = 500000", None),
-        ("radius = 3000", "radius = 500001", value(16, 1, 2)),
-        (
-            "radius = 3000",
-            "radius = 3000, inner = -1, from = -1",
-            None,
-        ),
-        ("inner = ", "in = ", None),
-        ("inner = 1000", "inner = []", value(17, 1, 1)),
-        ("inner = 1000", "inner = -1", value(17, 1, 1)),
-        ("inner = 1000", "inner = 0", None),
-        ("inner = 1000", "inner = 20000", None),
-        ("inner = 1000", "inner = 500000", value(18, 1, 1)),
-        ("inner = 1000", "inner = 500001", value(17, 1, 1)),
-        (
-            "inner = 1000, outer = 20000",
-            "inner = 500000, outer = 500000",
-            None,
-        ),
-        ("outer = 20000", "out = 20000", missing(18, 1, 1)),
-        ("outer = 20000", "outer = {}", value(18, 1, 1)),
-        ("outer = 20000", "outer = 999", value(18, 1, 1)),
-        ("outer = 20000", "outer = 1000", None),
-        ("outer = 20000", "outer = 500000", None),
-        ("outer = 20000", "outer = 500001", value(18, 1, 1)),
-        ("outer = 30000", "outer = 0", value(18, 2, 1)),
-        ("outer = 30000", "outer = 1", None),
-        ("outer = 30000", "inner = 0, outer = 0", value(18, 2, 1)),
-        ("from = 315000", "form = 315000", missing(19, 1, 1)),
-        ("from = 315000", "from = \"315000\"", value(19, 1, 1)),
-        ("from = 315000", "from = -1", value(19, 1, 1)),
-        ("from = 315000", "from = 359999", None),
-        ("from = 315000", "from = 360000", value(19, 1, 1)),
-        ("to = 180000", "until = 180000", missing(20, 2, 1)),
-        ("to = 180000", "to = 180.0", value(20, 2, 1)),
-        ("to = 180000", "to = -1", value(20, 2, 1)),
-        ("to = 180000", "to = 0", None),
-        ("to = 180000", "to = 359999", None),
-        ("to = 180000", "to = 360000", value(20, 2, 1)),
-        // the keys of one item before those of the next
-        ("radius = 3000 }", "radius = 0 }, 5", value(16, 1, 2)),
-        ("radius = 3000 }] }", "radius = 0 }] }, 5", value(16, 1, 2)),
-        ("zone = [", "zone = [{ part = [] }, ", missing(14, 1, 0)),
-    ];
-    for (old, new, expected) in rows {
-        let changed = replaced(rt.alloc(), text.as_str(), old, new)?;
-        assert_eq!(rt; answer(rt.alloc(), changed.as_str()), expected, "at {new}");
-    }
-    Ok(())
+fn the_date(rt: HostRuntime) -> Result<(), Fail> {
+    assert_area_answers(
+        &rt,
+        &[
+            ("date = ", "day = ", missing(1, 0, 0)),
+            ("\"2024-08-17\"", "20240817", value(1, 0, 0)),
+            ("\"2024-08-17\"", "2024-08-17", value(1, 0, 0)),
+            ("2024-08-17", "1999-12-31", value(1, 0, 0)),
+            ("2024-08-17", "2000-01-01", None),
+            ("2024-08-17", "2099-12-31", None),
+            ("2024-08-17", "2100-01-01", value(1, 0, 0)),
+            ("2024-08-17", "2024-02-29", None),
+            ("2024-08-17", "2023-02-29", value(1, 0, 0)),
+            ("2024-08-17", "2024-8-17", value(1, 0, 0)),
+            ("2024-08-17", "2024-08-17 ", value(1, 0, 0)),
+        ],
+    )
 }
 
-/// The same in the rules and the entrants.
 #[test]
-fn rules_and_entrants(rt: HostRuntime) -> Result<(), Fail> {
-    let text = area(rt.alloc())?;
-    let rows = [
-        ("[rules]", "[rule]", None),
-        ("[rules]", "[[rules]]", value(26, 0, 0)),
-        ("ceiling = ", "top = ", None),
-        ("ceiling = 3000", "ceiling = \"3000\"", value(27, 0, 0)),
-        ("ceiling = 3000", "ceiling = -1", value(27, 0, 0)),
-        ("ceiling = 3000", "ceiling = 0", None),
-        ("ceiling = 3000", "ceiling = 32767", None),
-        ("ceiling = 3000", "ceiling = 32768", value(27, 0, 0)),
-        ("engine_level = ", "engine = ", None),
-        ("engine_level = 500", "engine_level = true", value(28, 0, 0)),
-        ("engine_level = 500", "engine_level = -1", value(28, 0, 0)),
-        ("engine_level = 500", "engine_level = 0", None),
-        ("engine_level = 500", "engine_level = 999", None),
-        ("engine_level = 500", "engine_level = 1000", value(28, 0, 0)),
-        ("engine_points = ", "points = ", None),
-        ("engine_points = 100", "engine_points = []", value(29, 0, 0)),
-        ("engine_points = 100", "engine_points = -1", value(29, 0, 0)),
-        ("engine_points = 100", "engine_points = 0", None),
-        ("engine_points = 100", "engine_points = 1000", None),
-        (
-            "engine_points = 100",
-            "engine_points = 1001",
-            value(29, 0, 0),
-        ),
-        ("loss = ", "lost = ", None),
-        ("loss = 900", "loss = 0.9", value(30, 0, 0)),
-        ("loss = 900", "loss = -1", value(30, 0, 0)),
-        ("loss = 900", "loss = 0", None),
-        ("loss = 900", "loss = 32767", None),
-        ("loss = 900", "loss = 32768", value(30, 0, 0)),
-        ("closing = ", "closed = ", None),
-        ("closing = 800", "closing = \"\"", value(31, 0, 0)),
-        ("closing = 800", "closing = -1", value(31, 0, 0)),
-        ("closing = 800", "closing = 0", None),
-        ("closing = 800", "closing = 500000", None),
-        ("closing = 800", "closing = 500001", value(31, 0, 0)),
-        ("entrant = [", "entrants = [", missing(32, 0, 0)),
-        ("entrant = [", "entrant = []\nother = [", missing(32, 0, 0)),
-        ("entrant = [", "entrant = {}\nother = [", value(32, 0, 0)),
-        (ENTRANT, "\"A1\"", value(32, 1, 0)),
-        (OTHER_ENTRANT, "[]", value(32, 2, 0)),
-        ("number = \"zz9\"", "start = \"zz9\"", missing(33, 2, 0)),
-        ("\"zz9\"", "9", value(33, 2, 0)),
-        ("zz9", "", value(33, 2, 0)),
-        ("zz9", "12345678", None),
-        ("zz9", "123456789", value(33, 2, 0)),
-        ("zz9", "z-9", value(33, 2, 0)),
-        ("zz9", "z 9", value(33, 2, 0)),
-        ("zz9", "\u{e9}", value(33, 2, 0)),
-        ("zz9", "azAZ09", None),
-        ("zz9", "a1", None),
-        ("zz9", "A1", twice(2)),
-        ("name = \"Ben\"", "pilot = \"Ben\"", missing(34, 2, 0)),
-        ("\"Ben\"", "7", value(34, 2, 0)),
-        ("Ben", "", value(34, 2, 0)),
-        ("Ben", "B\\u001Fn", value(34, 2, 0)),
-        ("Ben", "B n\\u0080/", None),
-        ("Ben", "B\\u007Fn", value(34, 2, 0)),
-        ("handicap = 950", "index = 950", missing(35, 2, 0)),
-        ("handicap = 950", "handicap = 0.95", value(35, 2, 0)),
-        ("handicap = 950", "handicap = 0", value(35, 2, 0)),
-        ("handicap = 950", "handicap = 1", None),
-        ("handicap = 950", "handicap = 2000", None),
-        ("handicap = 950", "handicap = 2001", value(35, 2, 0)),
-        ("file = \"zz", "flight = \"zz", missing(36, 2, 0)),
-        ("\"zz 9.igc\"", "9", value(36, 2, 0)),
-        ("zz 9.igc", "", value(36, 2, 0)),
-        ("zz 9.igc", ".", value(36, 2, 0)),
-        ("zz 9.igc", "..", value(36, 2, 0)),
-        ("zz 9.igc", "zz/9.igc", value(36, 2, 0)),
-        ("zz 9.igc", "zz\\u001F9.igc", value(36, 2, 0)),
-        ("zz 9.igc", "zz\\u007F9.igc", None),
-        // one file of two entrants
-        ("zz 9.igc", "A1.IGC", None),
-        // the keys of one item before those of the next, and the numbers behind all keys
-        ("file = \"A1.IGC\" }", "file = \"/\" }, 5", value(36, 1, 0)),
-        (
-            OTHER_ENTRANT,
-            "{ number = \"A1\", name = \"B\", handicap = 1 }",
-            missing(36, 2, 0),
-        ),
-    ];
-    for (old, new, expected) in rows {
-        let changed = replaced(rt.alloc(), text.as_str(), old, new)?;
-        assert_eq!(rt; answer(rt.alloc(), changed.as_str()), expected, "at {new}");
-    }
-    Ok(())
+fn the_kind_and_the_minimum(rt: HostRuntime) -> Result<(), Fail> {
+    assert_area_answers(
+        &rt,
+        &[
+            ("kind = ", "sort = ", missing(2, 0, 0)),
+            ("\"area\"", "true", value(2, 0, 0)),
+            ("\"area\"", "\"Area\"", value(2, 0, 0)),
+            ("\"area\"", "\"\"", value(2, 0, 0)),
+            ("minimum = ", "least = ", missing(3, 0, 0)),
+            ("minimum = 10800", "minimum = \"10800\"", value(3, 0, 0)),
+            ("minimum = 10800", "minimum = 10800.0", value(3, 0, 0)),
+            ("minimum = 10800", "minimum = 0", value(3, 0, 0)),
+            ("minimum = 10800", "minimum = 1", None),
+            ("minimum = 10800", "minimum = 100000", None),
+            ("minimum = 10800", "minimum = 100001", value(3, 0, 0)),
+            ("\"area\"\nminimum = 10800", "\"racing\"\nminimum = 0", None),
+        ],
+    )
+}
+
+#[test]
+fn the_end_of_the_day(rt: HostRuntime) -> Result<(), Fail> {
+    assert_area_answers(
+        &rt,
+        &[
+            ("closes = ", "ends = ", missing(4, 0, 0)),
+            ("closes = 72000", "closes = 20:00:00", value(4, 0, 0)),
+            ("closes = 72000", "closes = 0", value(4, 0, 0)),
+            ("closes = 72000", "closes = 1", None),
+            ("closes = 72000", "closes = 100000", None),
+            ("closes = 72000", "closes = 100001", value(4, 0, 0)),
+            (
+                "closes = 72000",
+                "closes = -9223372036854775808",
+                value(4, 0, 0),
+            ),
+            ("closes = 72000", "closes = 4295039296", value(4, 0, 0)),
+            (
+                "closes = 72000",
+                "closes = 9223372036854775808",
+                Some(TaskError::Toml),
+            ),
+        ],
+    )
+}
+
+#[test]
+fn the_airspace_file(rt: HostRuntime) -> Result<(), Fail> {
+    assert_area_answers(
+        &rt,
+        &[
+            ("airspace = ", "air = ", None),
+            ("\"AIR.TXT\"", "[\"AIR.TXT\"]", value(5, 0, 0)),
+            ("AIR.TXT", "", value(5, 0, 0)),
+            ("AIR.TXT", ".", value(5, 0, 0)),
+            ("AIR.TXT", "..", value(5, 0, 0)),
+            ("AIR.TXT", "...", None),
+            ("AIR.TXT", "AIR/TXT", value(5, 0, 0)),
+        ],
+    )
+}
+
+#[test]
+fn the_lists(rt: HostRuntime) -> Result<(), Fail> {
+    assert_area_answers(
+        &rt,
+        &[
+            ("lists = ", "list = ", None),
+            ("[\"free\", \"triangle\"]", "\"free\"", value(6, 0, 0)),
+            ("[\"free\", \"triangle\"]", "[]", None),
+            ("[\"free\", \"triangle\"]", "[\"free\", \"free\"]", None),
+            ("[\"free\", \"triangle\"]", "[\"Free\", 1]", value(6, 1, 0)),
+            ("[\"free\", \"triangle\"]", "[\"free\", 1]", value(6, 2, 0)),
+            ("[\"free\", \"triangle\"]", "[1, 2, 3]", too_many(6, 0)),
+        ],
+    )
+}
+
+#[test]
+fn the_start_line(rt: HostRuntime) -> Result<(), Fail> {
+    assert_area_answers(
+        &rt,
+        &[
+            ("[start]", "[begin]", missing(7, 0, 0)),
+            ("[start]", "[[start]]", value(7, 0, 0)),
+            ("at = \"4800000N", "of = \"4800000N", missing(8, 0, 0)),
+            ("at = \"4800000N01100000E\"", "at = 48", value(8, 0, 0)),
+            ("at = \"4800000N", "at = \"9000000N", None),
+            ("at = \"4800000N", "at = \"9000001N", value(8, 0, 0)),
+            ("at = \"4800000N", "at = \"0060000N", value(8, 0, 0)),
+            ("towards = \"4830000N", "to = \"4830000N", missing(9, 0, 0)),
+            (
+                "towards = \"4830000N01100000E\"",
+                "towards = {}",
+                value(9, 0, 0),
+            ),
+            (
+                "towards = \"4830000N",
+                "towards = \"4830000n",
+                value(9, 0, 0),
+            ),
+            (
+                "towards = \"4830000N",
+                "towards = \"4800000N",
+                value(9, 0, 0),
+            ),
+            ("half = 5000", "width = 5000", missing(10, 0, 0)),
+            ("half = 5000", "half = \"5000\"", value(10, 0, 0)),
+            ("half = 5000", "half = 0", value(10, 0, 0)),
+            ("half = 5000", "half = 1", None),
+            ("half = 5000", "half = 500000", None),
+            ("half = 5000", "half = 500001", value(10, 0, 0)),
+        ],
+    )
+}
+
+#[test]
+fn the_times_of_the_start(rt: HostRuntime) -> Result<(), Fail> {
+    assert_area_answers(
+        &rt,
+        &[
+            ("open = ", "opens = ", missing(11, 0, 0)),
+            ("open = 36000", "open = \"10:00\"", value(11, 0, 0)),
+            ("open = 36000", "open = -1", value(11, 0, 0)),
+            ("open = 36000", "open = 0", None),
+            ("open = 36000", "open = 100001", value(11, 0, 0)),
+            ("open = 36000", "open = 100000", value(12, 0, 0)),
+            (
+                "open = 36000\nclose = 43200",
+                "open = 100000\nclose = 100000",
+                None,
+            ),
+            ("close = ", "shut = ", missing(12, 0, 0)),
+            ("close = 43200", "close = []", value(12, 0, 0)),
+            ("close = 43200", "close = 35999", value(12, 0, 0)),
+            ("close = 43200", "close = 36000", None),
+            ("close = 43200", "close = 100000", None),
+            ("close = 43200", "close = 100001", value(12, 0, 0)),
+        ],
+    )
+}
+
+#[test]
+fn the_ring_of_the_finish(rt: HostRuntime) -> Result<(), Fail> {
+    assert_area_answers(
+        &rt,
+        &[
+            ("[finish]", "[goal]", missing(21, 0, 0)),
+            ("[finish]", "[[finish]]", value(21, 0, 0)),
+            ("at = \"4810000N", "of = \"4810000N", missing(22, 0, 0)),
+            ("at = \"4810000N01110000E\"", "at = false", value(22, 0, 0)),
+            ("at = \"4810000N", "at = \"481000N", value(22, 0, 0)),
+            ("half = 2000", "ring = \"2000\"", value(23, 0, 0)),
+            ("half = 2000", "ring = 0", value(23, 0, 0)),
+            ("half = 2000", "ring = 1", None),
+            ("half = 2000", "ring = 500000", None),
+            ("half = 2000", "ring = 500001", value(23, 0, 0)),
+            ("half = 2000\ntowards = ", "ring = 1\nhalf = 0\nto = ", None),
+        ],
+    )
+}
+
+#[test]
+fn the_line_of_the_finish(rt: HostRuntime) -> Result<(), Fail> {
+    assert_area_answers(
+        &rt,
+        &[
+            ("half = 2000", "width = 2000", missing(24, 0, 0)),
+            ("half = 2000", "half = 2000.0", value(24, 0, 0)),
+            ("half = 2000", "half = 0", value(24, 0, 0)),
+            ("half = 2000", "half = 1", None),
+            ("half = 2000", "half = 500000", None),
+            ("half = 2000", "half = 500001", value(24, 0, 0)),
+            ("towards = \"4800000N", "to = \"4800000N", missing(25, 0, 0)),
+            (
+                "towards = \"4800000N01100000E\"",
+                "towards = 48",
+                value(25, 0, 0),
+            ),
+            (
+                "towards = \"4800000N01100000E",
+                "towards = \"4810000N01110000E",
+                value(25, 0, 0),
+            ),
+        ],
+    )
+}
+
+#[test]
+fn the_list_of_zones(rt: HostRuntime) -> Result<(), Fail> {
+    assert_area_answers(
+        &rt,
+        &[
+            ("zone = [", "zones = [", missing(13, 0, 0)),
+            ("zone = [", "zone = []\nother = [", missing(13, 0, 0)),
+            ("zone = [", "zone = 5\nother = [", value(13, 0, 0)),
+            ("zone = [", "zone = {}\nother = [", value(13, 0, 0)),
+            ("zone = [", "zone = [1, 2, 3, 4, 5, 6, ", value(13, 1, 0)),
+            ("zone = [", "zone = [1, 2, 3, 4, 5, 6, 7, ", too_many(13, 0)),
+            (OTHER_ZONE, "[]", value(13, 2, 0)),
+        ],
+    )
+}
+
+#[test]
+fn the_centre_of_a_zone(rt: HostRuntime) -> Result<(), Fail> {
+    assert_area_answers(
+        &rt,
+        &[
+            ("at = \"4900000S", "of = \"4900000S", missing(14, 2, 0)),
+            ("at = \"4900000S01200000W\"", "at = 49", value(14, 2, 0)),
+            ("4900000S", "9000000S", None),
+            ("4900000S", "9000001S", value(14, 2, 0)),
+            ("4900000S", "4960000S", value(14, 2, 0)),
+            ("01200000W", "18000000W", None),
+            ("01200000W", "18000001W", value(14, 2, 0)),
+            ("01200000W", "01200000W ", value(14, 2, 0)),
+        ],
+    )
+}
+
+#[test]
+fn the_parts_of_a_zone(rt: HostRuntime) -> Result<(), Fail> {
+    assert_area_answers(
+        &rt,
+        &[
+            ("part = [{ outer", "parts = [{ outer", missing(15, 2, 0)),
+            (
+                "part = [{ outer",
+                "part = [], other = [{ outer",
+                missing(15, 2, 0),
+            ),
+            (
+                "part = [{ outer",
+                "part = 5, other = [{ outer",
+                value(15, 2, 0),
+            ),
+            (
+                "part = [{ outer",
+                "part = [1, 2, 3, { outer",
+                value(15, 2, 1),
+            ),
+            (
+                "part = [{ outer",
+                "part = [1, 2, 3, 4, { outer",
+                too_many(15, 2),
+            ),
+            ("{ radius = 3000 }", "3000", value(15, 1, 2)),
+            (
+                "{ radius = 3000 }",
+                "{ radius = 3000 }, { radius = 1 }, { radius = 2 }",
+                None,
+            ),
+        ],
+    )
+}
+
+#[test]
+fn the_radius_of_a_part(rt: HostRuntime) -> Result<(), Fail> {
+    assert_area_answers(
+        &rt,
+        &[
+            ("radius = 3000", "radius = \"3000\"", value(16, 1, 2)),
+            ("radius = 3000", "radius = 0", value(16, 1, 2)),
+            ("radius = 3000", "radius = 1", None),
+            ("radius = 3000", "radius = 500000", None),
+            ("radius = 3000", "radius = 500001", value(16, 1, 2)),
+            (
+                "radius = 3000",
+                "radius = 3000, inner = -1, from = -1",
+                None,
+            ),
+        ],
+    )
+}
+
+#[test]
+fn the_lengths_of_a_sector(rt: HostRuntime) -> Result<(), Fail> {
+    assert_area_answers(
+        &rt,
+        &[
+            ("inner = ", "in = ", None),
+            ("inner = 1000", "inner = []", value(17, 1, 1)),
+            ("inner = 1000", "inner = -1", value(17, 1, 1)),
+            ("inner = 1000", "inner = 0", None),
+            ("inner = 1000", "inner = 20000", None),
+            ("inner = 1000", "inner = 500000", value(18, 1, 1)),
+            ("inner = 1000", "inner = 500001", value(17, 1, 1)),
+            (
+                "inner = 1000, outer = 20000",
+                "inner = 500000, outer = 500000",
+                None,
+            ),
+            ("outer = 20000", "out = 20000", missing(18, 1, 1)),
+            ("outer = 20000", "outer = {}", value(18, 1, 1)),
+            ("outer = 20000", "outer = 999", value(18, 1, 1)),
+            ("outer = 20000", "outer = 1000", None),
+            ("outer = 20000", "outer = 500000", None),
+            ("outer = 20000", "outer = 500001", value(18, 1, 1)),
+            ("outer = 30000", "outer = 0", value(18, 2, 1)),
+            ("outer = 30000", "outer = 1", None),
+            ("outer = 30000", "inner = 0, outer = 0", value(18, 2, 1)),
+        ],
+    )
+}
+
+#[test]
+fn the_radials_of_a_sector(rt: HostRuntime) -> Result<(), Fail> {
+    assert_area_answers(
+        &rt,
+        &[
+            ("from = 315000", "form = 315000", missing(19, 1, 1)),
+            ("from = 315000", "from = \"315000\"", value(19, 1, 1)),
+            ("from = 315000", "from = -1", value(19, 1, 1)),
+            ("from = 315000", "from = 359999", None),
+            ("from = 315000", "from = 360000", value(19, 1, 1)),
+            ("to = 180000", "until = 180000", missing(20, 2, 1)),
+            ("to = 180000", "to = 180.0", value(20, 2, 1)),
+            ("to = 180000", "to = -1", value(20, 2, 1)),
+            ("to = 180000", "to = 0", None),
+            ("to = 180000", "to = 359999", None),
+            ("to = 180000", "to = 360000", value(20, 2, 1)),
+        ],
+    )
+}
+
+#[test]
+fn the_order_in_the_zones(rt: HostRuntime) -> Result<(), Fail> {
+    assert_area_answers(
+        &rt,
+        &[
+            // the keys of one item before those of the next
+            ("radius = 3000 }", "radius = 0 }, 5", value(16, 1, 2)),
+            ("radius = 3000 }] }", "radius = 0 }] }, 5", value(16, 1, 2)),
+            ("zone = [", "zone = [{ part = [] }, ", missing(14, 1, 0)),
+        ],
+    )
+}
+
+#[test]
+fn the_rules_of_height_and_engine(rt: HostRuntime) -> Result<(), Fail> {
+    assert_area_answers(
+        &rt,
+        &[
+            ("[rules]", "[rule]", None),
+            ("[rules]", "[[rules]]", value(26, 0, 0)),
+            ("ceiling = ", "top = ", None),
+            ("ceiling = 3000", "ceiling = \"3000\"", value(27, 0, 0)),
+            ("ceiling = 3000", "ceiling = -1", value(27, 0, 0)),
+            ("ceiling = 3000", "ceiling = 0", None),
+            ("ceiling = 3000", "ceiling = 32767", None),
+            ("ceiling = 3000", "ceiling = 32768", value(27, 0, 0)),
+            ("engine_level = ", "engine = ", None),
+            ("engine_level = 500", "engine_level = true", value(28, 0, 0)),
+            ("engine_level = 500", "engine_level = -1", value(28, 0, 0)),
+            ("engine_level = 500", "engine_level = 0", None),
+            ("engine_level = 500", "engine_level = 999", None),
+            ("engine_level = 500", "engine_level = 1000", value(28, 0, 0)),
+            ("engine_points = ", "points = ", None),
+            ("engine_points = 100", "engine_points = []", value(29, 0, 0)),
+            ("engine_points = 100", "engine_points = -1", value(29, 0, 0)),
+            ("engine_points = 100", "engine_points = 0", None),
+            ("engine_points = 100", "engine_points = 1000", None),
+            (
+                "engine_points = 100",
+                "engine_points = 1001",
+                value(29, 0, 0),
+            ),
+        ],
+    )
+}
+
+#[test]
+fn the_rules_of_the_lists(rt: HostRuntime) -> Result<(), Fail> {
+    assert_area_answers(
+        &rt,
+        &[
+            ("loss = ", "lost = ", None),
+            ("loss = 900", "loss = 0.9", value(30, 0, 0)),
+            ("loss = 900", "loss = -1", value(30, 0, 0)),
+            ("loss = 900", "loss = 0", None),
+            ("loss = 900", "loss = 32767", None),
+            ("loss = 900", "loss = 32768", value(30, 0, 0)),
+            ("closing = ", "closed = ", None),
+            ("closing = 800", "closing = \"\"", value(31, 0, 0)),
+            ("closing = 800", "closing = -1", value(31, 0, 0)),
+            ("closing = 800", "closing = 0", None),
+            ("closing = 800", "closing = 500000", None),
+            ("closing = 800", "closing = 500001", value(31, 0, 0)),
+        ],
+    )
+}
+
+#[test]
+fn the_list_of_entrants(rt: HostRuntime) -> Result<(), Fail> {
+    assert_area_answers(
+        &rt,
+        &[
+            ("entrant = [", "entrants = [", missing(32, 0, 0)),
+            ("entrant = [", "entrant = []\nother = [", missing(32, 0, 0)),
+            ("entrant = [", "entrant = {}\nother = [", value(32, 0, 0)),
+            (ENTRANT, "\"A1\"", value(32, 1, 0)),
+            (OTHER_ENTRANT, "[]", value(32, 2, 0)),
+        ],
+    )
+}
+
+#[test]
+fn the_number_of_an_entrant(rt: HostRuntime) -> Result<(), Fail> {
+    assert_area_answers(
+        &rt,
+        &[
+            ("number = \"zz9\"", "start = \"zz9\"", missing(33, 2, 0)),
+            ("\"zz9\"", "9", value(33, 2, 0)),
+            ("zz9", "", value(33, 2, 0)),
+            ("zz9", "12345678", None),
+            ("zz9", "123456789", value(33, 2, 0)),
+            ("zz9", "z-9", value(33, 2, 0)),
+            ("zz9", "z 9", value(33, 2, 0)),
+            ("zz9", "\u{e9}", value(33, 2, 0)),
+            ("zz9", "azAZ09", None),
+            ("zz9", "a1", None),
+            ("zz9", "A1", twice(2)),
+        ],
+    )
+}
+
+#[test]
+fn the_name_of_an_entrant(rt: HostRuntime) -> Result<(), Fail> {
+    assert_area_answers(
+        &rt,
+        &[
+            ("name = \"Ben\"", "pilot = \"Ben\"", missing(34, 2, 0)),
+            ("\"Ben\"", "7", value(34, 2, 0)),
+            ("Ben", "", value(34, 2, 0)),
+            ("Ben", "B\\u001Fn", value(34, 2, 0)),
+            ("Ben", "B n\\u0080/", None),
+            ("Ben", "B\\u007Fn", value(34, 2, 0)),
+        ],
+    )
+}
+
+#[test]
+fn the_handicap_of_an_entrant(rt: HostRuntime) -> Result<(), Fail> {
+    assert_area_answers(
+        &rt,
+        &[
+            ("handicap = 950", "index = 950", missing(35, 2, 0)),
+            ("handicap = 950", "handicap = 0.95", value(35, 2, 0)),
+            ("handicap = 950", "handicap = 0", value(35, 2, 0)),
+            ("handicap = 950", "handicap = 1", None),
+            ("handicap = 950", "handicap = 2000", None),
+            ("handicap = 950", "handicap = 2001", value(35, 2, 0)),
+        ],
+    )
+}
+
+#[test]
+fn the_file_of_an_entrant(rt: HostRuntime) -> Result<(), Fail> {
+    assert_area_answers(
+        &rt,
+        &[
+            ("file = \"zz", "flight = \"zz", missing(36, 2, 0)),
+            ("\"zz 9.igc\"", "9", value(36, 2, 0)),
+            ("zz 9.igc", "", value(36, 2, 0)),
+            ("zz 9.igc", ".", value(36, 2, 0)),
+            ("zz 9.igc", "..", value(36, 2, 0)),
+            ("zz 9.igc", "zz/9.igc", value(36, 2, 0)),
+            ("zz 9.igc", "zz\\u001F9.igc", value(36, 2, 0)),
+            ("zz 9.igc", "zz\\u007F9.igc", None),
+            // one file of two entrants
+            ("zz 9.igc", "A1.IGC", None),
+        ],
+    )
+}
+
+#[test]
+fn the_order_in_the_entrants(rt: HostRuntime) -> Result<(), Fail> {
+    assert_area_answers(
+        &rt,
+        &[
+            // the keys of one item before those of the next, and the numbers behind all keys
+            ("file = \"A1.IGC\" }", "file = \"/\" }, 5", value(36, 1, 0)),
+            (
+                OTHER_ENTRANT,
+                "{ number = \"A1\", name = \"B\", handicap = 1 }",
+                missing(36, 2, 0),
+            ),
+        ],
+    )
 }
 
 /// The text so many times.
@@ -749,62 +936,83 @@ fn the_lengths_of_names(rt: HostRuntime) -> Result<(), Fail> {
     Ok(())
 }
 
-/// The racing task with one part of its text replaced: the same point written in two ways, and two
-/// numbers of three.
+/// The same point of the racing task written in two ways.
 #[test]
-fn points_and_numbers(rt: HostRuntime) -> Result<(), Fail> {
+fn points_of_the_start_in_two_ways(rt: HostRuntime) -> Result<(), Fail> {
     let start = "at = \"0000000N00000000E\"\ntowards = \"0000000N00100000E\"";
-    let rows = [
-        (
-            start,
-            "at = \"9000000N00000000E\"\ntowards = \"9000000N01000000W\"",
-            value(9, 0, 0),
-        ),
-        (
-            start,
-            "at = \"9000000S00000000E\"\ntowards = \"9000000S01000000W\"",
-            value(9, 0, 0),
-        ),
-        (
-            start,
-            "at = \"9000000N00000000E\"\ntowards = \"9000000S00000000E\"",
-            None,
-        ),
-        (
-            start,
-            "at = \"0000000N18000000E\"\ntowards = \"0000000N18000000W\"",
-            value(9, 0, 0),
-        ),
-        (
-            start,
-            "at = \"0000000N00000000E\"\ntowards = \"0000000S00000000W\"",
-            value(9, 0, 0),
-        ),
-        (
-            "ring = 1000",
-            "half = 1\ntowards = \"0000000S00000000W\"",
-            value(25, 0, 0),
-        ),
-        (
-            "ring = 1000",
-            "half = 1\ntowards = \"0000000S00000001W\"",
-            None,
-        ),
-        ("kind = \"racing\"", "kind = \"racy\"", value(2, 0, 0)),
-        ("closes = 72000\n", "", missing(4, 0, 0)),
-        ("BB", "AA", twice(2)),
-        ("CC", "AA", twice(3)),
-        ("CC", "BB", twice(3)),
-        ("date = ", "x = ", missing(1, 0, 0)),
-        ("date = ", "\u{feff}date = ", None),
-        ("kind = ", "\u{feff}kind = ", Some(TaskError::Toml)),
-        ("kind = ", "date = ", Some(TaskError::Toml)),
-        ("date = ", "x =\ndate = ", Some(TaskError::Toml)),
-    ];
-    for (old, new, expected) in rows {
-        let changed = replaced(rt.alloc(), DAY, old, new)?;
-        assert_eq!(rt; answer(rt.alloc(), changed.as_str()), expected, "at {new}");
-    }
+    assert_answers(
+        &rt,
+        DAY,
+        &[
+            (
+                start,
+                "at = \"9000000N00000000E\"\ntowards = \"9000000N01000000W\"",
+                value(9, 0, 0),
+            ),
+            (
+                start,
+                "at = \"9000000S00000000E\"\ntowards = \"9000000S01000000W\"",
+                value(9, 0, 0),
+            ),
+            (
+                start,
+                "at = \"9000000N00000000E\"\ntowards = \"9000000S00000000E\"",
+                None,
+            ),
+            (
+                start,
+                "at = \"0000000N18000000E\"\ntowards = \"0000000N18000000W\"",
+                value(9, 0, 0),
+            ),
+            (
+                start,
+                "at = \"0000000N00000000E\"\ntowards = \"0000000S00000000W\"",
+                value(9, 0, 0),
+            ),
+        ],
+    )
+}
+
+/// The same at the finish.
+#[test]
+fn points_of_the_finish_in_two_ways(rt: HostRuntime) -> Result<(), Fail> {
+    assert_answers(
+        &rt,
+        DAY,
+        &[
+            (
+                "ring = 1000",
+                "half = 1\ntowards = \"0000000S00000000W\"",
+                value(25, 0, 0),
+            ),
+            (
+                "ring = 1000",
+                "half = 1\ntowards = \"0000000S00000001W\"",
+                None,
+            ),
+        ],
+    )
+}
+
+/// Numbers of three entrants, keys of the day, and texts that are no TOML.
+#[test]
+fn numbers_and_texts(rt: HostRuntime) -> Result<(), Fail> {
+    assert_answers(
+        &rt,
+        DAY,
+        &[
+            ("kind = \"racing\"", "kind = \"racy\"", value(2, 0, 0)),
+            ("closes = 72000\n", "", missing(4, 0, 0)),
+            ("BB", "AA", twice(2)),
+            ("CC", "AA", twice(3)),
+            ("CC", "BB", twice(3)),
+            ("date = ", "x = ", missing(1, 0, 0)),
+            ("date = ", "\u{feff}date = ", None),
+            ("kind = ", "\u{feff}kind = ", Some(TaskError::Toml)),
+            ("kind = ", "date = ", Some(TaskError::Toml)),
+            ("date = ", "x =\ndate = ", Some(TaskError::Toml)),
+        ],
+    )?;
     for (text, expected) in [("", missing(1, 0, 0)), ("x =", Some(TaskError::Toml))] {
         assert_eq!(rt; answer(rt.alloc(), text), expected, "of {text}");
     }

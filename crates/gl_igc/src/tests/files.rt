@@ -1,6 +1,7 @@
 // Whole files: their refusals and their odd lines.
 use super::{HEAD, ORIGIN, read};
 use crate::{Fix, IgcError, Recording};
+use std::process::Abort;
 use std::test::Fail;
 
 /// Takes what threads may share.
@@ -55,71 +56,11 @@ fn numbers_of_refusals(rt: HostRuntime) {
     }
 }
 
-#[test]
-fn files_as_they_are(rt: HostRuntime) -> Result<(), Fail> {
-    let cases: [[&[u8]; 4]; 9] = [
-        // Ends of lines: LF, CR LF, mixed, and none at the end.
-        [
-            b"AXXXABC\nHFDTE010724\n",
-            ORIGIN,
-            b"\n",
-            b"B1000010000000N00000000EA0100001000\n",
-        ],
-        [
-            b"AXXXABC\r\nHFDTE010724\r\n",
-            ORIGIN,
-            b"\r\n",
-            b"B1000010000000N00000000EA0100001000\r\n",
-        ],
-        [
-            b"AXXXABC\r\nHFDTE010724\n",
-            ORIGIN,
-            b"\r\n",
-            b"B1000010000000N00000000EA0100001000",
-        ],
-        [
-            b"AXXXABC\nHFDTE010724\r\n",
-            ORIGIN,
-            b"\n",
-            b"B1000010000000N00000000EA0100001000\r",
-        ],
-        // Empty lines, before the first line too.
-        [
-            b"\n\r\nAXXXABC\n\nHFDTE010724\n\n",
-            ORIGIN,
-            b"\n\n\n",
-            b"B1000010000000N00000000EA0100001000\n\n",
-        ],
-        // Bytes past ASCII, and lines that are passed over.
-        [
-            b"AXXX\xe9\nHFPLTPILOT:J\xc3\xbcrgen \xff\nHFDTE010724\n",
-            ORIGIN,
-            b"\nL\xe9\xff\nF100000\xe9\nK100\n",
-            b"B1000010000000N00000000EA0100001000\n",
-        ],
-        // An end-of-file byte, and G lines.
-        [
-            HEAD,
-            ORIGIN,
-            b"\n",
-            b"B1000010000000N00000000EA0100001000\nGABCDEF0123456789\nGB1000020000000\n\x1a",
-        ],
-        [
-            HEAD,
-            ORIGIN,
-            b"\n\x1a\n",
-            b"B1000010000000N00000000EA0100001000\r\n\x1a\r\n",
-        ],
-        // A date line behind the B lines.
-        [
-            b"AXXXABC\n",
-            ORIGIN,
-            b"\n",
-            b"B1000010000000N00000000EA0100001000\nHFDTEDATE:010724,01\n",
-        ],
-    ];
-    for parts in cases {
-        let recording = read(rt.alloc(), &parts)?;
+/// Asserts that each text is a recording of 2024-07-01 with two fixes, at 10:00:00 and 10:00:01,
+/// and that no line was skipped.
+fn assert_two_fixes(rt: &(impl AllocGlobal + Abort), texts: &[[&[u8]; 4]]) -> Result<(), Fail> {
+    for parts in texts {
+        let recording = read(rt.alloc(), parts)?;
         let fixes = recording.fixes.as_slice();
         assert_eq!(rt;
             (recording.date, fixes.len(), recording.skipped),
@@ -128,4 +69,90 @@ fn files_as_they_are(rt: HostRuntime) -> Result<(), Fail> {
         assert_eq!(rt; (fixes[0].second, fixes[1].second), (36_000, 36_001));
     }
     Ok(())
+}
+
+/// Lines end with LF, CR LF, both in turn, and the last one without.
+#[test]
+fn ends_of_lines(rt: HostRuntime) -> Result<(), Fail> {
+    assert_two_fixes(
+        &rt,
+        &[
+            [
+                b"AXXXABC\nHFDTE010724\n",
+                ORIGIN,
+                b"\n",
+                b"B1000010000000N00000000EA0100001000\n",
+            ],
+            [
+                b"AXXXABC\r\nHFDTE010724\r\n",
+                ORIGIN,
+                b"\r\n",
+                b"B1000010000000N00000000EA0100001000\r\n",
+            ],
+            [
+                b"AXXXABC\r\nHFDTE010724\n",
+                ORIGIN,
+                b"\r\n",
+                b"B1000010000000N00000000EA0100001000",
+            ],
+            [
+                b"AXXXABC\nHFDTE010724\r\n",
+                ORIGIN,
+                b"\n",
+                b"B1000010000000N00000000EA0100001000\r",
+            ],
+        ],
+    )
+}
+
+#[test]
+fn empty_lines_and_bytes_past_ascii(rt: HostRuntime) -> Result<(), Fail> {
+    assert_two_fixes(
+        &rt,
+        &[
+            // Empty lines, before the first line too.
+            [
+                b"\n\r\nAXXXABC\n\nHFDTE010724\n\n",
+                ORIGIN,
+                b"\n\n\n",
+                b"B1000010000000N00000000EA0100001000\n\n",
+            ],
+            // Bytes past ASCII, and lines that are passed over.
+            [
+                b"AXXX\xe9\nHFPLTPILOT:J\xc3\xbcrgen \xff\nHFDTE010724\n",
+                ORIGIN,
+                b"\nL\xe9\xff\nF100000\xe9\nK100\n",
+                b"B1000010000000N00000000EA0100001000\n",
+            ],
+        ],
+    )
+}
+
+#[test]
+fn lines_behind_the_fixes(rt: HostRuntime) -> Result<(), Fail> {
+    assert_two_fixes(
+        &rt,
+        &[
+            // An end-of-file byte, and G lines.
+            [
+                HEAD,
+                ORIGIN,
+                b"\n",
+                b"B1000010000000N00000000EA0100001000\nGABCDEF0123456789\nGB1000020000000\n\x1a",
+            ],
+            [
+                HEAD,
+                ORIGIN,
+                b"\n\x1a\n",
+                b"B1000010000000N00000000EA0100001000\r\n\x1a\r\n",
+            ],
+            // A date line behind the B lines.
+            [
+                b"AXXXABC\n",
+                ORIGIN,
+                b"\n",
+                b"B1000010000000N00000000EA0100001000\nHFDTEDATE:010724,01\n",
+            ],
+        ],
+    )
 }

@@ -63,59 +63,84 @@ fn the_first_date_line_counts(rt: HostRuntime) -> Result<(), Fail> {
 /// An I line, what follows the 35 bytes of a B line, and the latitude, longitude and noise.
 type FieldCase<'a> = (&'a [u8], &'a [u8], (i32, i32, Option<u16>));
 
-#[test]
-fn fields_of_i_lines(rt: HostRuntime) -> Result<(), Fail> {
-    let cases: [FieldCase; 34] = [
-        // One digit counts ten times, and of more the first two count.
-        (b"I013636LAD", b"5", (50, 0, None)),
-        (b"I013636LOD", b"5", (0, 50, None)),
-        (b"I013637LOD", b"07", (0, 7, None)),
-        (b"I013639LAD", b"1299", (12, 0, None)),
-        (b"I023637LAD3840ENL", b"99123", (99, 0, Some(123))),
-        (b"I033638ENL3940LAD4142LOD", b"0001234", (12, 34, Some(0))),
-        // A field that isn't all digits, or that the line is too short for.
-        (b"I013639LAD", b"12X9", (0, 0, None)),
-        (b"I013637LAD", b"5", (0, 0, None)),
-        (b"I013637LAD", b"", (0, 0, None)),
-        (b"I013638ENL", b"1 3", (0, 0, None)),
-        (b"I013638ENL", b"12", (0, 0, None)),
-        // Noise has three columns.
-        (b"I013637ENL", b"123", (0, 0, None)),
-        (b"I013639ENL", b"1234", (0, 0, None)),
-        // The first group of a code counts.
-        (b"I023636LAD3737LAD", b"59", (50, 0, None)),
-        (b"I023637ENL3840ENL", b"12345", (0, 0, None)),
-        // Other codes, and what follows the groups.
-        (b"I023638FXA3939LAD", b"0005", (50, 0, None)),
-        (b"I013636LADxyz", b"5", (50, 0, None)),
-        (b"I003636LAD", b"5", (0, 0, None)),
-        // Damaged: cut in each of its ways.
-        (b"I", b"5", (0, 0, None)),
-        (b"I0", b"5", (0, 0, None)),
-        (b"I01", b"5", (0, 0, None)),
-        (b"I013", b"5", (0, 0, None)),
-        (b"I0136", b"5", (0, 0, None)),
-        (b"I01363", b"5", (0, 0, None)),
-        (b"I013636", b"5", (0, 0, None)),
-        (b"I013636L", b"5", (0, 0, None)),
-        (b"I013636LA", b"5", (0, 0, None)),
-        (b"I023636LAD3737LO", b"59", (0, 0, None)),
-        // Damaged: a digit is wanting, a start below 36, a finish below its start.
-        (b"IX13636LAD", b"5", (0, 0, None)),
-        (b"I0X3636LAD", b"5", (0, 0, None)),
-        (b"I01X636LAD", b"5", (0, 0, None)),
-        (b"I01363XLAD", b"5", (0, 0, None)),
-        (b"I013536LAD", b"5", (0, 0, None)),
-        (b"I013736LAD", b"55", (0, 0, None)),
-    ];
+/// Asserts what the one fix has beside its own columns.
+fn assert_fields(rt: &(impl AllocGlobal + Abort), cases: &[FieldCase]) -> Result<(), Fail> {
     for (i_line, field, expected) in cases {
         let recording = read(rt.alloc(), &[HEAD, i_line, b"\n", ORIGIN, field])?;
         for fix in recording.fixes.as_slice() {
-            assert_eq!(rt; (fix.grid.lat, fix.grid.lon, fix.enl), expected);
+            assert_eq!(rt; (fix.grid.lat, fix.grid.lon, fix.enl), *expected);
         }
         assert_eq!(rt; (recording.fixes.len(), recording.skipped), (1, 0));
     }
     Ok(())
+}
+
+#[test]
+fn fields_of_i_lines(rt: HostRuntime) -> Result<(), Fail> {
+    assert_fields(
+        &rt,
+        &[
+            // One digit counts ten times, and of more the first two count.
+            (b"I013636LAD", b"5", (50, 0, None)),
+            (b"I013636LOD", b"5", (0, 50, None)),
+            (b"I013637LOD", b"07", (0, 7, None)),
+            (b"I013639LAD", b"1299", (12, 0, None)),
+            (b"I023637LAD3840ENL", b"99123", (99, 0, Some(123))),
+            (b"I033638ENL3940LAD4142LOD", b"0001234", (12, 34, Some(0))),
+            // A field that isn't all digits, or that the line is too short for.
+            (b"I013639LAD", b"12X9", (0, 0, None)),
+            (b"I013637LAD", b"5", (0, 0, None)),
+            (b"I013637LAD", b"", (0, 0, None)),
+            (b"I013638ENL", b"1 3", (0, 0, None)),
+            (b"I013638ENL", b"12", (0, 0, None)),
+            // Noise has three columns.
+            (b"I013637ENL", b"123", (0, 0, None)),
+            (b"I013639ENL", b"1234", (0, 0, None)),
+        ],
+    )
+}
+
+#[test]
+fn groups_of_i_lines(rt: HostRuntime) -> Result<(), Fail> {
+    assert_fields(
+        &rt,
+        &[
+            // The first group of a code counts.
+            (b"I023636LAD3737LAD", b"59", (50, 0, None)),
+            (b"I023637ENL3840ENL", b"12345", (0, 0, None)),
+            // Other codes, and what follows the groups.
+            (b"I023638FXA3939LAD", b"0005", (50, 0, None)),
+            (b"I013636LADxyz", b"5", (50, 0, None)),
+            (b"I003636LAD", b"5", (0, 0, None)),
+        ],
+    )
+}
+
+#[test]
+fn damaged_i_lines(rt: HostRuntime) -> Result<(), Fail> {
+    assert_fields(
+        &rt,
+        &[
+            // Damaged: cut in each of its ways.
+            (b"I", b"5", (0, 0, None)),
+            (b"I0", b"5", (0, 0, None)),
+            (b"I01", b"5", (0, 0, None)),
+            (b"I013", b"5", (0, 0, None)),
+            (b"I0136", b"5", (0, 0, None)),
+            (b"I01363", b"5", (0, 0, None)),
+            (b"I013636", b"5", (0, 0, None)),
+            (b"I013636L", b"5", (0, 0, None)),
+            (b"I013636LA", b"5", (0, 0, None)),
+            (b"I023636LAD3737LO", b"59", (0, 0, None)),
+            // Damaged: a digit is wanting, a start below 36, a finish below its start.
+            (b"IX13636LAD", b"5", (0, 0, None)),
+            (b"I0X3636LAD", b"5", (0, 0, None)),
+            (b"I01X636LAD", b"5", (0, 0, None)),
+            (b"I01363XLAD", b"5", (0, 0, None)),
+            (b"I013536LAD", b"5", (0, 0, None)),
+            (b"I013736LAD", b"55", (0, 0, None)),
+        ],
+    )
 }
 
 #[test]

@@ -1,7 +1,7 @@
 use Rattle.std.proofs.Common.{◌≡◌, arith, w8, w16, to_z, pos}
 use Rattle.std.proofs.lemmas.Int.{to_z_pos}
 use Rattle.gl_igc.proofs.Calendar.{day_number_is}
-use Rattle.gl_task.proofs.day.day_of_numbers.Goals as goal
+use Rattle.gl_igc.proofs.date.day_number.Goals as goal
 
 pub returns : goal.returns
 returns c =
