@@ -15,7 +15,7 @@ use Rattle.gl_check.specs.Verdict.{AreRight, BeginWhole, Begins, ComesTo, IsClos
 use Rattle.gl_check.specs.Walk.{AreFrontiers, IsWalked}
 use Rattle.gl_check.proofs.Frontiers.{covers_begun, frontier_ends, walked_begins, walked_on, walked_open, walked_whole}
 
-length-cells_of : (boxes : List (List (ℕ × ℕ) × Why)) → length (cells_of boxes) ≡ length boxes
+pub length-cells_of : (boxes : List (List (ℕ × ℕ) × Why)) → length (cells_of boxes) ≡ length boxes
 length-cells_of boxes = length-map boxes (λ (box : List (ℕ × ℕ) × Why). box.0)
 
 -- the box at a place
@@ -79,10 +79,10 @@ verdict_open rule total fixes cells i opened all claimed walked right some =
     )
 
 -- a tuple with the fixes of a claim is worth its total
-same_worth : (rule : Rule) (total : ℕ) (fixes tuple other : List ℕ) → IsReached rule total tuple → fixes ≡ chosen rule.axes tuple → fixes ≡ chosen rule.axes other → value rule other ≡ total
+pub same_worth : (rule : Rule) (total : ℕ) (fixes tuple other : List ℕ) → IsReached rule total tuple → fixes ≡ chosen rule.axes tuple → fixes ≡ chosen rule.axes other → value rule other ≡ total
 same_worth rule total fixes tuple other reached is also = ap rule.worth (sym also ∙ is) ∙ reached.worth
 
-whole_begins : (rule : Rule) (boxes : List (List (ℕ × ℕ) × Why)) (k : ℕ) → IsFrontier (whole_cell rule.axes) (cells_of boxes) → BeginWhole rule boxes k
+pub whole_begins : (rule : Rule) (boxes : List (List (ℕ × ℕ) × Why)) (k : ℕ) → IsFrontier (whole_cell rule.axes) (cells_of boxes) → BeginWhole rule boxes k
 whole_begins rule boxes k frontier =
     (drop k (cells_of boxes), subst (IsFrontier (whole_cell rule.axes)) (sym (take-append-drop k (cells_of boxes))) frontier)
 

@@ -7,16 +7,13 @@ ghost use Rattle.gl_check.specs.Verdict.{IsVerdict, NumbersBox};
 ghost use Rattle.gl_check.specs.Walk.{IsWalked, open_cells};
 
 use crate::verdict::Verdict;
-use crate::walk::{go_down, whole};
+use crate::walk::go_down;
 use gl_box::{Cell, Closed, Why};
-use gl_goal::{Goal, Leg};
+use gl_goal::{Goal, Leg, measured_legs, whole};
 use std::alloc::{AllocError, Global};
 
 /// Room for open cells: each cut adds one, and a cell can be cut at most 32 times on each axis.
 const OPEN_ROOM: usize = 512;
-
-/// Room for measured legs; a power of two, so that all of it serves.
-const LEG_ROOM: usize = 4_096;
 
 /// The number of the box at a place, as it is told.
 fn number_of(place: usize) -> u32
@@ -41,13 +38,6 @@ fn is_closed<G: Goal>(goal: &G, total: Option<u64>, closed: &Closed, legs: &mut 
             Some(total) => goal.bound_by(&closed.cell, legs) <= total,
         },
     }
-}
-
-/// Room for the legs that a check measures.
-fn measured_legs<G: Goal>(alloc: Global, goal: &G) -> Result<Vec<Leg>, AllocError>
-    ensures { IfOk result (λ legs. G.are_legs goal.now legs.items) }
-{
-    vec![in alloc; goal.leg(); LEG_ROOM]
 }
 
 /// What is said of boxes, one after the other. The only error is want of memory.

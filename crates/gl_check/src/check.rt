@@ -1,6 +1,7 @@
 ghost use Rattle.std.specs.Prelude.{◌≡◌, ◌↔◌, IfOk};
 ghost use Rattle.gl_goal.specs.Rule.{IsOptimum};
 ghost use Rattle.gl_check.specs.Checked.{IsCertified, IsCheckedAs};
+ghost use Rattle.gl_check.specs.declared.verdict.Verdict.{Verdict};
 ghost use Rattle.gl_check.specs.declared.verdict.Verdict.TheVariants.{Yes};
 
 use crate::boxes::check_boxes;
@@ -26,6 +27,8 @@ fn verdict_of<G: Goal>(alloc: Global, goal: &G, claim: &Claim) -> Result<Verdict
 /// optimum of the goal. The only error is want of memory.
 pub fn check_claim<G: Goal>(alloc: Global, goal: &G, claim: &Claim) -> Result<Verdict, AllocError>
     ensures verdict { IfOk result (IsCheckedAs (G.rule goal.now) claim.now) }
+    ensures only { IfOk result (λ verdict. (other : Verdict)
+        → IsCheckedAs (G.rule goal.now) claim.now other → other ≡ verdict) }
     ensures yes { IfOk result (λ verdict.
         (verdict ≡ Yes) ↔ IsCertified (G.rule goal.now) claim.now) }
     ensures optimum { IfOk result (λ verdict.

@@ -1,27 +1,9 @@
-ghost use Rattle.std.specs.Prelude.{◌≡◌, ◌↔◌, ◌-◌, ℕ, List, ◌∷◌, false, length, IfOk, IsTrue};
+ghost use Rattle.std.specs.Prelude.{◌≡◌, ◌↔◌, ℕ, List, ◌∷◌, false, IfOk, IsTrue};
 ghost use Rattle.gl_box.specs.Cell.{spans_of};
-ghost use Rattle.gl_goal.specs.Rule.{whole_cell};
 ghost use Rattle.gl_check.specs.Walk.{AreFrontiers, open_cells};
 
-use gl_box::{Cell, Span, Tuple, covers, halve};
-use gl_goal::Goal;
+use gl_box::{Cell, covers, halve};
 use std::alloc::AllocError;
-
-/// The cell with each place of each axis.
-pub fn whole<G: Goal>(goal: &G) -> Cell
-    ensures { spans_of result ≡ whole_cell (G.rule goal.now).axes }
-{
-    let axes = goal.axes();
-    let mut cell = Cell::point(&Tuple::first(axes));
-    for axis in 0..axes {
-        let span = Span {
-            lo: 0,
-            hi: goal.len(axis) - 1,
-        };
-        cell.set(axis as usize, span);
-    }
-    cell
-}
 
 /// Whether two cells have the same axes and spans.
 fn is_same(cell: &Cell, other: &Cell) -> bool

@@ -1,6 +1,6 @@
-ghost use Rattle.std.specs.Prelude.{◌≡◌, ◌<◌, ◌↔◌, [], All, IfOk, IsNone, OnOk, vec_len};
+ghost use Rattle.std.specs.Prelude.{◌<◌, ◌↔◌, [], All, IfOk, IsNone, OnOk, vec_len};
 ghost use Rattle.gl_box.specs.Cell.{spans_of};
-ghost use Rattle.gl_goal.specs.Rule.{HasNoLegal, IsOptimum, whole_cell};
+ghost use Rattle.gl_goal.specs.Rule.{HasNoLegal, IsOptimum};
 ghost use Rattle.gl_plain.specs.Search.{IsNeeded, IsNoLess, IsSound, total_of};
 ghost use Rattle.gl_plain.specs.Steps.{Advances, Closes, IsUnderWay};
 ghost use Rattle.gl_plain.specs.Found.{AreNeeded, IsCertified};
@@ -8,8 +8,8 @@ ghost use Rattle.gl_plain.specs.Found.{AreNeeded, IsCertified};
 use crate::found::{Best, Found};
 use crate::verdict::{Verdict, test};
 use crate::warm::warm_start;
-use gl_box::{Cell, Closed, Span, Tuple, Why, halve};
-use gl_goal::{Goal, Leg};
+use gl_box::{Cell, Closed, Why, halve};
+use gl_goal::{Goal, Leg, measured_legs, whole};
 use std::alloc::{AllocError, Global};
 
 /// Room for open cells: each cut adds one, and a cell can be cut at most 32 times on each axis.
@@ -17,25 +17,6 @@ const OPEN_ROOM: usize = 512;
 
 /// Room for closed boxes at the start.
 const CLOSED_ROOM: usize = 65_536;
-
-/// Room for measured legs; a power of two, so that all of it serves.
-const LEG_ROOM: usize = 4_096;
-
-/// The cell with each place of each axis.
-pub(crate) fn whole<G: Goal>(goal: &G) -> Cell
-    ensures { spans_of result ≡ whole_cell (G.rule goal.now).axes }
-{
-    let axes = goal.axes();
-    let mut cell = Cell::point(&Tuple::first(axes));
-    for axis in 0..axes {
-        let span = Span {
-            lo: 0,
-            hi: goal.len(axis) - 1,
-        };
-        cell.set(axis as usize, span);
-    }
-    cell
-}
 
 /// Closes the last open cell. The only error is want of memory.
 #[inline]
@@ -103,13 +84,6 @@ fn run<G: Goal>(
         advance(goal, best, cells, boxes, legs)?;
     }
     Ok(())
-}
-
-/// Room for the legs that a search measures.
-fn measured_legs<G: Goal>(alloc: Global, goal: &G) -> Result<Vec<Leg>, AllocError>
-    ensures { IfOk result (λ legs. G.are_legs goal.now legs.items) }
-{
-    vec![in alloc; goal.leg(); LEG_ROOM]
 }
 
 /// The optimum of a goal, and boxes that certify it: in the order of the split tree they are a

@@ -1,5 +1,5 @@
 -- What is spelled at the front of a text can be spelled in no other way.
-use Rattle.std.proofs.Common.{◌≡◌, ◌∙◌, sym, ap, refl, subst, ℕ, zero, suc, ◌+◌, ◌%◌, ◌^◌, ◌<◌, ◌≤◌, Bool, true, ◌&&◌, List, [], ◌∷◌, ◌++◌, length, get_or, take, drop, map, append_assoc, arith, inl, inr}
+use Rattle.std.proofs.Common.{◌≡◌, ◌∙◌, sym, ap, refl, subst, ℕ, zero, suc, ◌+◌, ◌*◌, ◌/◌, ◌%◌, ◌^◌, ◌<◌, ◌≤◌, Bool, true, ◌&&◌, List, [], ◌∷◌, ◌++◌, length, get_or, take, drop, map, append_assoc, arith, inl, inr}
 use Rattle.std.specs.Char.{is_ascii_alphanumeric, is_ascii_digit}
 use Rattle.std.specs.Fmt.{decimal}
 use Rattle.std.specs.List.{list_all, prefix_len, take_while}
@@ -7,7 +7,7 @@ use Rattle.std.specs.Prelude.{All, nat_le}
 use Rattle.std.specs.Str.{IsAscii}
 use Rattle.std.proofs.lemmas.Bool.{cases_Bool, false≢true, and_parts, and_from, le-leb, leb-true}
 use Rattle.std.proofs.lemmas.Bool.Decides.{nat_tests}
-use Rattle.std.proofs.lemmas.Fmt.{decimal_by_steps, decimal_injective}
+use Rattle.std.proofs.lemmas.Fmt.{decimal_by_steps, decimal_injective, decimal_step}
 use Rattle.std.proofs.lemmas.List.{length-take-le, take-append-drop}
 use Rattle.std.proofs.lemmas.List.Elements.{All-head, All-tail}
 use Rattle.std.proofs.lemmas.List.Folds.{list_all-append}
@@ -175,3 +175,16 @@ pub letters_ascii : (text : List ℕ) → list_all is_ascii_alphanumeric text �
 letters_ascii [] all k = omega arith
 letters_ascii (b ∷ bs) all zero = letter_small b (and_parts (is_ascii_alphanumeric b) (list_all is_ascii_alphanumeric bs) all).0
 letters_ascii (b ∷ bs) all (suc k) = letters_ascii bs (and_parts (is_ascii_alphanumeric b) (list_all is_ascii_alphanumeric bs) all).1 k
+
+-- a number with one digit more
+pub decimal-longer : (m digit n : ℕ) → 1 ≤ m → n ≡ m * 10 + digit → digit < 10 → n < 2 ^ 32 → decimal n ≡ decimal m ++ (48 + digit) ∷ []
+decimal-longer m digit n some is low small =
+    let tens : n / 10 ≡ m = omega arith in
+    let last : n % 10 ≡ digit = omega arith in
+    decimal_step n (omega arith) (omega arith) ∙ (λ i. decimal (tens i) ++ (48 + last i) ∷ [])
+
+-- a text that began with a number begins with the longer one
+pub digit-joins : (text rest after : List ℕ) (m digit n : ℕ) → 1 ≤ m → text ≡ decimal m ++ rest → rest ≡ (48 + digit) ∷ after → n ≡ m * 10 + digit → digit < 10 → n < 2 ^ 32 → text ≡ decimal n ++ after
+digit-joins text rest after m digit n some was next is low small =
+    was ∙ ap (λ (l : List ℕ). decimal m ++ l) next ∙ sym (append_assoc (decimal m) ((48 + digit) ∷ []) after)
+    ∙ ap (λ (l : List ℕ). l ++ after) (sym (decimal-longer m digit n some is low small))

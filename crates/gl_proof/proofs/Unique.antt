@@ -1,5 +1,5 @@
 -- A text has one reading: at most one proof has it, and at most one refusal is told of it.
-use Rattle.std.proofs.Common.{◌≡◌, ◌∙◌, sym, ap, refl, subst, ℕ, ◌+◌, ◌^◌, ◌<◌, inl, inr, false, List, [], ◌∷◌, ◌++◌, length, get_or, map, append_assoc, Option, Some, None, arith}
+use Rattle.std.proofs.Common.{◌≡◌, ◌∙◌, sym, ap, refl, subst, ℕ, ◌+◌, ◌^◌, ◌<◌, inl, inr, List, [], ◌∷◌, ◌++◌, length, get_or, map, append_assoc, Option, Some, None, arith}
 use Rattle.std.specs.Fmt.{decimal}
 use Rattle.std.specs.List.{flat_map}
 use Rattle.std.specs.Prelude.{All, MatchOption, codes, min}
@@ -12,7 +12,7 @@ use Rattle.gl_proof.specs.declared.claim.ClaimKind.{ClaimKind}
 use Rattle.gl_proof.specs.declared.error.ProofError.{ProofError}
 use Rattle.gl_proof.specs.declared.error.ProofError.TheVariants.{Heading, Line as WrongLine, Cut, Memory}
 use Rattle.gl_proof.specs.Claim.{IsStatement, Statement, box_line, claim_lines, fix_lines, spelled}
-use Rattle.gl_proof.specs.Line.{AreFixes, Line, HeadingLine, ClaimLine, FixLine, BoxLine, EndLine, IsLine, IsSpan, closes_box, ended, kind_word, may_follow, reason_word, spaced, span_word, total_word}
+use Rattle.gl_proof.specs.Line.{AreFixes, Line, HeadingLine, ClaimLine, FixLine, BoxLine, EndLine, IsLine, IsSpan, ended, kind_word, may_follow, reason_word, spaced, span_word, total_word}
 use Rattle.gl_proof.specs.Refusal.{Follow, HasLine, IsCut, IsFirstWrong, IsHeadless, IsRefused, NoneFollows, RunsThrough, last_line}
 use Rattle.gl_proof.specs.Text.{IsTextOf, lines_of, proof_text}
 use Rattle.gl_proof.proofs.Chain.{end_follows, follow_append, last-append, lines_follow}
@@ -197,13 +197,14 @@ text_refused text ss Cut of is = absurd (text_cut text ss of is)
 -- lines that begin with no box
 no_box_first : List Line → Type 0
 no_box_first [] = Unit {0}
-no_box_first (line ∷ lines) = closes_box line ≡ false
+no_box_first (BoxLine why spans ∷ lines) = ⊥
+no_box_first (line ∷ lines) = Unit {0}
 
 boxes_unique : (xs ys : List (List (ℕ × ℕ) × Why)) (r q : List Line) → no_box_first r → no_box_first q → map box_line xs ++ r ≡ map box_line ys ++ q → (xs ≡ ys) × (r ≡ q)
 unfolding no_box_first
 boxes_unique [] [] r q none_r none_q same = (refl, same)
-boxes_unique [] (y ∷ ys) r q none_r none_q same = absurd (false≢true (sym (subst no_box_first same none_r)))
-boxes_unique (x ∷ xs) [] r q none_r none_q same = absurd (false≢true (sym (subst no_box_first (sym same) none_q)))
+boxes_unique [] (y ∷ ys) r q none_r none_q same = absurd (subst no_box_first same none_r)
+boxes_unique (x ∷ xs) [] r q none_r none_q same = absurd (subst no_box_first (sym same) none_q)
 boxes_unique (x ∷ xs) (y ∷ ys) r q none_r none_q same =
     let why : x.1 ≡ y.1 = cc in
     let spans : x.0 ≡ y.0 = cc in
@@ -213,8 +214,8 @@ boxes_unique (x ∷ xs) (y ∷ ys) r q none_r none_q same =
 
 no_box_lines : (ss : List Statement) → no_box_first (lines_of ss)
 unfolding no_box_first
-no_box_lines [] = refl
-no_box_lines (s ∷ ss) = refl
+no_box_lines [] = tt
+no_box_lines (s ∷ ss) = tt
 
 claim_unique : (m n : List ℕ) (k j : ClaimKind) (t u : Option ℕ) (fs gs : List ℕ) (xs ys : List (List (ℕ × ℕ) × Why)) (r q : List Line) → MatchOption t (fs ≡ []) (λ _. AreFixes fs) → MatchOption u (gs ≡ []) (λ _. AreFixes gs) → no_box_first r → no_box_first q → ClaimLine m k t ∷ (fix_lines t fs ++ (map box_line xs ++ r)) ≡ ClaimLine n j u ∷ (fix_lines u gs ++ (map box_line ys ++ q)) → (m ≡ n) × (k ≡ j) × (t ≡ u) × (fs ≡ gs) × (xs ≡ ys) × (r ≡ q)
 claim_unique m n k j None None fs gs xs ys r q named_f named_g none_r none_q same =

@@ -1,5 +1,5 @@
 -- A line of a proof, and how it is spelled.
-use Rattle.std.specs.Prelude.{ℕ, ◌^◌, ◌<◌, ◌≤◌, Bool, true, false, ◌||◌, IsTrue, List, [], ◌∷◌, ◌++◌, length, map, Option, None, Some, IfSome, codes, All}
+use Rattle.std.specs.Prelude.{ℕ, ◌^◌, ◌<◌, ◌≤◌, Bool, true, false, IsTrue, List, [], ◌∷◌, ◌++◌, length, map, Option, None, Some, IfSome, codes, All}
 use Rattle.std.specs.Fmt.{decimal}
 use Rattle.std.specs.List.{flat_map}
 use Rattle.gl_box.specs.declared.closed.Why.{Why}
@@ -82,45 +82,24 @@ IsLine (FixLine fixes) = AreFixes fixes
 IsLine (BoxLine why spans) = AreSpans spans
 IsLine EndLine = Unit {0}
 
-abbrev pub begins_claim : Line → Bool
-begins_claim HeadingLine = false
-begins_claim (ClaimLine number kind total) = true
-begins_claim (FixLine fixes) = false
-begins_claim (BoxLine why spans) = false
-begins_claim EndLine = false
-
-abbrev pub names_fixes : Line → Bool
-names_fixes HeadingLine = false
-names_fixes (ClaimLine number kind total) = false
-names_fixes (FixLine fixes) = true
-names_fixes (BoxLine why spans) = false
-names_fixes EndLine = false
-
-abbrev pub closes_box : Line → Bool
-closes_box HeadingLine = false
-closes_box (ClaimLine number kind total) = false
-closes_box (FixLine fixes) = false
-closes_box (BoxLine why spans) = true
-closes_box EndLine = false
-
-abbrev pub ends_proof : Line → Bool
-ends_proof HeadingLine = false
-ends_proof (ClaimLine number kind total) = false
-ends_proof (FixLine fixes) = false
-ends_proof (BoxLine why spans) = false
-ends_proof EndLine = true
-
--- a line with which a claim ends, or another box of it
+-- what may stand behind the lines of a claim: another box of it, the next claim or the end
 abbrev pub goes_on : Line → Bool
-goes_on next = closes_box next || (begins_claim next || ends_proof next)
+goes_on HeadingLine = false
+goes_on (ClaimLine number kind total) = true
+goes_on (FixLine fixes) = false
+goes_on (BoxLine why spans) = true
+goes_on EndLine = true
 
 -- Whether a line may stand right behind another one: behind the heading a claim or the end; behind
 -- the line of a claim with a total its fixes, and behind each other line of a claim a box, the next
 -- claim or the end; nothing behind the end.
 abbrev pub may_follow : Line → Line → Bool
-may_follow HeadingLine next = begins_claim next || ends_proof next
+may_follow HeadingLine (ClaimLine number kind total) = true
+may_follow HeadingLine EndLine = true
+may_follow HeadingLine other = false
 may_follow (ClaimLine number kind None) next = goes_on next
-may_follow (ClaimLine number kind (Some total)) next = names_fixes next
+may_follow (ClaimLine number kind (Some total)) (FixLine fixes) = true
+may_follow (ClaimLine number kind (Some total)) other = false
 may_follow (FixLine fixes) next = goes_on next
 may_follow (BoxLine why spans) next = goes_on next
 may_follow EndLine next = false

@@ -1,4 +1,4 @@
-ghost use Rattle.std.specs.Prelude.{◌≡◌, ◌≢◌, ◌^◌, ◌++◌, ◌≤◌, ℕ, List, length, take_while, MatchOption};
+ghost use Rattle.std.specs.Prelude.{◌≡◌, ◌≢◌, ◌+◌, ◌-◌, ◌*◌, ◌^◌, ◌++◌, ◌<◌, ◌≤◌, ℕ, List, length, take_while, IfSome, IsTrue, MatchOption};
 ghost use Rattle.std.specs.Char.{is_ascii_alphanumeric, is_ascii_digit};
 ghost use Rattle.gl_box.specs.Cell.{ends};
 ghost use Rattle.gl_proof.specs.Fronts.{IsEntrantAt, IsNumberAt, IsSpanAt, Reads};
@@ -42,8 +42,51 @@ pub fn number_at(text: &[u8]) -> Option<(u64, &[u8])>
     Some((number, rest))
 }
 
+/// Behind some digits of a number: the number with one digit more, if it is far from 32 bits.
+#[inline]
+fn longer(number: u32, digit: u8) -> Option<u32>
+    requires { IsTrue (is_ascii_digit digit) }
+    ensures { IfSome result (λ next. (next ≡ number * 10 + (digit - 48)) × (next < 2 ^ 32)) }
+{
+    if number > 99_999_999 {
+        return None;
+    }
+    Some(number * 10 + u32::from(digit - b'0'))
+}
+
+/// The number at the front of a text, with all the digits there, and what follows it, for most of
+/// the numbers from 1 to 999,999,999. It finds them sooner than `any_number_at`.
+fn common_number_at(text: &[u8]) -> Option<(u32, &[u8])>
+    ensures { IfSome result (λ read. IsNumberAt (2 ^ 32) text.now read.0 read.1.now) }
+{
+    let (&first, mut rest) = text.split_first()?;
+    if !first.is_ascii_digit() || first == b'0' {
+        return None;
+    }
+    let mut number = u32::from(first - b'0');
+    'digits: while let Some((&digit, after)) = rest.split_first() {
+        if !digit.is_ascii_digit() {
+            break;
+        }
+        number = longer(number, digit)?;
+        rest = after;
+    }
+    Some((number, rest))
+}
+
 /// The number of 32 bits at the front of a text, with all the digits there, and what follows it.
+#[inline]
 pub fn short_number_at(text: &[u8]) -> Option<(u32, &[u8])>
+    ensures { Reads (λ number. number) (IsNumberAt (2 ^ 32) text.now) result }
+{
+    match common_number_at(text) {
+        Some(read) => Some(read),
+        None => any_number_at(text),
+    }
+}
+
+/// The same as `short_number_at`, for all numbers.
+fn any_number_at(text: &[u8]) -> Option<(u32, &[u8])>
     ensures { Reads (λ number. number) (IsNumberAt (2 ^ 32) text.now) result }
 {
     let (number, rest) = number_at(text)?;

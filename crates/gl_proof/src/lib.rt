@@ -2,6 +2,7 @@
 //! A proof has one spelling; docs/proof-file.md explains it line by line.
 #![tactic(auto)]
 
+mod backwards;
 mod claim;
 mod claim_lines;
 mod error;

@@ -1,16 +1,20 @@
-ghost use Rattle.std.specs.Prelude.{◌≡◌, ℕ, List, [], ◌∷◌, ◌++◌, map, OnOk, OnErr};
+ghost use Rattle.std.specs.Prelude.{◌≡◌, ℕ, List, [], ◌∷◌, ◌++◌, map, codes, OnOk, OnErr};
 ghost use Rattle.std.specs.Fmt.{decimal};
 ghost use Rattle.std.specs.List.{flat_map};
-ghost use Rattle.gl_box.specs.Cell.{ends, spans_of};
+ghost use Rattle.gl_box.specs.Cell.{spans_of};
 ghost use Rattle.gl_box.specs.Closed.{box_of};
 ghost use Rattle.gl_proof.specs.Claim.{IsWritable, box_line, claim_text, fix_lines, spelled, statement_of};
 ghost use Rattle.gl_proof.specs.Kept.{Keeps};
 ghost use Rattle.gl_proof.specs.Line.{BoxLine, ClaimLine, FixLine, ended, kind_word, reason_word, span_word, spaced, total_word};
 
+use crate::backwards::{SPAN_ROOM, write_spans};
 use crate::claim::{Claim, ClaimKind};
-use gl_box::{Closed, Span, Why};
+use gl_box::{Closed, MOST_AXES, Why};
 use gl_text::push_u64;
 use std::alloc::AllocError;
+
+/// Room for the spans of a box and LF behind them.
+const LINE_ROOM: usize = MOST_AXES * SPAN_ROOM + 1;
 
 /// The word of a kind of claim.
 fn kind_word(kind: ClaimKind) -> &'static [u8]
@@ -24,14 +28,14 @@ fn kind_word(kind: ClaimKind) -> &'static [u8]
     }
 }
 
-/// The word of a reason.
-fn reason_word(why: Why) -> &'static [u8]
-    ensures { result.now ≡ reason_word why }
+/// The words with which the line of a box begins, for a reason.
+fn box_words(why: Why) -> &'static [u8]
+    ensures { result.now ≡ codes "BOX" ++ 32 ∷ reason_word why }
 {
     match why {
-        Why::Disordered => b"D",
-        Why::Shut => b"S",
-        Why::Bound => b"B",
+        Why::Disordered => b"BOX D",
+        Why::Shut => b"BOX S",
+        Why::Bound => b"BOX B",
     }
 }
 
@@ -53,19 +57,6 @@ fn push_number(out: &mut Vec<u8>, before: u8, number: u64) -> Result<(), AllocEr
     push_u64(out, number)
 }
 
-/// Appends the spans of a box, each behind a space.
-fn push_spans(out: &mut Vec<u8>, spans: &[Span]) -> Result<(), AllocError>
-    ensures ok { OnOk result
-        (out.new.items ≡ out.old.items ++ spaced (map span_word (map ends spans.now))) }
-    ensures err { OnErr result (Keeps out.old.items out.new.items) }
-{
-    for span in spans {
-        push_number(out, b' ', span.lo.into())?;
-        push_number(out, b'-', span.hi.into())?;
-    }
-    Ok(())
-}
-
 /// Appends the numbers of fixes, each behind a space.
 fn push_fixes(out: &mut Vec<u8>, fixes: &[u32]) -> Result<(), AllocError>
     ensures ok { OnOk result (out.new.items ≡ out.old.items ++ spaced (map decimal fixes.now)) }
@@ -83,11 +74,11 @@ fn push_box_line(out: &mut Vec<u8>, closed: &Closed) -> Result<(), AllocError>
         ≡ out.old.items ++ ended (BoxLine closed.now.why (spans_of closed.now.cell))) }
     ensures err { OnErr result (Keeps out.old.items out.new.items) }
 {
-    out.extend_from_slice(b"BOX")?;
-    push_word(out, b' ', reason_word(closed.why))?;
-    push_spans(out, &closed.cell.spans[..closed.cell.axes as usize])?;
-    out.push(b'\n')?;
-    Ok(())
+    let mut line = [b'\n'; LINE_ROOM];
+    let spans = &closed.cell.spans[..closed.cell.axes as usize];
+    let start = write_spans(&mut line, LINE_ROOM - 1, spans);
+    out.extend_from_slice(box_words(closed.why))?;
+    out.extend_from_slice(&line[start..])
 }
 
 /// Appends the line of the fixes.

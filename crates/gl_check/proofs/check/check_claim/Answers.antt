@@ -2,8 +2,14 @@ use Rattle.std.proofs.lemmas.Result.{IfOk-weaker}
 use Rattle.std.proofs.Common.{map}
 use Rattle.gl_box.specs.Closed.{box_of}
 use Rattle.gl_goal.specs.Laws.Optimum.{certificate_optimum}
+use Rattle.gl_check.proofs.Exact.{verdict_unique}
 use Rattle.gl_check.proofs.Judged.{yes_exactly}
 use Rattle.gl_check.proofs.check.check_claim.Goals as goal
+
+pub returns-clause-only : goal.returns-clause-only
+returns-clause-only g c =
+    let claim = c.args.claim.now in
+    IfOk-weaker c.verdict_of.result _ _ (λ verdict said other is. verdict_unique (g.G.Goal.rule c.args.goal.now) claim.total claim.fixes.items (map box_of claim.cells.items) other verdict is said) c.verdict_of.ensures
 
 pub returns-clause-yes : goal.returns-clause-yes
 returns-clause-yes g c =

@@ -1,9 +1,9 @@
-use Rattle.std.proofs.Common.{◌+◌, ◌*◌, ◌≤◌, length}
+use Rattle.std.proofs.Common.{◌+◌, ◌≤◌, length}
 use Rattle.gl_proof.proofs.claim_lines.count_boxes.Given as goal
 
--- each line so far took 10 bytes at least
-abbrev pub invariant-lines : goal.invariant-lines
-invariant-lines l = 10 * l.count + length l.rest ≤ length l.text
+-- each line so far took a byte at least
+abbrev pub invariant-pieces : goal.invariant-pieces
+invariant-pieces l = l.count + length l.rest ≤ length l.text
 
-abbrev pub decreases-lines : goal.decreases-lines
-decreases-lines l = length l.rest
+abbrev pub decreases-pieces : goal.decreases-pieces
+decreases-pieces l = length l.rest

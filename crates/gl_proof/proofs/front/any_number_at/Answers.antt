@@ -1,6 +1,6 @@
 use Rattle.std.proofs.Common.{arith}
 use Rattle.gl_proof.proofs.Codes.{number_same}
-use Rattle.gl_proof.proofs.front.short_number_at.Goals as goal
+use Rattle.gl_proof.proofs.front.any_number_at.Goals as goal
 
 pub returns-then-number-from : goal.returns-then-number-from
 returns-then-number-from c = λ n more at.

@@ -5,7 +5,7 @@ use Rattle.gl_box.specs.Halves.{span_at}
 use Rattle.gl_box.specs.Laws.Spans.{length-spans_of}
 use Rattle.gl_goal.specs.Rule.{whole_cell}
 use Rattle.gl_goal.specs.Laws.Order.{length-whole, span_at-whole}
-use Rattle.gl_plain.proofs.search.whole.Goals as goal
+use Rattle.gl_goal.proofs.opening.whole.Goals as goal
 
 pub first-requires-clause-some : goal.first-requires-clause-some
 first-requires-clause-some g c = let goal = g.met.G.Goal.laws c.args.goal.now in omega (arith, goal.some_axis, c.axes-axes.ensures)

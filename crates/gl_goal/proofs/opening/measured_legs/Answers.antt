@@ -1,7 +1,7 @@
 use Rattle.std.proofs.Common.{sym, subst, List, arith}
 use Rattle.std.proofs.lemmas.Result.{IfOk-weaker}
 use Rattle.gl_goal.specs.declared.leg.Leg.{Leg}
-use Rattle.gl_check.proofs.boxes.measured_legs.Goals as goal
+use Rattle.gl_goal.proofs.opening.measured_legs.Goals as goal
 
 pub returns : goal.returns
 returns g c =

@@ -1,7 +1,7 @@
 use Rattle.std.proofs.Common.{◌≡◌, ◌-◌, ℕ, ◌<◌, length, get_or, []}
 use Rattle.gl_box.specs.Cell.{spans_of}
 use Rattle.gl_box.specs.Halves.{span_at}
-use Rattle.gl_plain.proofs.search.whole.Given as goal
+use Rattle.gl_goal.proofs.opening.whole.Given as goal
 
 -- the axes so far have their whole spans
 abbrev pub invariant-loop-axis : goal.invariant-loop-axis
