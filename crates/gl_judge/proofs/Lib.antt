@@ -5,6 +5,7 @@ pub mod Finishing
 pub mod Fronts
 pub mod Lines
 pub mod Numbers
+pub mod OneOutcome
 pub mod Order
 pub mod Ranges
 pub mod Readiness

@@ -5,6 +5,7 @@ pub mod Crossings
 pub mod Finishes
 pub mod Greatest
 pub mod JudgedFixes
+pub mod Laws
 pub mod Marking
 pub mod Outcome
 pub mod Starts

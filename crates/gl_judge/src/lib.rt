@@ -9,6 +9,7 @@ mod expected;
 mod finishes;
 mod judged_fixes;
 mod judging;
+pub mod laws;
 mod marking;
 mod outcome;
 mod passing;

@@ -1,1 +1,2 @@
+pub mod OneOrder
 pub mod Standing

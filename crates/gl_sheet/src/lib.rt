@@ -2,6 +2,7 @@
 #![tactic(auto)]
 
 mod columns;
+pub mod laws;
 mod line;
 mod row;
 #[cfg(test)]
