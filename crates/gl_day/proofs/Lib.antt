@@ -1,0 +1,5 @@
+pub mod Fines
+pub mod Named
+pub mod Totalled
+pub mod Walked
+pub mod Windows

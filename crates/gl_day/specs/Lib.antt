@@ -1,0 +1,7 @@
+pub mod Checked
+pub mod Day
+pub mod Expected
+pub mod Fault
+pub mod Flight
+pub mod Laws
+pub mod Totals

@@ -1,0 +1,85 @@
+ghost use Rattle.std.specs.Prelude.{◌≡◌, ℕ, List, IfOk, IsSome, IsTrue};
+ghost use Rattle.gl_goal.specs.AnyGoal.{any_rule};
+ghost use Rattle.gl_goal.specs.Rule.{IsLegal, IsOptimum};
+ghost use Rattle.gl_plain.specs.Found.{IsCertified};
+ghost use Rattle.gl_plain.specs.Search.{IsSound, fixes_of, total_of};
+ghost use Rattle.gl_proof.specs.Claim.{IsWritable, statement_of};
+ghost use Rattle.gl_proof.specs.Number.{is_number};
+ghost use Rattle.gl_day.specs.Expected.{Proves};
+
+use gl_desk::Name;
+use gl_goal::{AnyGoal, fix_numbers};
+use gl_plain::{Best, Found, search_one};
+use gl_proof::{Claim, ClaimKind};
+use std::alloc::{AllocError, Global};
+
+/// The total that was found, if any.
+fn total_of(best: &Option<Best>) -> Option<u64>
+    ensures { result ≡ total_of best.now }
+{
+    match best {
+        Some(best) => Some(best.total),
+        None => None,
+    }
+}
+
+/// The numbers of the fixes that were found, none where nothing was. The only error is want of
+/// memory.
+fn fixes_of(alloc: Global, goal: &AnyGoal, best: &Option<Best>) -> Result<Vec<u32>, AllocError>
+    requires { IsSound (any_rule goal.now) best.now }
+    ensures { IfOk result (λ fixes. fixes.items ≡ fixes_of (any_rule goal.now) best.now) }
+{
+    match best {
+        Some(best) => fix_numbers(alloc, goal, &best.tuple),
+        None => Ok(Vec::new(alloc)),
+    }
+}
+
+/// The claim of what was found; its boxes are moved. The only error is want of memory.
+fn claim_of_found(
+    alloc: Global,
+    number: &Name,
+    kind: ClaimKind,
+    goal: &AnyGoal,
+    found: Found,
+) -> Result<Claim, AllocError>
+    requires number { IsTrue (is_number number.now) }
+    requires certified { IsCertified (any_rule goal.now) found }
+    requires sound { IsSound (any_rule goal.now) found.best }
+    requires optimum { IsOptimum (any_rule goal.now) (total_of found.best) }
+    ensures proves { IfOk result (λ claim.
+        Proves (number.now, kind, any_rule goal.now) (statement_of claim)) }
+    ensures writable { IfOk result IsWritable }
+    ensures total { IfOk result (λ claim. (tuple : List ℕ)
+        → IsLegal (any_rule goal.now) tuple → IsSome claim.total) }
+{
+    let fixes = fixes_of(alloc, goal, &found.best)?;
+    Ok(Claim {
+        number: Name::from_text(alloc, number.as_str())?,
+        kind,
+        total: total_of(&found.best),
+        fixes,
+        cells: found.closed,
+    })
+}
+
+/// The claim of an entrant for a goal: the greatest total in centimetres, the fixes that reach it
+/// and the boxes that show that no choice is longer. The total is `None` exactly where no choice is
+/// legal. A claim can have 50 million boxes, so one at a time is to be in memory. The only error is
+/// want of memory.
+pub fn claim_of(
+    alloc: Global,
+    number: &Name,
+    kind: ClaimKind,
+    goal: &AnyGoal,
+) -> Result<Claim, AllocError>
+    requires { IsTrue (is_number number.now) }
+    ensures proves { IfOk result (λ claim.
+        Proves (number.now, kind, any_rule goal.now) (statement_of claim)) }
+    ensures writable { IfOk result IsWritable }
+    ensures total { IfOk result (λ claim. (tuple : List ℕ)
+        → IsLegal (any_rule goal.now) tuple → IsSome claim.total) }
+{
+    let found = search_one(alloc, goal)?;
+    claim_of_found(alloc, number, kind, goal, found)
+}

@@ -1,0 +1,24 @@
+//! A day as values: what the flights of a task give, claim by claim and line by line of the sheet,
+//! and whether a proof that was read is that of the day. It reads and writes no file.
+#![tactic(auto)]
+
+mod check;
+mod claim;
+mod day;
+mod fault;
+mod finish;
+mod flight;
+mod frame;
+mod totals;
+
+pub use check::{check_end, check_flight};
+pub use claim::claim_of;
+pub use day::{day_rows, sheet_of};
+pub use fault::{Checked, Fault, NotProved};
+pub use finish::finish_flight;
+pub use flight::{Flight, MOST_BYTES, Seen, absent_flight, large_flight, read_flight};
+pub use frame::{end_line, heading_line};
+pub use totals::Totals;
+
+#[cfg(test)]
+mod tests;
