@@ -1,3 +1,16 @@
+pub mod Accepting
+pub mod AnswerLines
+pub mod Appended
+pub mod Compared
+pub mod Claiming
+pub mod Commanded
+pub mod DayLines
+pub mod DayPasses
+pub mod DayTests
+pub mod Flights
 pub mod FreeTexts
 pub mod LineTexts
 pub mod NoTask
+pub mod Readings
+pub mod Rights
+pub mod TaskSame

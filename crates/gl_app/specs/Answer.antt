@@ -3,8 +3,8 @@ use Rattle.std.specs.Prelude.{ℕ, List, []}
 use Rattle.gl_app.specs.declared.answer.Answer as code
 use Rattle.gl_app.specs.declared.status.Status.{Status}
 use Rattle.gl_app.specs.declared.status.Status.TheVariants.{Refused}
-use Rattle.gl_app.specs.declared.refusal.Refusal.{Refusal}
-use Rattle.gl_app.specs.Refusals.{refusal_line}
+use Rattle.gl_app.specs.declared.refusal.Cause.{Cause}
+use Rattle.gl_app.specs.Refusals.{refusal_line, file_refusal}
 
 -- the status that a run ends with, what it says, and what it appends to the file that its command
 -- writes
@@ -18,9 +18,14 @@ abbrev pub saying : Status → List ℕ → Answer
 saying status text = record { status = status; said = text; appended = [] }
 
 -- a refused run says the refusal's one line
-abbrev pub refused : Refusal → Answer
-refused refusal = saying Refused (refusal_line refusal)
+abbrev pub refused : List ℕ → Cause → Answer
+refused file cause = saying Refused (refusal_line (file_refusal file cause))
 
 -- an answer of the code, which appends nothing
 abbrev pub answer_of : code.Answer → Answer
 answer_of answer = saying answer.status answer.text.items
+
+-- an answer of the code, once this text was appended
+abbrev pub answer_with : code.Answer → List ℕ → Answer
+answer_with answer text =
+    record { status = answer.status; said = answer.text.items; appended = text }

@@ -1,7 +1,10 @@
 use Rattle.gl_app.specs.declared.command.Command.{Command}
 use Rattle.gl_app.specs.declared.command.Command.TheVariants as code
+use Rattle.gl_app.specs.DayNames.{names_seen}
 use Rattle.gl_app.specs.Words as words
 
 -- a command of the code as plain data
 abbrev pub seen : Command → words.Command
 seen (code.Free file) = words.Free file.now
+seen (code.Score names) = words.Score (names_seen names)
+seen (code.Check names) = words.Check (names_seen names)

@@ -8,13 +8,10 @@ use Rattle.gl_igc.specs.Recording.{sighting_of}
 use Rattle.gl_goal.specs.Rule.{Rule, IsReached, IsOptimum, chosen}
 use Rattle.gl_goal.specs.Free.{free_goal}
 use Rattle.gl_app.specs.declared.status.Status.TheVariants.{Done}
-use Rattle.gl_app.specs.declared.refusal.Refusal.TheVariants.{NotListed, TooLarge, NotIgc, NoDate, TooManyFixes, NoFix}
+use Rattle.gl_app.specs.declared.refusal.Cause.TheVariants.{NotListed, TooLarge, NotIgc, NoDate, TooManyFixes, NoFix}
 use Rattle.gl_app.specs.Answer.{Answer, saying, refused}
+use Rattle.gl_app.specs.Listed.{most_bytes}
 use Rattle.gl_app.specs.Texts.{free_text}
-
--- the most bytes that a recording may have
-abbrev pub most_bytes : ℕ
-most_bytes = 16_777_216
 
 -- the goal over all fixes of a recording, with a loss of at most 1,000 m
 abbrev pub whole_free_goal : List Fix → Rule
@@ -39,20 +36,20 @@ IsFreeOfReading reading answer =
 -- a task none is of another day.
 abbrev pub IsFreeOfText : List ℕ → Result Reading IgcError → Answer → Type 0
 IsFreeOfText file (Ok reading) answer = IsFreeOfReading reading answer
-IsFreeOfText file (Err igc.NotIgc) answer = answer ≡ refused (NotIgc file)
-IsFreeOfText file (Err igc.NoDate) answer = answer ≡ refused (NoDate file)
+IsFreeOfText file (Err igc.NotIgc) answer = answer ≡ refused file NotIgc
+IsFreeOfText file (Err igc.NoDate) answer = answer ≡ refused file NoDate
 IsFreeOfText file (Err (igc.WrongDay day)) answer = ⊥
-IsFreeOfText file (Err (igc.TooManyFixes line)) answer = answer ≡ refused (TooManyFixes file line)
-IsFreeOfText file (Err igc.NoFix) answer = answer ≡ refused (NoFix file)
+IsFreeOfText file (Err (igc.TooManyFixes line)) answer = answer ≡ refused file (TooManyFixes line)
+IsFreeOfText file (Err igc.NoFix) answer = answer ≡ refused file NoFix
 IsFreeOfText file (Err igc.Memory) answer = ⊥
 
 -- The answer for a file and what the tests saw of it: none where it isn't listed, else its bytes.
 -- The tests are made in this order: it is listed; it isn't too large; it is a recording.
 abbrev pub IsFree : List ℕ → Option (List ℕ) → Answer → Type 0
-IsFree file None answer = answer ≡ refused (NotListed file)
+IsFree file None answer = answer ≡ refused file NotListed
 IsFree file (Some bytes) answer =
     MatchBool (nat_lt most_bytes (length bytes))
-    (answer ≡ refused (TooLarge file))
+    (answer ≡ refused file TooLarge)
     (IsFreeOfText file (recording_of bytes None) answer)
 
 -- a file that passes these tests

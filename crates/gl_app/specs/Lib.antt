@@ -7,6 +7,14 @@ pub mod Texts
 pub mod Free
 pub mod Run
 pub mod Command
+pub mod DayNames
+pub mod Halts
+pub mod DayFiles
+pub mod Appending
+pub mod Asked
+pub mod Check
+pub mod Score
+pub mod Scoring
 pub mod Lines
 pub mod Listed
 pub use Rattle.gl_desk.specs.Desk

@@ -4,6 +4,13 @@ use Rattle.gl_desk.specs.Desk.{FilesByName, IsSeenIn, IsLongerThan}
 use Rattle.gl_app.specs.declared.listed.Listed as code
 use Rattle.gl_app.specs.declared.listed.Listed.TheVariants.{Missing, Large, Bytes}
 
+-- the most bytes that a proof may have, and those that any other file may have
+abbrev pub most_proof_bytes : ℕ
+most_proof_bytes = 1_073_741_824
+
+abbrev pub most_bytes : ℕ
+most_bytes = 16_777_216
+
 -- what was seen under a name, with a limit of bytes
 abbrev pub IsSeenAs : Option FilesByName → List ℕ → ℕ → code.Listed → Type 0
 IsSeenAs folder file limit Missing = IsSeenIn folder file None

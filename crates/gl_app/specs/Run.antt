@@ -1,24 +1,39 @@
 -- The right answer of a run, and how a run ends.
-use Rattle.std.specs.Prelude.{◌≡◌, ◌≢◌, ℕ, List, [], Option, None, Some, take, ◌⊎◌, MatchOption}
-use Rattle.gl_desk.specs.Desk.{FilesByName, Told, IsSeenIn, FileTakes, OutputGrows, file_of, followed_by, output_of}
+use Rattle.std.specs.Prelude.{◌≡◌, ℕ, List, [], Option, None, Some, take, ◌⊎◌, MatchOption}
+use Rattle.gl_desk.specs.Answers.{CountsFaults}
+use Rattle.gl_desk.specs.Desk.{FilesByName, Told, IsSeenIn, followed_by}
+use Rattle.gl_desk.specs.declared.error.DeskError.{DeskError}
+use Rattle.gl_day.specs.Flight.{StewardRules}
 use Rattle.gl_app.specs.declared.status.Status.{Status}
 use Rattle.gl_app.specs.declared.status.Status.TheVariants.{Words}
 use Rattle.gl_app.specs.Answer.{Answer, saying}
+use Rattle.gl_app.specs.Appending.{IsAppended}
+use Rattle.gl_app.specs.Check.{IsCheck, IsScoredFolder, PassesCheck}
 use Rattle.gl_app.specs.Statuses.{stop_at}
-use Rattle.gl_app.specs.Words.{Command, Free}
+use Rattle.gl_app.specs.Score.{IsScore, IsScoreBegun, PassesScore}
+use Rattle.gl_app.specs.Words.{Check, Command, Free, Score}
 use Rattle.gl_app.specs.Texts.{IsLine, usage_line}
 use Rattle.gl_app.specs.Free.{IsFree, PassesFree}
 
 -- The answer is right for a command: it is right for what the tests of the command saw, and where
 -- the desk tells its folder, that is what the folder has. A further command has its case here.
-abbrev pub IsRightFor : Option FilesByName → Command → Answer → Type 0
-IsRightFor folder (Free file) answer =
+abbrev pub IsRightFor : Option FilesByName → List StewardRules → Command → Answer → Type 0
+IsRightFor folder stewards (Free file) answer =
     (seen : Option (List ℕ)) × IsSeenIn folder file seen × IsFree file seen answer
+IsRightFor folder stewards (Score names) answer = IsScore folder stewards names answer
+IsRightFor folder stewards (Check names) answer = IsCheck folder names answer
 
 -- the answer is right for words of a command, or of none
-abbrev pub IsRight : Option FilesByName → Option Command → Answer → Type 0
-IsRight folder None answer = answer ≡ saying Words usage_line
-IsRight folder (Some command) answer = IsRightFor folder command answer
+abbrev pub IsRight : Option FilesByName → List StewardRules → Option Command → Answer → Type 0
+IsRight folder stewards None answer = answer ≡ saying Words usage_line
+IsRight folder stewards (Some command) answer = IsRightFor folder stewards command answer
+
+-- What a command appends that is stopped on its way: a first part of the text of a right answer.
+abbrev pub IsBegunFor : Option FilesByName → Option Command → List ℕ → Type 0
+IsBegunFor folder None text = ⊥
+IsBegunFor folder (Some (Free file)) text = ⊥
+IsBegunFor folder (Some (Score names)) text = IsScoreBegun folder names text
+IsBegunFor folder (Some (Check names)) text = ⊥
 
 -- The desk tells its folder, and its files pass every test of the command. A further command has
 -- its case here.
@@ -26,29 +41,32 @@ abbrev pub PassTests : Option FilesByName → Option Command → Type 0
 PassTests None command = ⊥
 PassTests (Some files) None = ⊥
 PassTests (Some files) (Some (Free file)) = PassesFree (files file)
+PassTests (Some files) (Some (Score names)) = PassesScore files names
+PassTests (Some files) (Some (Check names)) = PassesCheck files names
+
+-- The command checks the proof that `score` wrote, in the folder of its day.
+abbrev pub ChecksScored : Option FilesByName → Option Command → Type 0
+ChecksScored None command = ⊥
+ChecksScored (Some files) None = ⊥
+ChecksScored (Some files) (Some (Free file)) = ⊥
+ChecksScored (Some files) (Some (Score names)) = ⊥
+ChecksScored (Some files) (Some (Check names)) = IsScoredFolder files names
 
 -- The file that a command appends to, if it does. A further command has its case here.
 abbrev pub target_of : Option Command → Option (List ℕ)
 target_of None = None
 target_of (Some (Free file)) = None
+target_of (Some (Score names)) = Some names.proof
+target_of (Some (Check names)) = None
 
--- the text was appended to the target, and nothing to any other file
-abbrev pub IsAppended : Option (List ℕ) → List ℕ → Told → Told → Type 0
-IsAppended None text before after =
-    (text ≡ []) × (after.folder ≡ before.folder) × (after.outputs ≡ before.outputs)
-IsAppended (Some name) text before after =
-    OutputGrows before.outputs after.outputs name text
-    × FileTakes before.folder after.folder name text
-    × ((other : List ℕ) → other ≢ name
-    → (output_of after.outputs other ≡ output_of before.outputs other)
-    × (file_of after.folder other ≡ file_of before.folder other))
-
--- the answer was given: all of it was appended and said, and the run ended with its status
+-- the answer was given: all of it was appended and said, and the run ended with its status; where
+-- nothing is appended no file is made
 pub record Gives (target : Option (List ℕ)) (answer : Answer) (status : Status)
     (before after : Told) : Type 0 where
   pub ended : status ≡ answer.status
   pub said : after.said ≡ followed_by before.said answer.said
   pub appended : IsAppended target answer.appended before after
+  pub untouched : answer.appended ≡ [] → (after.folder ≡ before.folder) × (after.outputs ≡ before.outputs)
 
 -- a first part of the answer was given, and something was said only where all was appended
 pub record GivesPart (target : Option (List ℕ)) (answer : Answer)
@@ -64,14 +82,33 @@ abbrev pub GivesNothing : Told → Told → Type 0
 GivesNothing before after =
     (after.said ≡ before.said) × (after.folder ≡ before.folder) × (after.outputs ≡ before.outputs)
 
--- How a run ends, by its status: it gave a right answer, or it was stopped and gave at most a first
--- part of one.
-abbrev pub Ends : (Answer → Type 0) → Option (List ℕ) → Status → Told → Told → Type 0
-Ends Right target status before after =
+-- a text that a stopped command leaves was appended, and nothing was said
+pub record GivesBegun (Begun : List ℕ → Type 0) (target : Option (List ℕ)) (before after : Told)
+    : Type 0 where
+  pub text : List ℕ
+  pub begun : Begun text
+  pub said : after.said ≡ before.said
+  pub appended : IsAppended target text before after
+
+-- A command was stopped before its answer: it gave nothing, or what a stopped command leaves.
+pub record IsStopped (Begun : List ℕ → Type 0) (target : Option (List ℕ)) (before after : Told)
+    (stop : DeskError) : Type 0 where
+  pub gave : GivesNothing before after ⊎ GivesBegun Begun target before after
+  pub faults : CountsFaults (Some stop) before.faults after.faults
+
+-- A stopped run gave nothing, or what a stopped command leaves, or a first part of a right answer.
+abbrev pub Stops : (Answer → Type 0) → (List ℕ → Type 0) → Option (List ℕ) → Told → Told → Type 0
+Stops Right Begun target before after =
+    GivesNothing before after
+    ⊎ (GivesBegun Begun target before after
+    ⊎ ((answer : Answer) × Right answer × GivesPart target answer before after))
+
+-- How a run ends, by its status: it gave a right answer, or it was stopped.
+abbrev pub Ends : (Answer → Type 0) → (List ℕ → Type 0) → Option (List ℕ) → Status → Told → Told → Type 0
+Ends Right Begun target status before after =
     MatchOption (stop_at status)
     ((answer : Answer) × Right answer × Gives target answer status before after)
-    (λ _. GivesNothing before after
-    ⊎ ((answer : Answer) × Right answer × GivesPart target answer before after))
+    (λ _. Stops Right Begun target before after)
 
 -- one line was said
 abbrev pub SaidLine : Option (List ℕ) → Option (List ℕ) → Type 0

@@ -1,11 +1,20 @@
 -- The words of a command.
-use Rattle.std.specs.Prelude.{ℕ, Bool, not, ◌&&◌, ◌||◌, nat_le, nat_eq, ◌==◌, if◌then◌else◌, List, [], ◌∷◌, length, Option, None, Some, codes}
+use Rattle.std.specs.Prelude.{ℕ, Bool, not, ◌&&◌, ◌||◌, nat_le, nat_eq, ◌==◌, if◌then◌else◌, List, [], ◌∷◌, length, Option, None, Some, codes, option_map}
 use Rattle.std.specs.List.{list_all}
 use Rattle.std.specs.Cmp.Lexicographic.{pointwise}
+use Rattle.std.specs.Fmt.{decimal}
+use Rattle.std.specs.Option.{option_or}
+
+-- the names of the two files of a day
+pub record DayNames : Type 0 where
+  pub task : List ℕ
+  pub proof : List ℕ
 
 -- a command and what it is given
 pub data Command : Type 0 where
   Free : List ℕ → Command
+  Score : DayNames → Command
+  Check : DayNames → Command
 
 -- two texts are the same
 abbrev pub is_text : List ℕ → List ℕ → Bool
@@ -33,7 +42,35 @@ free_form (word ∷ file ∷ []) =
     if is_text word (codes "free") && is_file_name file then Some (Free file) else None
 free_form (word ∷ file ∷ more ∷ words) = None
 
+-- the names of a day, where both are those of files
+abbrev pub day_names : List ℕ → List ℕ → Option DayNames
+day_names task proof =
+    if is_file_name task && is_file_name proof
+    then Some (record { task = task; proof = proof }) else None
+
+-- `score TASK PROOF WORKERS`, where the number of workers is 1
+abbrev pub score_form : List (List ℕ) → Option DayNames
+score_form [] = None
+score_form (word ∷ []) = None
+score_form (word ∷ task ∷ []) = None
+score_form (word ∷ task ∷ proof ∷ []) = None
+score_form (word ∷ task ∷ proof ∷ workers ∷ []) =
+    if is_text word (codes "score") && is_text workers (decimal 1)
+    then day_names task proof else None
+score_form (word ∷ task ∷ proof ∷ workers ∷ more ∷ words) = None
+
+-- `check TASK PROOF`
+abbrev pub check_form : List (List ℕ) → Option DayNames
+check_form [] = None
+check_form (word ∷ []) = None
+check_form (word ∷ task ∷ []) = None
+check_form (word ∷ task ∷ proof ∷ []) =
+    if is_text word (codes "check") then day_names task proof else None
+check_form (word ∷ task ∷ proof ∷ more ∷ words) = None
+
 -- The command that the words are a form of, if they are one. A further form is tried where none
 -- before it reads.
 unfoldable pub command_of : List (List ℕ) → Option Command
-command_of words = free_form words
+command_of words =
+    option_or (free_form words)
+    (option_or (option_map Score (score_form words)) (option_map Check (check_form words)))

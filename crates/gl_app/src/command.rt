@@ -3,6 +3,7 @@ ghost use Rattle.std.specs.List.{list_all};
 ghost use Rattle.gl_app.specs.Words.{command_of, free_form, is_dots, is_file_name, is_name_byte};
 ghost use Rattle.gl_app.specs.Command.{seen};
 
+use crate::day_names::{DayNames, read_check, read_score};
 use gl_desk::Name;
 
 /// The most bytes that the name of a file has.
@@ -13,6 +14,10 @@ const MOST_NAME_BYTES: usize = 128;
 pub enum Command<'a> {
     /// `free FILE`: the best free distance of a recording.
     Free(&'a Name),
+    /// `score TASK PROOF WORKERS`: the sheet of a day, and its proof.
+    Score(DayNames<'a>),
+    /// `check TASK PROOF`: whether a proof is that of a day.
+    Check(DayNames<'a>),
 }
 
 /// Whether each byte may stand in a name: no `/`, and none below 32.
@@ -32,7 +37,7 @@ fn is_dots(text: &str) -> bool
 /// Whether the name is a file's: 1 to 128 bytes without `/` and without a byte below 32, and
 /// neither `.` nor `..`.
 #[tactic(auto, unfolding(crate::specs::Words::is_file_name))]
-fn is_file_name(name: &Name) -> bool
+pub fn is_file_name(name: &Name) -> bool
     ensures { result ≡ is_file_name name.now }
 {
     let bytes = name.as_str().as_bytes();
@@ -57,4 +62,6 @@ pub fn read_words(words: &[Name]) -> Option<Command<'_>>
     ensures { option_map seen result ≡ command_of words.now }
 {
     read_free(words)
+        .or_else(|| read_score(words).map(Command::Score))
+        .or_else(|| read_check(words).map(Command::Check))
 }

@@ -1,16 +1,15 @@
-ghost use Rattle.std.specs.Prelude.{◌≡◌, None, Err, IfOk};
+ghost use Rattle.std.specs.Prelude.{◌≡◌, ℕ, List, Option, None, Err, IfOk};
 ghost use Rattle.gl_desk.specs.Answers.{OnlyReads, stop_of};
+ghost use Rattle.gl_desk.specs.Desk.{IsSeenIn};
 ghost use Rattle.gl_igc.specs.Reading.{recording_of};
 ghost use Rattle.gl_igc.specs.Recording.{reading_of};
 ghost use Rattle.gl_app.specs.Answer.{answer_of};
-ghost use Rattle.gl_app.specs.Free.{IsFreeOfText, IsFreeText};
-ghost use Rattle.gl_app.specs.Run.{IsRightFor};
-ghost use Rattle.gl_app.specs.Words.{Free};
+ghost use Rattle.gl_app.specs.Free.{IsFree, IsFreeOfText, IsFreeText};
 
 use crate::answer::Answer;
 use crate::line::refuse;
-use crate::listed::{Listed, read_listed};
-use crate::refusal::Refusal;
+use crate::listed::{Listed, MOST_BYTES, read_listed};
+use crate::refusal::Cause;
 use crate::status::Status;
 use crate::texts::free_lines;
 use gl_desk::{Desk, DeskError, Name};
@@ -18,9 +17,6 @@ use gl_goal::{FreeGoal, fix_numbers};
 use gl_igc::{IgcError, Recording, read_igc};
 use gl_plain::search_one;
 use std::alloc::{AllocError, Global};
-
-/// The most bytes that a recording may have.
-const MOST_BYTES: u64 = 16_777_216;
 
 /// How much lower the last fix may be than the first, in metres.
 const MOST_LOSS: i32 = 1_000;
@@ -51,13 +47,13 @@ fn free_of_text(alloc: Global, file: &Name, text: &[u8]) -> Result<Answer, DeskE
             status: Status::Done,
             text: free_of_recording(alloc, &recording)?,
         }),
-        Err(IgcError::NotIgc) => Ok(refuse(alloc, &Refusal::NotIgc(file.clone()?))?),
-        Err(IgcError::NoDate) => Ok(refuse(alloc, &Refusal::NoDate(file.clone()?))?),
+        Err(IgcError::NotIgc) => Ok(refuse(alloc, file, Cause::NotIgc)?),
+        Err(IgcError::NoDate) => Ok(refuse(alloc, file, Cause::NoDate)?),
         Err(IgcError::WrongDay { .. }) => unreachable!(),
         Err(IgcError::TooManyFixes { line }) => {
-            Ok(refuse(alloc, &Refusal::TooManyFixes(file.clone()?, line))?)
+            Ok(refuse(alloc, file, Cause::TooManyFixes(line))?)
         }
-        Err(IgcError::NoFix) => Ok(refuse(alloc, &Refusal::NoFix(file.clone()?))?),
+        Err(IgcError::NoFix) => Ok(refuse(alloc, file, Cause::NoFix)?),
         Err(IgcError::Memory) => Err(DeskError::Memory),
     }
 }
@@ -65,13 +61,14 @@ fn free_of_text(alloc: Global, file: &Name, text: &[u8]) -> Result<Answer, DeskE
 /// The answer of `free FILE`.
 pub fn free<D: Desk>(alloc: Global, desk: &mut D, file: &Name) -> Result<Answer, DeskError>
     ensures right { IfOk result (λ answer.
-        IsRightFor (D.told desk.old).folder (Free file.now) (answer_of answer)) }
+        (seen : Option (List ℕ)) × IsSeenIn (D.told desk.old).folder file.now seen
+        × IsFree file.now seen (answer_of answer)) }
     ensures reads { OnlyReads (stop_of result) (D.told desk.old) (D.told desk.new) }
 {
     let names = desk.names(alloc)?;
     match read_listed(alloc, desk, &names, file, MOST_BYTES)? {
-        Listed::Missing => Ok(refuse(alloc, &Refusal::NotListed(file.clone()?))?),
-        Listed::Large => Ok(refuse(alloc, &Refusal::TooLarge(file.clone()?))?),
+        Listed::Missing => Ok(refuse(alloc, file, Cause::NotListed)?),
+        Listed::Large => Ok(refuse(alloc, file, Cause::TooLarge)?),
         Listed::Bytes(bytes) => free_of_text(alloc, file, &bytes),
     }
 }

@@ -3,13 +3,22 @@
 #![tactic(auto)]
 
 mod answer;
+mod appending;
+mod check;
+mod checking;
 mod command;
+mod day_files;
+mod day_names;
 mod free;
+mod halt;
 mod line;
 mod listed;
 mod program;
 mod refusal;
 mod run;
+mod score;
+mod scoring;
+mod seeing;
 mod status;
 mod texts;
 

@@ -1,12 +1,15 @@
 ghost use Rattle.std.specs.Prelude.{◌≡◌, ◌++◌, IfOk, OnOk};
 ghost use Rattle.gl_app.specs.Answer.{answer_of, refused};
-ghost use Rattle.gl_app.specs.Refusals.{line_with, parts_of, place_text, refusal_line};
+ghost use Rattle.gl_app.specs.Halts.{AnswersHalt};
+ghost use Rattle.gl_app.specs.Refusals.{at_key, line_with, parts_of, place_text, refusal_line, file_refusal};
 ghost use Rattle.gl_app.specs.Lines.{parts_seen, place_seen};
 
 use crate::answer::Answer;
-use crate::refusal::Refusal;
+use crate::halt::Halt;
+use crate::refusal::Cause;
 use crate::status::Status;
-use gl_desk::Name;
+use gl_desk::{DeskError, Name};
+use gl_task::Key;
 use gl_text::push_u64;
 use std::alloc::{AllocError, Global};
 
@@ -17,44 +20,73 @@ pub enum Place {
     Nowhere,
     /// At a line, counted from 1.
     AtLine(u32),
+    /// At a key of a task.
+    AtKey(Key),
 }
 
-/// The parts of a refusal's line.
+/// The key that asks for lists, among them the one of triangles.
+const LISTS: Key = Key {
+    row: 6,
+    item: 0,
+    part: 0,
+};
+
+/// What a refusal's line says beside the name of the file.
 #[derive(Clone, Copy, Debug)]
-pub struct Parts<'a> {
+pub struct Parts {
     kind: &'static str,
     number: u32,
     place: Place,
-    file: &'a Name,
 }
 
-/// The parts of a refusal of a file.
-fn make_parts<'a>(kind: &'static str, number: u32, place: Place, file: &'a Name) -> Parts<'a>
+/// These parts.
+fn parts_at(kind: &'static str, number: u32, place: Place) -> Parts
     ensures kind { result.kind.now ≡ kind.entry.now }
     ensures number { result.number ≡ number }
     ensures place { result.place ≡ place }
-    ensures file { result.file.now ≡ file.now }
 {
     Parts {
         kind,
         number,
         place,
-        file,
     }
 }
 
 /// What a refusal says.
-fn parts_of(refusal: &Refusal) -> Parts<'_>
-    ensures { parts_seen result ≡ parts_of refusal.now }
+fn parts_of(cause: Cause) -> Parts
+    ensures { parts_seen result ≡ parts_of cause }
 {
-    match refusal {
-        Refusal::NotListed(file) => make_parts("FILE", 1, Place::Nowhere, file),
-        Refusal::TooLarge(file) => make_parts("FILE", 3, Place::Nowhere, file),
-        Refusal::NotIgc(file) => make_parts("IGC", 1, Place::Nowhere, file),
-        Refusal::NoDate(file) => make_parts("IGC", 2, Place::Nowhere, file),
-        Refusal::TooManyFixes(file, line) => make_parts("IGC", 4, Place::AtLine(*line), file),
-        Refusal::NoFix(file) => make_parts("IGC", 5, Place::Nowhere, file),
+    match cause {
+        Cause::NotListed => parts_at("FILE", 1, Place::Nowhere),
+        Cause::Listed => parts_at("FILE", 2, Place::Nowhere),
+        Cause::TooLarge => parts_at("FILE", 3, Place::Nowhere),
+        Cause::NotIgc => parts_at("IGC", 1, Place::Nowhere),
+        Cause::NoDate => parts_at("IGC", 2, Place::Nowhere),
+        Cause::TooManyFixes(line) => parts_at("IGC", 4, Place::AtLine(line)),
+        Cause::NoFix => parts_at("IGC", 5, Place::Nowhere),
+        Cause::NotToml => parts_at("TASK", 1, Place::Nowhere),
+        Cause::NoKey(key) => parts_at("TASK", 2, Place::AtKey(key)),
+        Cause::WrongValue(key) => parts_at("TASK", 3, Place::AtKey(key)),
+        Cause::NumberTwice(key) => parts_at("TASK", 4, Place::AtKey(key)),
+        Cause::TooManyItems(key) => parts_at("TASK", 5, Place::AtKey(key)),
+        Cause::AsksTriangles => parts_at("TASK", 9, Place::AtKey(LISTS)),
+        Cause::WrongAirspace(line) => parts_at("AIR", 1, Place::AtLine(line)),
+        Cause::TooMuchAirspace(line) => parts_at("AIR", 2, Place::AtLine(line)),
+        Cause::NoHeading => parts_at("PROOF", 1, Place::Nowhere),
+        Cause::WrongProof(line) => parts_at("PROOF", 2, Place::AtLine(line)),
+        Cause::ProofCut => parts_at("PROOF", 3, Place::Nowhere),
     }
+}
+
+/// Appends a key as a line writes it: its row, item and part, with points between them.
+fn push_key(line: &mut Vec<u8>, key: Key) -> Result<(), AllocError>
+    ensures { OnOk result (line.new.items ≡ line.old.items ++ place_text (at_key key)) }
+{
+    push_u64(line, u64::from(key.row))?;
+    line.push(b'.')?;
+    push_u64(line, u64::from(key.item))?;
+    line.push(b'.')?;
+    push_u64(line, u64::from(key.part))
 }
 
 /// Appends a place as a line writes it.
@@ -64,15 +96,16 @@ fn push_place(line: &mut Vec<u8>, place: Place) -> Result<(), AllocError>
     match place {
         Place::Nowhere => Ok(line.push(b'-')?),
         Place::AtLine(number) => push_u64(line, u64::from(number)),
+        Place::AtKey(key) => push_key(line, key),
     }
 }
 
 /// The line that a refused run says.
 #[tactic(auto, unfolding(crate::specs::Refusals::line_with))]
-pub fn refusal_line(alloc: Global, refusal: &Refusal) -> Result<Vec<u8>, AllocError>
-    ensures { IfOk result (λ line. line.items ≡ refusal_line refusal.now) }
+fn refusal_line(alloc: Global, file: &Name, cause: Cause) -> Result<Vec<u8>, AllocError>
+    ensures { IfOk result (λ line. line.items ≡ refusal_line (file_refusal file.now cause)) }
 {
-    let parts = parts_of(refusal);
+    let parts = parts_of(cause);
     let mut line = Vec::from_slice(alloc, b"REFUSED ")?;
     line.extend_from_slice(parts.kind.as_bytes())?;
     line.extend_from_slice(b" ")?;
@@ -80,17 +113,27 @@ pub fn refusal_line(alloc: Global, refusal: &Refusal) -> Result<Vec<u8>, AllocEr
     line.extend_from_slice(b" ")?;
     push_place(&mut line, parts.place)?;
     line.extend_from_slice(b" ")?;
-    line.extend_from_slice(parts.file.as_str().as_bytes())?;
+    line.extend_from_slice(file.as_str().as_bytes())?;
     line.push(b'\n')?;
     Ok(line)
 }
 
-/// The answer of a refused run.
-pub fn refuse(alloc: Global, refusal: &Refusal) -> Result<Answer, AllocError>
-    ensures { IfOk result (λ answer. answer_of answer ≡ refused refusal.now) }
+/// The answer of a run whose file is refused.
+pub fn refuse(alloc: Global, file: &Name, cause: Cause) -> Result<Answer, AllocError>
+    ensures { IfOk result (λ answer. answer_of answer ≡ refused file.now cause) }
 {
     Ok(Answer {
         status: Status::Refused,
-        text: refusal_line(alloc, refusal)?,
+        text: refusal_line(alloc, file, cause)?,
     })
+}
+
+/// The answer to what ended a command before its own: the line of a refusal.
+pub fn answer_halt(alloc: Global, halt: Halt) -> Result<Answer, DeskError>
+    ensures { AnswersHalt halt result }
+{
+    match halt {
+        Halt::Refused(refusal) => Ok(refuse(alloc, &refusal.file, refusal.cause)?),
+        Halt::Stopped(stop) => Err(stop),
+    }
 }

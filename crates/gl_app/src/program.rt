@@ -5,6 +5,7 @@ ghost use Rattle.gl_app.specs.Endings.{number_of_ending};
 use crate::run::run_single;
 use crate::status::Status;
 use gl_desk::{HostDesk, Name};
+use gl_steward::Steward;
 use std::alloc::{AllocError, Global};
 use std::env;
 use std::env::Args;
@@ -46,7 +47,10 @@ fn names(alloc: Global, words: Args) -> Result<Vec<Name>, AllocError> {
 }
 
 /// Carries out the words that the system gives, in the current folder and on standard output.
-fn run_words<Rt: Files + Print + Env + AllocGlobal + Drop>(rt: Rt) -> Ending {
+fn run_words<Rt: Files + Print + Env + AllocGlobal + Drop>(
+    rt: Rt,
+    stewards: &mut Vec<Box<dyn Steward>>,
+) -> Ending {
     let alloc = rt.alloc();
     let words = match env::args(&rt) {
         Ok(words) => words,
@@ -57,11 +61,14 @@ fn run_words<Rt: Files + Print + Env + AllocGlobal + Drop>(rt: Rt) -> Ending {
         return Ending::NoMemory;
     };
     let mut desk = HostDesk::new(rt);
-    Ending::Ran(run_single(alloc, &names, &mut desk))
+    Ending::Ran(run_single(alloc, &names, &mut desk, stewards))
 }
 
-/// The program: hands the words of the system, the current folder and the standard output to a run,
-/// and ends with its status as a number.
-pub fn run_program<Rt: Files + Print + Env + AllocGlobal + Drop>(rt: Rt) -> ExitCode {
-    run_words(rt).exit_code()
+/// The program: hands the words of the system, the current folder, the standard output and the
+/// stewards to a run, and ends with its status as a number.
+pub fn run_program<Rt: Files + Print + Env + AllocGlobal + Drop>(
+    rt: Rt,
+    stewards: &mut Vec<Box<dyn Steward>>,
+) -> ExitCode {
+    run_words(rt, stewards).exit_code()
 }

@@ -1,19 +1,51 @@
 use gl_desk::Name;
+use gl_task::Key;
 
-/// The first test of a file that failed, with the name of the file.
-#[derive(Debug, Drop)]
-pub enum Refusal {
+/// Why a file is refused.
+#[derive(Clone, Copy, Debug)]
+pub enum Cause {
     /// The folder doesn't list the file.
-    NotListed(Name),
+    NotListed,
+    /// The folder lists the file, which is to be made.
+    Listed,
     /// The file has more bytes than are read.
-    TooLarge(Name),
+    TooLarge,
     /// The file is no recording: its first line with a byte doesn't begin with `A`, or none has
     /// one.
-    NotIgc(Name),
+    NotIgc,
     /// The recording has no day of the calendar.
-    NoDate(Name),
+    NoDate,
     /// The recording has a 90,001st used fix, on this line.
-    TooManyFixes(Name, u32),
+    TooManyFixes(u32),
     /// No fix of the recording is used.
-    NoFix(Name),
+    NoFix,
+    /// The text of the task isn't TOML.
+    NotToml,
+    /// The task lacks this key, or its list is empty.
+    NoKey(Key),
+    /// The value of this key of the task is of another kind, or out of its range.
+    WrongValue(Key),
+    /// An entrant of the task has the number of an earlier one.
+    NumberTwice(Key),
+    /// The list of this key of the task has too many items.
+    TooManyItems(Key),
+    /// The task asks for the list of triangles, which isn't made yet.
+    AsksTriangles,
+    /// This line of the airspace doesn't read.
+    WrongAirspace(u32),
+    /// With this line there are too many volumes or corners of airspace.
+    TooMuchAirspace(u32),
+    /// The text doesn't begin with the heading of a proof.
+    NoHeading,
+    /// This line of the proof may not stand there.
+    WrongProof(u32),
+    /// The proof has no end.
+    ProofCut,
+}
+
+/// The first test of a file that failed: the name of the file, and why.
+#[derive(Debug, Drop)]
+pub struct Refusal {
+    pub file: Name,
+    pub cause: Cause,
 }

@@ -1,5 +1,6 @@
 use gl_app::{Status, run_single};
 use gl_desk::{MemDesk, Name};
+use gl_steward::Steward;
 use std::alloc::{AllocError, Global};
 use std::test::Fail;
 
@@ -53,7 +54,8 @@ pub struct Ended {
 pub fn run(alloc: Global, line: &str, bytes: Vec<u8>, failing: &[u64]) -> Result<Ended, Fail> {
     let mut desk = folder(alloc, bytes, failing)?;
     let words = words(alloc, line)?;
-    let status = run_single(alloc, &words, &mut desk);
+    let mut stewards: Vec<Box<dyn Steward>> = Vec::new(alloc);
+    let status = run_single(alloc, &words, &mut desk, &mut stewards);
     let said = String::from_utf8(Vec::from_slice(alloc, desk.printed())?)?;
     let calls = desk.calls();
     Ok(Ended {

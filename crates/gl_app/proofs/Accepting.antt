@@ -1,0 +1,216 @@
+-- A proof that `score` wrote is accepted by `check`, in the same folder with the proof in it.
+use Rattle.std.proofs.Common.{◌≡◌, ◌≢◌, ◌∙◌, sym, ap, subst, refl, ℕ, ◌<◌, ◌≤◌, ◌⊎◌, inl, inr, Bool, true, false, List, [], ◌∷◌, ◌++◌, length, Option, None, Some, Result, Ok, Err, arith, append_assoc, append-nil}
+use Rattle.std.specs.Prelude.{MatchBool, nat_lt}
+use Rattle.std.specs.List.{AllZip}
+use Rattle.std.proofs.lemmas.Bool.{cases_lt, le-ltb}
+use Rattle.gl_airspace.specs.declared.volume.Airspace.{Airspace}
+use Rattle.gl_desk.specs.Desk.{FilesByName, IsSeenIn}
+use Rattle.gl_goal.specs.Rule.{Rule}
+use Rattle.gl_igc.specs.declared.error.IgcError.{IgcError}
+use Rattle.gl_igc.specs.declared.error.IgcError.TheVariants.{NotIgc}
+use Rattle.gl_igc.specs.declared.recording.Recording.{Recording}
+use Rattle.gl_igc.specs.Reading.{Reading, recording_of}
+use Rattle.gl_judge.specs.Claims.{AreExpected}
+use Rattle.gl_proof.specs.declared.claim.ClaimKind.{ClaimKind}
+use Rattle.gl_proof.specs.declared.proof.Proof.{Proof}
+use Rattle.gl_proof.specs.Claim.{Statement}
+use Rattle.gl_proof.specs.Text.{IsTextOf, statements_of}
+use Rattle.gl_task.specs.declared.task.Entrant.{Entrant}
+use Rattle.gl_task.specs.declared.task.Task.{Task}
+use Rattle.gl_day.specs.declared.fault.Checked.{Checked}
+use Rattle.gl_day.specs.declared.fault.Checked.TheVariants as checked
+use Rattle.gl_day.specs.Checked.{IsChecked}
+use Rattle.gl_day.specs.Expected.{Proves, expected_of}
+use Rattle.gl_day.specs.Flight.{StewardRules}
+use Rattle.gl_day.specs.Laws.Checks.{none_wrong, not_proved_more, proof_accepted}
+use Rattle.gl_day.specs.Laws.Expected.{expected_alone}
+use Rattle.gl_day.specs.Laws.Foreign.{proof_is_no_recording}
+use Rattle.gl_day.specs.Laws.Recordings.{recording_same}
+use Rattle.gl_app.specs.declared.day_files.DayFiles.{DayFiles}
+use Rattle.gl_app.specs.declared.refusal.Refusal.{Refusal}
+use Rattle.gl_app.specs.declared.status.Status.{Status}
+use Rattle.gl_app.specs.declared.status.Status.TheVariants as status
+use Rattle.gl_app.specs.Answer.{Answer, saying}
+use Rattle.gl_app.specs.Asked.{AreAsked, AreAskedIn, AreAskedOf, AreAskedOfReading, Expected}
+use Rattle.gl_app.specs.Check.{IsCheck, IsCheckOf, IsDayChecked, IsSaidBehind, IsScoredFolder, checked_answer}
+use Rattle.gl_app.specs.DayFiles.{IfListed, IfPassed, IsAirspaceFor, IsAirspaceOf, IsCheckTested, IsDayOf, IsProofIn, IsProofOf, IsScoreTested, IsTaskOf, Tested}
+use Rattle.gl_app.specs.Listed.{most_proof_bytes}
+use Rattle.gl_app.specs.Score.{IsDayScored, IsScore, Scored, statements_of_all}
+use Rattle.gl_app.specs.Run.{ChecksScored, IsRight}
+use Rattle.gl_app.specs.Words.{Check, Command, DayNames, Free, Score}
+use Rattle.gl_app.proofs.DayPasses.{PassedDay, check_parts, check_with, day_passed, listed_ok, listed_then, new_ok, ok_or_err}
+use Rattle.gl_app.proofs.Flights.{all_asked}
+
+-- two names are the same, or aren't
+same_or_not : (a b : List ℕ) → (a ≡ b) ⊎ (a ≢ b)
+same_or_not [] [] = inl refl
+same_or_not [] (y ∷ b) = inr (λ same. cc)
+same_or_not (x ∷ a) [] = inr (λ same. cc)
+same_or_not (x ∷ a) (y ∷ b) =
+    elim (same_or_not a b) [
+      | inr differ ↦ inr (λ same. let e : a ≡ b = cc in differ e)
+      | inl rest ↦ elim (cases_lt x y) [
+        | inl below ↦ inr (λ same. let e : x ≡ y = cc in omega (arith, below, e))
+        | inr least ↦ elim (cases_lt y x) [
+          | inl above ↦ inr (λ same. let e : x ≡ y = cc in omega (arith, above, e))
+          | inr most ↦ (let e : x ≡ y = omega (arith, least, most) in inl (rw (e, rest) refl))
+        ]
+      ]
+    ]
+
+-- what `score` ended with
+pub record EndedScore (before : FilesByName) (stewards : List StewardRules) (names : DayNames) (answer : Answer) : Type 0 where
+  pub day : DayFiles
+  pub bytes : List ℕ
+  pub task_there : before names.task ≡ Some bytes
+  pub proof_new : before names.proof ≡ None
+  pub passed : PassedDay (Some before) names.task bytes day
+  pub scored : IsDayScored (Some before) day stewards answer
+
+score_ended : (before : FilesByName) (stewards : List StewardRules) (names : DayNames) (answer : Answer) → IsScore (Some before) stewards names answer → answer.status ≡ status.Done → EndedScore before stewards names answer
+score_ended before stewards names answer (Ok day, (seen, there, is), scored) done =
+    let ok = listed_ok {X = DayFiles} names.task seen day _ is in
+    let proof = ok.2 in
+    let passed = new_ok proof.0 (IsDayOf (Some before) names.task ok.0 (Ok day)) _ proof.2 (ok_or_err day _) in
+    record {
+      day = day;
+      bytes = ok.0;
+      task_there = there ∙ ok.1;
+      proof_new = proof.1 ∙ passed.0;
+      passed = day_passed (Some before) names.task ok.0 day passed.1;
+      scored = scored;
+    }
+score_ended before stewards names answer (Err refusal, tested, same) done =
+    let e : ◌≡◌ {A = Status} status.Refused status.Done = sym (ap (λ (a : Answer). a.status) same) ∙ done in
+    absurd (cc)
+
+-- a file that was there is there still
+moved : (before files : FilesByName) (proof file bytes : List ℕ) → before proof ≡ None → ((other : List ℕ) → other ≢ proof → files other ≡ before other) → before file ≡ Some bytes → files file ≡ Some bytes
+moved before files proof file bytes new others there =
+    others file (λ same. let e : ◌≡◌ {A = Option (List ℕ)} None (Some bytes) = sym new ∙ ap before (sym same) ∙ there in cc) ∙ there
+
+airspace_moved : (before files : FilesByName) (proof : List ℕ) (airspace : Option (List ℕ)) (a : Airspace) → before proof ≡ None → ((other : List ℕ) → other ≢ proof → files other ≡ before other) → IsAirspaceFor (Some before) airspace (Ok a) → IsAirspaceFor (Some files) airspace (Ok a)
+airspace_moved before files proof None a new others is = is
+airspace_moved before files proof (Some file) a new others (seen, there, is) =
+    let ok = listed_ok {X = Airspace} file seen a (λ bytes. IsAirspaceOf file bytes (Ok a)) is in
+    (Some ok.0, moved before files proof file ok.0 new others (there ∙ ok.1), ok.2)
+
+-- the proof asks for no claim, where an entrant names it
+none_of_proof : (large : Bool) (task : Task) (air : Airspace) (entrant : Entrant) (read : Result Reading IgcError) → read ≡ Err NotIgc → MatchBool large (◌≡◌ {A = List Expected} [] []) (AreAskedOfReading task air entrant read [])
+none_of_proof true task air entrant read is = refl
+none_of_proof false task air entrant read is = subst (λ (r : Result Reading IgcError). AreAskedOfReading task air entrant r []) (sym is) refl
+
+asked_moved_none : (files : FilesByName) (proof text : List ℕ) (task : Task) (air : Airspace) (entrant : Entrant) (claims : List Expected) (now : Option (List ℕ)) → files entrant.file ≡ now → files proof ≡ Some text → recording_of text (Some task.date) ≡ Err NotIgc → (entrant.file ≢ proof → files entrant.file ≡ None) → claims ≡ [] → AreAskedIn (Some files) task air entrant claims
+asked_moved_none files proof text task air entrant claims None there is foreign other none = (None, there, none)
+asked_moved_none files proof text task air entrant claims (Some bytes) there is foreign other none =
+    elim (same_or_not entrant.file proof) [
+      | inl same ↦ (let e : files entrant.file ≡ Some text = ap files same ∙ is in
+          (Some text, e, subst (AreAskedOf task air entrant (Some text)) (sym none) (none_of_proof (nat_lt 16_777_216 (length text)) task air entrant (recording_of text (Some task.date)) foreign)))
+      | inr differ ↦ (let e : ◌≡◌ {A = Option (List ℕ)} (Some bytes) None = sym there ∙ other differ in absurd (cc))
+    ]
+
+asked_moved : (before files : FilesByName) (proof text : List ℕ) (task : Task) (air : Airspace) (entrant : Entrant) (claims : List Expected) → before proof ≡ None → files proof ≡ Some text → recording_of text (Some task.date) ≡ Err NotIgc → ((other : List ℕ) → other ≢ proof → files other ≡ before other) → AreAskedIn (Some before) task air entrant claims → AreAskedIn (Some files) task air entrant claims
+asked_moved before files proof text task air entrant claims new is foreign others (None, there, none) =
+    asked_moved_none files proof text task air entrant claims (files entrant.file) refl is foreign (λ differ. others entrant.file differ ∙ there) none
+asked_moved before files proof text task air entrant claims new is foreign others (Some bytes, there, asked) =
+    (Some bytes, moved before files proof entrant.file bytes new others there, asked)
+
+all_moved : (before files : FilesByName) (proof text : List ℕ) (task : Task) (air : Airspace) (entrants : List Entrant) (claims : List Expected) → before proof ≡ None → files proof ≡ Some text → recording_of text (Some task.date) ≡ Err NotIgc → ((other : List ℕ) → other ≢ proof → files other ≡ before other) → AreAsked (Some before) task air entrants claims → AreAsked (Some files) task air entrants claims
+all_moved before files proof text task air [] claims new is foreign others none = none
+all_moved before files proof text task air (e ∷ entrants) claims new is foreign others (first, rest, asked, more, are) =
+    (first, rest, asked_moved before files proof text task air e first new is foreign others asked, all_moved before files proof text task air entrants rest new is foreign others more, are)
+
+-- what is asked for is one list
+reading_alone : (task : Task) (air : Airspace) (entrant : Entrant) (read : Result Reading IgcError) (a b : List Expected) → AreAskedOfReading task air entrant read a → AreAskedOfReading task air entrant read b → a ≡ b
+reading_alone task air entrant (Ok reading) a b (r, r_is, l, l_is, a_is) (s, s_is, m, m_is, b_is) =
+    let same = recording_same r s (r_is ∙ sym s_is) in
+    let lists = expected_alone task air s l m (subst (λ (t : Recording). AreExpected task air t l) same l_is) m_is in
+    a_is ∙ ap (expected_of entrant.number) lists ∙ sym b_is
+reading_alone task air entrant (Err error) a b a_is b_is = a_is ∙ sym b_is
+
+bytes_alone : (large : Bool) (task : Task) (air : Airspace) (entrant : Entrant) (read : Result Reading IgcError) (a b : List Expected) → MatchBool large (a ≡ []) (AreAskedOfReading task air entrant read a) → MatchBool large (b ≡ []) (AreAskedOfReading task air entrant read b) → a ≡ b
+bytes_alone true task air entrant read a b a_is b_is = a_is ∙ sym b_is
+bytes_alone false task air entrant read a b a_is b_is = reading_alone task air entrant read a b a_is b_is
+
+asked_alone : (task : Task) (air : Airspace) (entrant : Entrant) (seen : Option (List ℕ)) (a b : List Expected) → AreAskedOf task air entrant seen a → AreAskedOf task air entrant seen b → a ≡ b
+asked_alone task air entrant None a b a_is b_is = a_is ∙ sym b_is
+asked_alone task air entrant (Some bytes) a b a_is b_is = bytes_alone (nat_lt 16_777_216 (length bytes)) task air entrant (recording_of bytes (Some task.date)) a b a_is b_is
+
+asked_alone_in : (files : FilesByName) (task : Task) (air : Airspace) (entrant : Entrant) (a b : List Expected) → AreAskedIn (Some files) task air entrant a → AreAskedIn (Some files) task air entrant b → a ≡ b
+asked_alone_in files task air entrant a b (seen, there, is) (other, also, too) =
+    asked_alone task air entrant seen a b is (subst (λ (o : Option (List ℕ)). AreAskedOf task air entrant o b) (sym also ∙ there) too)
+
+-- what is asked for of the first entrants comes first
+asked_front : (files : FilesByName) (task : Task) (air : Airspace) (entrants others : List Entrant) (a b : List Expected) → AreAsked (Some files) task air entrants a → AreAsked (Some files) task air (entrants ++ others) b → (rest : List Expected) × (b ≡ a ++ rest) × AreAsked (Some files) task air others rest
+asked_front files task air [] others a b none all = (b, ap (λ (l : List Expected). l ++ b) (sym none), all)
+asked_front files task air (e ∷ entrants) others a b (first, more, asked, front, are) (first_too, more_too, asked_too, all, are_too) =
+    let same = asked_alone_in files task air e first_too first asked_too asked in
+    let rest = asked_front files task air entrants others more more_too front all in
+    (rest.0, are_too ∙ ap (λ (l : List Expected). l ++ more_too) same ∙ ap (λ (l : List Expected). first ++ l) rest.1 ∙ sym (append_assoc first more rest.0) ∙ ap (λ (l : List Expected). l ++ rest.0) (sym are), rest.2)
+
+-- a proof of all that is asked for is accepted
+said_accepted : (files : FilesByName) (task : Task) (air : Airspace) (others : List Entrant) (expected rest : List Expected) (statements : List Statement) (said : Checked) → AreAsked (Some files) task air others rest → AllZip Proves (expected ++ rest) statements → IsSaidBehind others expected statements said → (n : ℕ) × (said ≡ checked.Accepted n)
+said_accepted files task air [] expected rest statements said none each is =
+    let all : AllZip Proves expected statements = subst (λ (l : List Expected). AllZip Proves l statements) (ap (λ (l : List Expected). expected ++ l) none ∙ append-nil expected) each in
+    (length expected, proof_accepted expected statements said all is)
+said_accepted files task air (e ∷ others) expected rest statements said more each (wrong, same, first) =
+    absurd (none_wrong (expected ++ rest) statements wrong each (not_proved_more expected rest statements wrong first))
+
+day_accepted : (files : FilesByName) (day : DayFiles) (claims : List Expected) (statements : List Statement) (said : Checked) → AreAsked (Some files) day.task day.airspace day.task.entrants claims → AllZip Proves claims statements → IsDayChecked (Some files) day statements said → (n : ℕ) × (said ≡ checked.Accepted n)
+day_accepted files day claims statements said asked each is =
+    let all = subst (λ (l : List Entrant). AreAsked (Some files) day.task day.airspace l claims) is.are asked in
+    let rest = asked_front files day.task day.airspace is.entrants is.others is.expected claims is.asked all in
+    said_accepted files day.task day.airspace is.others is.expected rest.0 statements said rest.2
+    (subst (λ (l : List Expected). AllZip Proves l statements) rest.1 each) is.is
+
+-- the files of the day in the folder with the proof
+record HasDay (files : FilesByName) (names : DayNames) (day : DayFiles) (bytes text : List ℕ) (statements : List Statement) : Type 0 where
+  task_there : files names.task ≡ Some bytes
+  proof_there : files names.proof ≡ Some text
+  passed : PassedDay (Some files) names.task bytes day
+  small : nat_lt most_proof_bytes (length text) ≡ false
+  is_text : IsTextOf text statements
+
+-- such files aren't refused by `check`
+not_refused : (files : FilesByName) (names : DayNames) (day : DayFiles) (bytes text : List ℕ) (statements : List Statement) (refusal : Refusal) → HasDay files names day bytes text statements → IsCheckTested (Some files) names (Err refusal) → ⊥
+not_refused files names day bytes text statements refusal has (seen, there, is) =
+    let listed = listed_then {X = DayFiles × Proof} names.task seen bytes (Err refusal) _ (sym there ∙ has.task_there) is in
+    let proof = listed_then {X = DayFiles × Proof} names.proof listed.0 text (Err refusal) _ (sym listed.1 ∙ has.proof_there) listed.2 in
+    check_parts files names.task bytes names.proof text day proof.0 refusal statements has.passed has.small has.is_text proof.1 proof.2
+
+has_day : (files : FilesByName) (names : DayNames) (folder : IsScoredFolder files names) (ended : EndedScore folder.before folder.stewards names folder.answer) → HasDay files names ended.day ended.bytes folder.answer.appended (statements_of_all ended.scored.scored)
+has_day files names folder ended = record {
+  task_there = moved folder.before files names.proof names.task ended.bytes ended.proof_new folder.others ended.task_there;
+  proof_there = folder.proof;
+  passed = record {
+    task_is = ended.passed.task_is;
+    airspace_is = airspace_moved folder.before files names.proof ended.day.task.airspace ended.day.airspace ended.proof_new folder.others ended.passed.airspace_is;
+  };
+  small = le-ltb most_proof_bytes (length folder.answer.appended) folder.small;
+  is_text = ended.scored.appended;
+}
+
+-- what `score` wrote `check` accepts
+pub scored_accepted : (files : FilesByName) (names : DayNames) (answer : Answer) → IsScoredFolder files names → IsCheck (Some files) names answer → answer.status ≡ status.Done
+scored_accepted files names answer folder (Err refusal, tested, same) =
+    let ended = score_ended folder.before folder.stewards names folder.answer folder.scored folder.done in
+    absurd (not_refused files names ended.day ended.bytes folder.answer.appended (statements_of_all ended.scored.scored) refusal (has_day files names folder ended) tested)
+scored_accepted files names answer folder (Ok passed, tested, (said, is, same)) =
+    let ended = score_ended folder.before folder.stewards names folder.answer folder.scored folder.done in
+    let has = has_day files names folder ended in
+    let statements = statements_of_all ended.scored.scored in
+    let with = check_with files names ended.day ended.bytes folder.answer.appended statements passed has.task_there has.proof_there has.passed has.is_text tested in
+    let have = all_asked (Some folder.before) ended.day folder.stewards ended.day.task.entrants ended.scored.scored ended.scored.each in
+    let foreign = subst (λ (t : List ℕ). recording_of t (Some ended.day.task.date) ≡ Err NotIgc) (sym ended.scored.appended.is) (proof_is_no_recording statements (Some ended.day.task.date)) in
+    let asked = all_moved folder.before files names.proof folder.answer.appended ended.day.task ended.day.airspace ended.day.task.entrants have.claims ended.proof_new folder.proof foreign folder.others have.asked in
+    let checked_is = subst (λ (l : List Statement). IsDayChecked (Some files) ended.day l said) with.1 (subst (λ (d : DayFiles). IsDayChecked (Some files) d (statements_of passed.1) said) with.0 is) in
+    let accepted = day_accepted files ended.day have.claims statements said asked have.each checked_is in
+    ap (λ (a : Answer). a.status) (same ∙ ap checked_answer accepted.1)
+
+-- so a run that isn't stopped ends with a result
+pub right_accepted : (folder : Option FilesByName) (stewards : List StewardRules) (command : Option Command) (answer : Answer) → ChecksScored folder command → IsRight folder stewards command answer → answer.status ≡ status.Done
+right_accepted None stewards command answer checks right = absurd checks
+right_accepted (Some files) stewards None answer checks right = absurd checks
+right_accepted (Some files) stewards (Some (Free file)) answer checks right = absurd checks
+right_accepted (Some files) stewards (Some (Score names)) answer checks right = absurd checks
+right_accepted (Some files) stewards (Some (Check names)) answer checks right = scored_accepted files names answer checks right

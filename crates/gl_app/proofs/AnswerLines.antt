@@ -1,0 +1,103 @@
+-- A right answer without a result says one line.
+use Rattle.std.proofs.Common.{◌≡◌, ◌≢◌, refl, sym, subst, ℕ, ◌-◌, Bool, true, false, ◌&&◌, if◌then◌else◌, List, [], ◌∷◌, length, take, Option, None, Some, codes}
+use Rattle.std.specs.Prelude.{IfNone, option_map}
+use Rattle.std.specs.Cmp.{first_so, second_so}
+use Rattle.std.specs.Fmt.{decimal}
+use Rattle.std.specs.Option.{option_or}
+use Rattle.gl_desk.specs.Desk.{FilesByName, followed_by}
+use Rattle.gl_day.specs.Flight.{StewardRules}
+use Rattle.gl_app.specs.declared.status.Status.TheVariants.{Done}
+use Rattle.gl_app.specs.Answer.{Answer}
+use Rattle.gl_app.specs.Run.{IsRight, SaidLine}
+use Rattle.gl_app.specs.Statuses.{stop_at}
+use Rattle.gl_app.specs.Texts.{IsLine, usage_line}
+use Rattle.gl_app.specs.Words.{Check, Command, DayNames, Free, Score, check_form, command_of, day_names, free_form, is_file_name, is_text, score_form}
+use Rattle.gl_app.proofs.DayLines.{AreUnbroken, check_line, score_line}
+use Rattle.gl_app.proofs.LineTexts.{free_line, is_unbroken, is_unbroken-file, line_of}
+
+-- the files of a command have such names
+abbrev HasUnbrokenNames : Option Command → Type 0
+HasUnbrokenNames None = Unit {0}
+HasUnbrokenNames (Some (Free file)) = is_unbroken file ≡ true
+HasUnbrokenNames (Some (Score names)) = AreUnbroken names
+HasUnbrokenNames (Some (Check names)) = AreUnbroken names
+
+free_names : (is_free : Bool) (file : List ℕ) → (is_free ≡ true → is_unbroken file ≡ true) → HasUnbrokenNames (if is_free then Some (Free file) else None)
+free_names true file named = named refl
+free_names false file named = tt
+
+free_form_names : (words : List (List ℕ)) → HasUnbrokenNames (free_form words)
+free_form_names [] = tt
+free_form_names (word ∷ []) = tt
+free_form_names (word ∷ file ∷ []) = free_names (is_text word (codes "free") && is_file_name file) file (λ is_free. is_unbroken-file file (second_so (is_text word (codes "free")) (is_file_name file) is_free))
+free_form_names (word ∷ file ∷ more ∷ words) = tt
+
+-- so have the two files of a day
+abbrev HaveUnbroken : Option DayNames → Type 0
+HaveUnbroken None = Unit {0}
+HaveUnbroken (Some names) = AreUnbroken names
+
+pair_names : (are : Bool) (task proof : List ℕ) → (are ≡ true → AreUnbroken (record { task = task; proof = proof })) → HaveUnbroken (if are then Some (record { task = task; proof = proof }) else None)
+pair_names true task proof named = named refl
+pair_names false task proof named = tt
+
+day_names_unbroken : (task proof : List ℕ) → HaveUnbroken (day_names task proof)
+day_names_unbroken task proof = pair_names (is_file_name task && is_file_name proof) task proof (λ are. record {
+  task = is_unbroken-file task (first_so (is_file_name task) (is_file_name proof) are);
+  proof = is_unbroken-file proof (second_so (is_file_name task) (is_file_name proof) are);
+})
+
+if_names : (is : Bool) (names : Option DayNames) → HaveUnbroken names → HaveUnbroken (if is then names else None)
+if_names true names named = named
+if_names false names named = tt
+
+score_names : (words : List (List ℕ)) → HaveUnbroken (score_form words)
+score_names [] = tt
+score_names (word ∷ []) = tt
+score_names (word ∷ task ∷ []) = tt
+score_names (word ∷ task ∷ proof ∷ []) = tt
+score_names (word ∷ task ∷ proof ∷ workers ∷ []) = if_names (is_text word (codes "score") && is_text workers (decimal 1)) (day_names task proof) (day_names_unbroken task proof)
+score_names (word ∷ task ∷ proof ∷ workers ∷ more ∷ words) = tt
+
+check_names : (words : List (List ℕ)) → HaveUnbroken (check_form words)
+check_names [] = tt
+check_names (word ∷ []) = tt
+check_names (word ∷ task ∷ []) = tt
+check_names (word ∷ task ∷ proof ∷ []) = if_names (is_text word (codes "check")) (day_names task proof) (day_names_unbroken task proof)
+check_names (word ∷ task ∷ proof ∷ more ∷ words) = tt
+
+as_score : (names : Option DayNames) → HaveUnbroken names → HasUnbrokenNames (option_map Score names)
+as_score None named = tt
+as_score (Some names) named = named
+
+as_check : (names : Option DayNames) → HaveUnbroken names → HasUnbrokenNames (option_map Check names)
+as_check None named = tt
+as_check (Some names) named = named
+
+or_names : (first other : Option Command) → HasUnbrokenNames first → HasUnbrokenNames other → HasUnbrokenNames (option_or first other)
+or_names None other named others = others
+or_names (Some command) other named others = named
+
+command_names : (words : List (List ℕ)) → HasUnbrokenNames (command_of words)
+unfolding command_of
+command_names words =
+    or_names (free_form words) (option_or (option_map Score (score_form words)) (option_map Check (check_form words))) (free_form_names words)
+    (or_names (option_map Score (score_form words)) (option_map Check (check_form words)) (as_score (score_form words) (score_names words)) (as_check (check_form words) (check_names words)))
+
+usage_is_line : IsLine usage_line
+usage_is_line = line_of (take (length usage_line - 1) usage_line) refl
+
+answer_line : (folder : Option FilesByName) (stewards : List StewardRules) (command : Option Command) (answer : Answer) → HasUnbrokenNames command → IsRight folder stewards command answer → answer.status ≢ Done → IsLine answer.said
+answer_line folder stewards None answer names right unless = subst (λ (a : Answer). IsLine a.said) (sym right) usage_is_line
+answer_line folder stewards (Some (Free file)) answer names right unless = free_line file right.0 answer names right.2 unless
+answer_line folder stewards (Some (Score files)) answer names right unless = score_line folder stewards files answer names right unless
+answer_line folder stewards (Some (Check files)) answer names right unless = check_line folder files answer names right unless
+
+pub if_none : {X P : Type 0} (o : Option X) → P → IfNone o P
+if_none None holds = holds
+if_none (Some x) holds = tt
+
+pub said_line : (folder : Option FilesByName) (stewards : List StewardRules) (words : List (List ℕ)) (answer : Answer) (before after : Option (List ℕ)) → IsRight folder stewards (command_of words) answer → after ≡ followed_by before answer.said → IfNone (stop_at answer.status) (answer.status ≢ Done → SaidLine before after)
+said_line folder stewards words answer before after right told =
+    if_none (stop_at answer.status)
+    (λ unless. (answer.said, answer_line folder stewards (command_of words) answer (command_names words) right unless, told))

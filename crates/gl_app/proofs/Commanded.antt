@@ -1,0 +1,143 @@
+-- How the commands of a day answer, and how they are stopped.
+use Rattle.std.proofs.Common.{◌≡◌, ◌∙◌, sym, ap, subst, refl, ℕ, ◌≤◌, ◌⊎◌, inl, inr, List, [], length, take, Option, None, Some, Result, Ok, Err, arith}
+use Rattle.std.specs.Prelude.{IfErr, IfOk, OnErr}
+use Rattle.std.specs.List.{AllZip}
+use Rattle.std.proofs.lemmas.Bool.{cases_lt}
+use Rattle.std.proofs.lemmas.List.{length-take, take-take, take_all}
+use Rattle.gl_desk.specs.Answers.{CountsFaults, OnlyReads, stop_of}
+use Rattle.gl_desk.specs.Desk.{FilesByName, TakesPrefix, Told, followed_by}
+use Rattle.gl_desk.specs.declared.error.DeskError.{DeskError}
+use Rattle.gl_desk.specs.declared.error.DeskError.TheVariants.{Failed, Memory}
+use Rattle.gl_proof.specs.Claim.{Statement}
+use Rattle.gl_proof.specs.Text.{proof_text}
+use Rattle.gl_task.specs.declared.task.Entrant.{Entrant}
+use Rattle.gl_day.specs.Flight.{StewardRules}
+use Rattle.gl_app.specs.declared.answer.Answer as code
+use Rattle.gl_app.specs.declared.day_files.DayFiles.{DayFiles}
+use Rattle.gl_app.specs.declared.halt.Halt.{Halt}
+use Rattle.gl_app.specs.declared.halt.Halt.TheVariants.{Refused, Stopped}
+use Rattle.gl_app.specs.declared.status.Status.{Status}
+use Rattle.gl_app.specs.declared.status.Status.TheVariants.{Done}
+use Rattle.gl_app.specs.Answer.{Answer, answer_of, answer_with}
+use Rattle.gl_app.specs.Appending.{HasAppended, HasAppendedPart, HasGiven, IsAppended}
+use Rattle.gl_app.specs.DayFiles.{IsScoreTested}
+use Rattle.gl_app.specs.Halts.{AnswersHalt, IsTested, halt_stop}
+use Rattle.gl_app.specs.Run.{Ends, Gives, GivesBegun, IsStopped, Stops}
+use Rattle.gl_app.specs.Score.{IsBegun, IsScore, IsScoreBegun, IsScored, statements_of_all, text_so_far}
+use Rattle.gl_app.specs.Scoring.{IsDayDone, IsDayStopped}
+use Rattle.gl_app.specs.Statuses.{status_of}
+use Rattle.gl_app.specs.Words.{DayNames}
+use Rattle.gl_app.proofs.Appended.{HasAppended-none, HasAppended-reads, HasAppended-then}
+use Rattle.gl_app.proofs.Flights.{all_texts, part_after}
+
+-- calls that only read, one after the other
+pub reads_twice : (x y z : Told) → OnlyReads None x y → OnlyReads None y z → OnlyReads None x z
+reads_twice x y z one two = record {
+  folder = two.folder ∙ one.folder;
+  said = two.said ∙ one.said;
+  outputs = two.outputs ∙ one.outputs;
+  faults = two.faults ∙ one.faults;
+}
+
+-- a first part of a first part is one
+part_of : (k count : ℕ) (whole : List ℕ) → (n : ℕ) × (take k (take count whole) ≡ take n whole)
+part_of k count whole =
+    elim (cases_lt k count) [
+      | inl less ↦ (k, take-take k count whole (omega (arith, less)))
+      | inr more ↦ (count, take_all k (take count whole) (omega (arith, more, length-take count whole)))
+    ]
+
+begun_part : (folder : Option FilesByName) (day : DayFiles) (text : List ℕ) (k : ℕ) → IsBegun folder day text → IsBegun folder day (take k text)
+begun_part folder day text k begun =
+    let statements = begun.statements in
+    elim begun.part [
+      | inl is ↦ (let n = part_of k begun.count (text_so_far statements) in record {
+        entrants = begun.entrants;
+        others = begun.others;
+        are = begun.are;
+        expected = begun.expected;
+        asked = begun.asked;
+        statements = statements;
+        partly = begun.partly;
+        count = n.0;
+        part = inl (ap (take k) is ∙ n.1);
+      })
+      | inr is ↦ (let n = part_of k begun.count (proof_text statements) in record {
+        entrants = begun.entrants;
+        others = begun.others;
+        are = begun.are;
+        expected = begun.expected;
+        asked = begun.asked;
+        statements = statements;
+        partly = begun.partly;
+        count = n.0;
+        part = inr (is.0, is.1, ap (take k) is.2 ∙ n.1);
+      })
+    ]
+
+-- `score` was stopped behind its tests
+pub score_stopped : (names : DayNames) (day : DayFiles) (x m y z : Told) (stop : DeskError) → OnlyReads None x m → IsScoreTested m.folder names (Ok day) → OnlyReads None m y → IsDayStopped day names.proof y z stop → IsStopped (IsScoreBegun x.folder names) (Some names.proof) x z stop
+score_stopped names day x m y z stop lists tested reads stopped =
+    let all = reads_twice x m y lists reads in
+    let part = part_after names.proof stopped.text x y z stop all stopped.appended in
+    record {
+      gave = inr (record {
+        text = take part.count stopped.text;
+        begun = (
+          day,
+          subst (λ (f : Option FilesByName). IsScoreTested f names (Ok day)) lists.folder tested,
+          begun_part x.folder day stopped.text part.count (subst (λ (f : Option FilesByName). IsBegun f day stopped.text) all.folder stopped.begun),
+        );
+        said = part.said;
+        appended = part.appended;
+      });
+      faults = part.faults;
+    }
+
+-- a proof has a text
+some_text : (statements : List Statement) → proof_text statements ≡ [] → ⊥
+some_text statements none = cc
+
+-- `score` has its answer
+pub score_right : (names : DayNames) (stewards : List StewardRules) (day : DayFiles) (x m y z : Told) (sheet : List ℕ) → OnlyReads None x m → IsScoreTested m.folder names (Ok day) → OnlyReads None m y → IsDayDone day stewards names.proof y z sheet → (text : List ℕ) × IsScore x.folder stewards names (record { status = Done; said = sheet; appended = text }) × HasGiven (Some names.proof) text x z
+score_right names stewards day x m y z sheet lists tested reads done =
+    let all = reads_twice x m y lists reads in
+    let text = proof_text (statements_of_all done.scored) in
+    let right : IsScore x.folder stewards names (record { status = Done; said = sheet; appended = text }) = (
+      Ok day,
+      subst (λ (f : Option FilesByName). IsScoreTested f names (Ok day)) lists.folder tested,
+      record {
+        scored = done.scored;
+        each = subst (λ (f : Option FilesByName). AllZip (IsScored f day stewards) day.task.entrants done.scored) all.folder done.each;
+        ended = refl;
+        appended = record { each = all_texts y.folder day stewards day.task.entrants done.scored done.each; is = refl };
+        said = done.sheet_is;
+      },
+    ) in (
+      text,
+      right,
+      record {
+        written = HasAppended-then names.proof [] text x y z (HasAppended-reads names.proof [] x x y (HasAppended-none names.proof x) all) done.appended;
+        untouched = λ none. absurd (some_text (statements_of_all done.scored) none);
+      },
+    )
+
+-- `score` refuses a file
+pub score_refused : (names : DayNames) (stewards : List StewardRules) (x m y : Told) (halt : Halt) (result : Result code.Answer DeskError) → OnlyReads None x m → IsTested (IsScoreTested m.folder names) (Err halt) → OnlyReads (halt_stop {X = DayFiles} (Err halt)) m y → AnswersHalt halt result → IfOk result (λ answer. (text : List ℕ) × IsScore x.folder stewards names (answer_with answer text) × HasGiven (Some names.proof) text x y)
+score_refused names stewards x m y (Refused refusal) (Ok answer) lists tested reads same =
+    let all = reads_twice x m y lists reads in
+    ([], (Err refusal, subst (λ (f : Option FilesByName). IsScoreTested f names (Err refusal)) lists.folder tested, same), record { written = HasAppended-reads names.proof [] x x y (HasAppended-none names.proof x) all; untouched = λ none. (all.folder, all.outputs) })
+score_refused names stewards x m y (Refused refusal) (Err stop) lists tested reads same = tt
+score_refused names stewards x m y (Stopped stop) (Ok answer) lists tested reads same = absurd same
+score_refused names stewards x m y (Stopped stop) (Err error) lists tested reads same = tt
+
+-- a command that only reads has its answer
+pub reads_right : (P : code.Answer → Type 0) (Q : code.Answer → List ℕ → Type 0) (x y : Told) (result : Result code.Answer DeskError) → ((answer : code.Answer) → P answer → Q answer []) → IfOk result P → OnlyReads (stop_of result) x y → IfOk result (λ answer. (text : List ℕ) × Q answer text × HasGiven None text x y)
+reads_right P Q x y (Ok answer) follows right reads =
+    ([], follows answer right, record { written = record { appended = (refl, reads.folder, reads.outputs); said = reads.said; faults = reads.faults }; untouched = λ none. (reads.folder, reads.outputs) })
+reads_right P Q x y (Err stop) follows right reads = tt
+
+-- a run that is stopped ends so
+pub stopped_ends : (Right : Answer → Type 0) (Begun : List ℕ → Type 0) (target : Option (List ℕ)) (stop : DeskError) (status : Status) (x z : Told) → status ≡ status_of stop → Stops Right Begun target x z → Ends Right Begun target status x z
+stopped_ends Right Begun target Failed status x z is stops = subst (λ (s : Status). Ends Right Begun target s x z) (sym is) stops
+stopped_ends Right Begun target Memory status x z is stops = subst (λ (s : Status). Ends Right Begun target s x z) (sym is) stops

@@ -1,0 +1,53 @@
+-- A text that reads isn't refused, and has one reading.
+use Rattle.std.proofs.Common.{◌≡◌, ◌∙◌, refl, sym, subst, ℕ, List, Option, None, Some, codes}
+use Rattle.toml.specs.Data.{Members}
+use Rattle.gl_airspace.specs.Airspace.{IsAirspace}
+use Rattle.gl_airspace.specs.Parts.{Tells}
+use Rattle.gl_airspace.specs.Volumes.{Refusal, readings_of, refusal_of}
+use Rattle.gl_airspace.specs.declared.error.AirError.{AirError}
+use Rattle.gl_airspace.specs.declared.error.AirError.TheVariants as air
+use Rattle.gl_airspace.specs.declared.volume.Airspace.{Airspace}
+use Rattle.gl_task.specs.Keys.{Test, first_failed, said}
+use Rattle.gl_task.specs.Values.{file_name}
+use Rattle.gl_task.specs.Reading.{FailsFirst, IsDocument, IsReadFrom, IsRefusalOf}
+use Rattle.gl_task.specs.Tests.{tests}
+use Rattle.gl_task.specs.declared.error.TaskError.{TaskError}
+use Rattle.gl_task.specs.declared.error.TaskError.TheVariants as task
+use Rattle.gl_task.specs.declared.task.Task.{Task}
+
+-- a text has one table
+pub document_same : (text : List ℕ) (a b : Members) → IsDocument text a → IsDocument text b → a ≡ b
+document_same text a b is_a is_b =
+    let reads_a = is_a.reads in
+    let reads_b = is_b.reads in
+    cc
+
+-- what passes all tests fails none
+passed_or_failed : (file : Members) (wrong : TaskError) → first_failed (tests file) ≡ None → first_failed (tests file) ≡ Some wrong → ⊥
+passed_or_failed file wrong passes fails = let no : ◌≡◌ {A = Test} None (Some wrong) = sym passes ∙ fails in cc
+
+task_fails : (text : List ℕ) (read : Task) (wrong : TaskError) → IsReadFrom text read → FailsFirst text wrong → ⊥
+task_fails text read wrong reads fails =
+    passed_or_failed fails.file wrong
+    (subst (λ (file : Members). first_failed (tests file) ≡ None) (document_same text reads.file fails.file reads.document fails.document) reads.passes)
+    fails.first
+
+-- a text that gives a task is refused for want of memory alone
+pub task_refused : (text : List ℕ) (read : Task) (error : TaskError) → IsReadFrom text read → IsRefusalOf text error → error ≡ task.Memory
+task_refused text read task.Toml reads refused = absurd (refused reads.file reads.document)
+task_refused text read (task.Missing key) reads refused = absurd (task_fails text read (task.Missing key) reads refused)
+task_refused text read (task.Value key) reads refused = absurd (task_fails text read (task.Value key) reads refused)
+task_refused text read (task.Twice key) reads refused = absurd (task_fails text read (task.Twice key) reads refused)
+task_refused text read (task.TooMany key) reads refused = absurd (task_fails text read (task.TooMany key) reads refused)
+task_refused text read task.Memory reads refused = refl
+
+-- the tasks of a text name one airspace file
+pub task_airspace_same : (text : List ℕ) (a b : Task) → IsReadFrom text a → IsReadFrom text b → a.airspace ≡ b.airspace
+task_airspace_same text a b is_a is_b =
+    sym is_a.says.airspace ∙ subst (λ (file : Members). said (codes "airspace") file_name file ≡ b.airspace) (sym (document_same text is_a.file is_b.file is_a.document is_b.document)) is_b.says.airspace
+
+-- a text that gives airspace is refused for want of memory alone
+pub airspace_refused : (text : List ℕ) (read : Airspace) (error : AirError) → IsAirspace text read → Tells (refusal_of (readings_of text)) error → error ≡ air.Memory
+airspace_refused text read (air.Line line) reads tells = absurd (subst (λ (r : Option Refusal). Tells r (air.Line line)) reads.reads tells)
+airspace_refused text read (air.TooMany line) reads tells = absurd (subst (λ (r : Option Refusal). Tells r (air.TooMany line)) reads.reads tells)
+airspace_refused text read air.Memory reads tells = refl

@@ -1,0 +1,86 @@
+-- The right answer of `check`.
+use Rattle.std.specs.Prelude.{◌≡◌, ◌≢◌, ℕ, ◌≤◌, ◌⊎◌, List, [], ◌∷◌, ◌++◌, Option, Some, Ok, MatchResult, codes, length}
+use Rattle.std.specs.List.{AllZip}
+use Rattle.std.specs.Fmt.{decimal}
+use Rattle.gl_desk.specs.Desk.{FilesByName}
+use Rattle.gl_proof.specs.declared.proof.Proof.{Proof}
+use Rattle.gl_proof.specs.Claim.{Statement}
+use Rattle.gl_proof.specs.Text.{statements_of}
+use Rattle.gl_task.specs.declared.task.Entrant.{Entrant}
+use Rattle.gl_day.specs.declared.fault.Checked.{Checked}
+use Rattle.gl_day.specs.declared.fault.Checked.TheVariants.{Accepted, Refused}
+use Rattle.gl_day.specs.declared.fault.NotProved.{NotProved}
+use Rattle.gl_day.specs.Checked.{IsChecked, IsNotProved}
+use Rattle.gl_day.specs.Fault.{box_of_fault, word_of}
+use Rattle.gl_day.specs.Flight.{StewardRules}
+use Rattle.gl_app.specs.declared.day_files.DayFiles.{DayFiles}
+use Rattle.gl_app.specs.declared.status.Status.TheVariants as status
+use Rattle.gl_app.specs.Answer.{Answer, refused, saying}
+use Rattle.gl_app.specs.Asked.{AreAsked, Expected}
+use Rattle.gl_app.specs.DayFiles.{IsCheckTested, Tested}
+use Rattle.gl_app.specs.Listed.{most_proof_bytes}
+use Rattle.gl_app.specs.Score.{IsScore}
+use Rattle.gl_app.specs.Words.{DayNames}
+
+-- the line for a proof that is accepted, with the number of its claims
+unfoldable pub accepted_line : ℕ → List ℕ
+accepted_line claims = codes "ACCEPTED " ++ decimal claims ++ 10 ∷ []
+
+-- the line for a proof that isn't: the number of the first claim that is wrong, the word for what is
+-- wrong with it, and the number of the box that it is about, or 0
+unfoldable pub not_proved_line : NotProved → List ℕ
+not_proved_line wrong =
+    codes "NOT PROVED " ++ decimal wrong.claim ++ codes " " ++ word_of wrong.fault
+    ++ codes " " ++ decimal (box_of_fault wrong.fault) ++ 10 ∷ []
+
+-- the answer that says what was found
+abbrev pub checked_answer : Checked → Answer
+checked_answer (Accepted claims) = saying status.Done (accepted_line claims)
+checked_answer (Refused wrong) = saying status.NotProved (not_proved_line wrong)
+
+-- what is said of a proof by the claims that are expected of some entrants: where others follow, a
+-- claim is wrong; else the proof has exactly these claims, or doesn't
+abbrev pub IsSaidBehind : List Entrant → List Expected → List Statement → Checked → Type 0
+IsSaidBehind [] expected statements said = IsChecked expected statements said
+IsSaidBehind (entrant ∷ others) expected statements said =
+    (wrong : NotProved) × (said ≡ Refused wrong) × IsNotProved expected statements wrong
+
+-- What is said of a proof by the files of a folder: the claims are compared entrant by entrant, up
+-- to the first that is wrong.
+pub record IsDayChecked (folder : Option FilesByName) (day : DayFiles)
+    (statements : List Statement) (said : Checked) : Type 0 where
+  pub entrants : List Entrant
+  pub others : List Entrant
+  pub are : day.task.entrants ≡ entrants ++ others
+  pub expected : List Expected
+  pub asked : AreAsked folder day.task day.airspace entrants expected
+  pub is : IsSaidBehind others expected statements said
+
+-- the answer of `check` where the files pass the tests
+abbrev pub IsCheckOf : Option FilesByName → DayFiles → List Statement → Answer → Type 0
+IsCheckOf folder day statements answer =
+    (said : Checked) × IsDayChecked folder day statements said × (answer ≡ checked_answer said)
+
+-- the answer of `check`: what is said of the proof, or the first refusal
+abbrev pub IsCheck : Option FilesByName → DayNames → Answer → Type 0
+IsCheck folder names answer =
+    (tested : Tested (DayFiles × Proof)) × IsCheckTested folder names tested
+    × MatchResult tested (λ files. IsCheckOf folder files.0 (statements_of files.1) answer)
+    (λ refusal. answer ≡ refused refusal.file refusal.cause)
+
+-- the files of a folder that pass every test of `check`
+abbrev pub PassesCheck : FilesByName → DayNames → Type 0
+PassesCheck files names =
+    (passed : DayFiles × Proof) × IsCheckTested (Some files) names (Ok passed)
+
+-- A folder in which `score` ended with a result: it has the proof that was appended, of a size that is
+-- read, and else the files that it had before.
+pub record IsScoredFolder (files : FilesByName) (names : DayNames) : Type 0 where
+  pub before : FilesByName
+  pub stewards : List StewardRules
+  pub answer : Answer
+  pub scored : IsScore (Some before) stewards names answer
+  pub done : answer.status ≡ status.Done
+  pub small : length answer.appended ≤ most_proof_bytes
+  pub proof : files names.proof ≡ Some answer.appended
+  pub others : (other : List ℕ) → other ≢ names.proof → files other ≡ before other

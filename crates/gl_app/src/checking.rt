@@ -1,0 +1,108 @@
+ghost use Rattle.std.specs.Prelude.{◌≡◌, ◌++◌, ◌∷◌, IfOk, OnOk, map};
+ghost use Rattle.gl_desk.specs.Answers.{OnlyReads, stop_of};
+ghost use Rattle.gl_desk.specs.Desk.{ListsNames};
+ghost use Rattle.gl_proof.specs.Claim.{statement_of};
+ghost use Rattle.gl_day.specs.Expected.{expected_of, rules_of};
+ghost use Rattle.gl_app.specs.Answer.{answer_of};
+ghost use Rattle.gl_app.specs.Asked.{AreAskedIn};
+ghost use Rattle.gl_app.specs.Check.{IsDayChecked, accepted_line, checked_answer, not_proved_line};
+
+use crate::answer::Answer;
+use crate::day_files::DayFiles;
+use crate::seeing::see_entrant;
+use crate::status::Status;
+use gl_day::{Checked, NotProved, Seen, check_end, check_flight};
+use gl_desk::{Desk, DeskError, Name};
+use gl_goal::AnyGoal;
+use gl_judge::claims;
+use gl_proof::{Claim, ClaimKind};
+use gl_task::Entrant;
+use gl_text::push_u64;
+use std::alloc::{AllocError, Global};
+
+/// The claims that a proof has to have of an entrant, with their goals.
+fn asked_of<D: Desk>(
+    alloc: Global,
+    desk: &mut D,
+    names: &[Name],
+    files: &DayFiles,
+    entrant: &Entrant,
+) -> Result<Vec<(ClaimKind, AnyGoal)>, DeskError>
+    requires { ListsNames (D.told desk.old).folder names.now }
+    ensures asked { IfOk result (λ goals.
+        AreAskedIn (D.told desk.old).folder files.now.task files.now.airspace entrant.now
+        (expected_of entrant.now.number (rules_of goals.items))) }
+    ensures reads { OnlyReads (stop_of result) (D.told desk.old) (D.told desk.new) }
+{
+    match see_entrant(alloc, desk, names, &files.task, entrant)? {
+        Seen::Recorded(rec) => Ok(claims(alloc, &files.task, &files.airspace, &rec)?),
+        Seen::Refused(_) => Ok(Vec::new(alloc)),
+    }
+}
+
+/// What is said of the claims of a proof by the files of a day: they are compared with those that
+/// it has to have, entrant by entrant, up to the first that is wrong.
+pub fn check_claims<D: Desk>(
+    alloc: Global,
+    desk: &mut D,
+    names: &[Name],
+    files: &DayFiles,
+    proved: &[Claim],
+) -> Result<Checked, DeskError>
+    requires { ListsNames (D.told desk.old).folder names.now }
+    ensures checked { IfOk result (IsDayChecked (D.told desk.old).folder files.now
+        (map statement_of proved.now)) }
+    ensures reads { OnlyReads (stop_of result) (D.told desk.old) (D.told desk.new) }
+{
+    let mut count = 0;
+    for entrant in files.task.entrants.as_slice() {
+        let goals = asked_of(alloc, desk, names, files, entrant)?;
+        if let Some(wrong) = check_flight(alloc, &entrant.number, &goals, proved, count)? {
+            return Ok(Checked::Refused(wrong));
+        }
+        count += goals.len();
+    }
+    Ok(check_end(proved, count))
+}
+
+/// The line for a proof that is accepted.
+#[tactic(auto, unfolding(crate::specs::Check::accepted_line))]
+fn accepted_line(alloc: Global, claims: usize) -> Result<Vec<u8>, AllocError>
+    ensures { IfOk result (λ line. line.items ≡ accepted_line claims) }
+{
+    let mut line = Vec::from_slice(alloc, b"ACCEPTED ")?;
+    push_u64(&mut line, claims as u64)?;
+    line.push(b'\n')?;
+    Ok(line)
+}
+
+/// The line for a proof that isn't that of the day.
+#[tactic(auto, unfolding(crate::specs::Check::not_proved_line))]
+fn not_proved_line(alloc: Global, wrong: NotProved) -> Result<Vec<u8>, AllocError>
+    ensures { IfOk result (λ line. line.items ≡ not_proved_line wrong) }
+{
+    let mut line = Vec::from_slice(alloc, b"NOT PROVED ")?;
+    push_u64(&mut line, wrong.claim as u64)?;
+    line.extend_from_slice(b" ")?;
+    line.extend_from_slice(wrong.fault.word())?;
+    line.extend_from_slice(b" ")?;
+    push_u64(&mut line, u64::from(wrong.fault.box_number()))?;
+    line.push(b'\n')?;
+    Ok(line)
+}
+
+/// The answer that says what was found.
+pub fn checked_answer(alloc: Global, said: Checked) -> Result<Answer, AllocError>
+    ensures { IfOk result (λ answer. answer_of answer ≡ checked_answer said) }
+{
+    match said {
+        Checked::Accepted { claims } => Ok(Answer {
+            status: Status::Done,
+            text: accepted_line(alloc, claims)?,
+        }),
+        Checked::Refused(wrong) => Ok(Answer {
+            status: Status::NotProved,
+            text: not_proved_line(alloc, wrong)?,
+        }),
+    }
+}

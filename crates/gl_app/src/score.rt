@@ -1,0 +1,47 @@
+ghost use Rattle.std.specs.Prelude.{◌≡◌, ℕ, List, Some, IfErr, IfOk, map};
+ghost use Rattle.gl_day.specs.Flight.{steward_rules};
+ghost use Rattle.gl_app.specs.Answer.{answer_with};
+ghost use Rattle.gl_app.specs.Appending.{HasGiven};
+ghost use Rattle.gl_app.specs.DayNames.{names_seen};
+ghost use Rattle.gl_app.specs.Run.{IsStopped};
+ghost use Rattle.gl_app.specs.Score.{IsScore, IsScoreBegun};
+
+use crate::answer::Answer;
+use crate::day_files::test_score_files;
+use crate::day_names::DayNames;
+use crate::line::answer_halt;
+use crate::scoring::score_day;
+use crate::status::Status;
+use gl_desk::{Desk, DeskError};
+use gl_steward::Steward;
+use std::alloc::Global;
+
+/// The answer of `score TASK PROOF 1`: the sheet of the day. Its proof is appended to the file.
+pub fn score<D: Desk>(
+    alloc: Global,
+    desk: &mut D,
+    day: DayNames<'_>,
+    stewards: &mut Vec<Box<dyn Steward>>,
+) -> Result<Answer, DeskError>
+    ensures right { IfOk result (λ answer. (text : List ℕ)
+        × IsScore (D.told desk.old).folder
+        (map (λ s. steward_rules (opening s) (fed s) (owed s)) stewards.old.items)
+        (names_seen day.entry) (answer_with answer text)
+        × HasGiven (Some day.entry.proof.now) text (D.told desk.old) (D.told desk.new)) }
+    ensures stopped { IfErr result
+        (IsStopped (IsScoreBegun (D.told desk.old).folder (names_seen day.entry))
+        (Some day.entry.proof.now) (D.told desk.old) (D.told desk.new)) }
+    ensures kept { map (λ s. steward_rules (opening s) (fed s) (owed s)) stewards.new.items
+        ≡ map (λ s. steward_rules (opening s) (fed s) (owed s)) stewards.old.items }
+{
+    let names = desk.names(alloc)?;
+    let files = match test_score_files(alloc, desk, &names, day) {
+        Ok(files) => files,
+        Err(halt) => return answer_halt(alloc, halt),
+    };
+    let sheet = score_day(alloc, desk, &names, &files, day.proof, stewards)?;
+    Ok(Answer {
+        status: Status::Done,
+        text: sheet,
+    })
+}
