@@ -11,22 +11,15 @@ use Rattle.gl_goal.specs.AnyGoal.{any_rule}
 use Rattle.gl_proof.specs.declared.claim.ClaimKind.{ClaimKind}
 use Rattle.gl_proof.specs.Claim.{Statement, claim_text}
 use Rattle.gl_day.specs.declared.totals.Totals.{Totals}
-use Rattle.gl_day.specs.Expected.{Proves, expected_of, rules_of}
+use Rattle.gl_day.specs.Expected.{Proves, expected_of}
+use Rattle.gl_judge.specs.Claimed.{rules_of_claims}
 use Rattle.gl_day.specs.Totals.{AreTotals}
-use Rattle.gl_day.proofs.Walked.{zip-push}
+use Rattle.gl_day.proofs.Walked.{claims_for, claims_for-append, zip-push}
 use Rattle.gl_app.specs.Appending.{HasAppended, HasAppendedPart}
 use Rattle.gl_app.specs.Asked.{Expected}
 use Rattle.gl_app.specs.Score.{ArePartlyProved}
 use Rattle.gl_app.specs.Scoring.{AreClaimed, AreClaimedPartly}
 use Rattle.gl_app.proofs.Appended.{HasAppended-none, HasAppended-then, HasAppendedPart-memory, HasAppendedPart-then}
-
--- the claims of goals
-abbrev claims_for : List ℕ → List (ClaimKind × AnyGoal) → List Expected
-claims_for number goals = expected_of number (rules_of goals)
-
-claims_for-append : (number : List ℕ) (xs ys : List (ClaimKind × AnyGoal)) → claims_for number (xs ++ ys) ≡ claims_for number xs ++ claims_for number ys
-claims_for-append number [] ys = refl
-claims_for-append number (x ∷ xs) ys = ap (λ (l : List Expected). (number, x.0, any_rule x.1) ∷ l) (claims_for-append number xs ys)
 
 -- the texts of claims and of one more
 pub texts-push : (statements : List Statement) (s : Statement) → flat_map claim_text (statements ++ s ∷ []) ≡ flat_map claim_text statements ++ claim_text s
@@ -48,7 +41,7 @@ pushed proof statements s x y z one two =
     (HasAppended-then proof (flat_map claim_text statements) (claim_text s) x y z one two)
 
 -- one claim more is proved, and its lines were appended
-pub AreClaimed-more : (number : List ℕ) (goals : List (ClaimKind × AnyGoal)) (i : ℕ) (g : ClaimKind × AnyGoal) (t u : Totals) (proof : List ℕ) (x y z : Told) (s : Statement) → i < length goals → g ≡ get_or goals i g → AreClaimed (expected_of number (rules_of (take i goals))) t proof x y → Proves (number, g.0, any_rule g.1) s → HasAppended proof (claim_text s) y z → ((statements : List Statement) → AreTotals statements t → AreTotals (statements ++ s ∷ []) u) → AreClaimed (expected_of number (rules_of (take (i + 1) goals))) u proof x z
+pub AreClaimed-more : (number : List ℕ) (goals : List (ClaimKind × AnyGoal)) (i : ℕ) (g : ClaimKind × AnyGoal) (t u : Totals) (proof : List ℕ) (x y z : Told) (s : Statement) → i < length goals → g ≡ get_or goals i g → AreClaimed (expected_of number (rules_of_claims (take i goals))) t proof x y → Proves (number, g.0, any_rule g.1) s → HasAppended proof (claim_text s) y z → ((statements : List Statement) → AreTotals statements t → AreTotals (statements ++ s ∷ []) u) → AreClaimed (expected_of number (rules_of_claims (take (i + 1) goals))) u proof x z
 AreClaimed-more number goals i g t u proof x y z s below item so_far proves appended noted =
     let next = take_more goals i g below ∙ ap (λ (e : ClaimKind × AnyGoal). take i goals ++ e ∷ []) (sym item) in
     let claims = ap (claims_for number) next ∙ claims_for-append number (take i goals) (g ∷ []) in
@@ -64,7 +57,7 @@ parts_at number goals i =
     ap (claims_for number) (sym (take-append-drop i goals)) ∙ claims_for-append number (take i goals) (drop i goals)
 
 -- the next claim wasn't made
-pub claimed_memory : (number : List ℕ) (goals : List (ClaimKind × AnyGoal)) (i : ℕ) (t : Totals) (proof : List ℕ) (x y : Told) → AreClaimed (expected_of number (rules_of (take i goals))) t proof x y → AreClaimedPartly (expected_of number (rules_of goals)) proof x y Memory
+pub claimed_memory : (number : List ℕ) (goals : List (ClaimKind × AnyGoal)) (i : ℕ) (t : Totals) (proof : List ℕ) (x y : Told) → AreClaimed (expected_of number (rules_of_claims (take i goals))) t proof x y → AreClaimedPartly (expected_of number (rules_of_claims goals)) proof x y Memory
 claimed_memory number goals i t proof x y so_far = record {
   statements = so_far.statements;
   partly = record {
@@ -77,7 +70,7 @@ claimed_memory number goals i t proof x y so_far = record {
 }
 
 -- the next claim was made, and not all of its lines were appended
-pub claimed_partly : (number : List ℕ) (goals : List (ClaimKind × AnyGoal)) (i : ℕ) (g : ClaimKind × AnyGoal) (t : Totals) (proof : List ℕ) (x y z : Told) (s : Statement) (stop : DeskError) → i < length goals → g ≡ get_or goals i g → AreClaimed (expected_of number (rules_of (take i goals))) t proof x y → Proves (number, g.0, any_rule g.1) s → HasAppendedPart proof (claim_text s) y z stop → AreClaimedPartly (expected_of number (rules_of goals)) proof x z stop
+pub claimed_partly : (number : List ℕ) (goals : List (ClaimKind × AnyGoal)) (i : ℕ) (g : ClaimKind × AnyGoal) (t : Totals) (proof : List ℕ) (x y z : Told) (s : Statement) (stop : DeskError) → i < length goals → g ≡ get_or goals i g → AreClaimed (expected_of number (rules_of_claims (take i goals))) t proof x y → Proves (number, g.0, any_rule g.1) s → HasAppendedPart proof (claim_text s) y z stop → AreClaimedPartly (expected_of number (rules_of_claims goals)) proof x z stop
 claimed_partly number goals i g t proof x y z s stop below item so_far proves appended =
     let next = take_more goals i g below ∙ ap (λ (e : ClaimKind × AnyGoal). take i goals ++ e ∷ []) (sym item) in
     let claims = ap (claims_for number) next ∙ claims_for-append number (take i goals) (g ∷ []) in

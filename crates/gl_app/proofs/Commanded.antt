@@ -11,6 +11,7 @@ use Rattle.gl_desk.specs.declared.error.DeskError.TheVariants.{Failed, Memory}
 use Rattle.gl_proof.specs.Claim.{Statement}
 use Rattle.gl_proof.specs.Text.{proof_text}
 use Rattle.gl_task.specs.declared.task.Entrant.{Entrant}
+use Rattle.gl_day.specs.Expected.{Proves}
 use Rattle.gl_day.specs.Flight.{StewardRules}
 use Rattle.gl_app.specs.declared.answer.Answer as code
 use Rattle.gl_app.specs.declared.day_files.DayFiles.{DayFiles}
@@ -47,33 +48,25 @@ part_of k count whole =
       | inr more ↦ (count, take_all k (take count whole) (omega (arith, more, length-take count whole)))
     ]
 
+-- a first part of one text or of another
+part_cut : (A B : Type 0) (text one other : List ℕ) (k count : ℕ) → (text ≡ take count one) ⊎ (A × B × (text ≡ take count other)) → (n : ℕ) × ((take k text ≡ take n one) ⊎ (A × B × (take k text ≡ take n other)))
+part_cut A B text one other k count (inl is) = let n = part_of k count one in (n.0, inl (ap (take k) is ∙ n.1))
+part_cut A B text one other k count (inr is) = let n = part_of k count other in (n.0, inr (is.0, is.1, ap (take k) is.2 ∙ n.1))
+
 begun_part : (folder : Option FilesByName) (day : DayFiles) (text : List ℕ) (k : ℕ) → IsBegun folder day text → IsBegun folder day (take k text)
 begun_part folder day text k begun =
-    let statements = begun.statements in
-    elim begun.part [
-      | inl is ↦ (let n = part_of k begun.count (text_so_far statements) in record {
-        entrants = begun.entrants;
-        others = begun.others;
-        are = begun.are;
-        expected = begun.expected;
-        asked = begun.asked;
-        statements = statements;
-        partly = begun.partly;
-        count = n.0;
-        part = inl (ap (take k) is ∙ n.1);
-      })
-      | inr is ↦ (let n = part_of k begun.count (proof_text statements) in record {
-        entrants = begun.entrants;
-        others = begun.others;
-        are = begun.are;
-        expected = begun.expected;
-        asked = begun.asked;
-        statements = statements;
-        partly = begun.partly;
-        count = n.0;
-        part = inr (is.0, is.1, ap (take k) is.2 ∙ n.1);
-      })
-    ]
+    let n = part_cut (begun.others ≡ []) (AllZip Proves begun.expected begun.statements) text (text_so_far begun.statements) (proof_text begun.statements) k begun.count begun.part in
+    record {
+      entrants = begun.entrants;
+      others = begun.others;
+      are = begun.are;
+      expected = begun.expected;
+      asked = begun.asked;
+      statements = begun.statements;
+      partly = begun.partly;
+      count = n.0;
+      part = n.1;
+    }
 
 -- `score` was stopped behind its tests
 pub score_stopped : (names : DayNames) (day : DayFiles) (x m y z : Told) (stop : DeskError) → OnlyReads None x m → IsScoreTested m.folder names (Ok day) → OnlyReads None m y → IsDayStopped day names.proof y z stop → IsStopped (IsScoreBegun x.folder names) (Some names.proof) x z stop

@@ -11,7 +11,9 @@ use Rattle.gl_day.specs.declared.fault.Checked.{Checked}
 use Rattle.gl_day.specs.declared.fault.Checked.TheVariants.{Refused}
 use Rattle.gl_day.specs.declared.fault.NotProved.{NotProved}
 use Rattle.gl_day.specs.Checked.{AreProved, Ends, GoesOn, IsNotProved}
-use Rattle.gl_day.specs.Expected.{expected_of, rules_of}
+use Rattle.gl_day.specs.Expected.{expected_of}
+use Rattle.gl_judge.specs.Claimed.{rules_of_claims}
+use Rattle.gl_day.proofs.Walked.{length-claims_for}
 use Rattle.gl_app.specs.declared.day_files.DayFiles.{DayFiles}
 use Rattle.gl_app.specs.Asked.{AreAsked, AreAskedIn, Expected}
 use Rattle.gl_app.specs.Check.{IsDayChecked, IsSaidBehind}
@@ -32,10 +34,6 @@ AreChecked-none folder day statements = record {
   proved = record { proved = []; rest = statements; are = refl; each = tt };
 }
 
-length-expected : (number : List ℕ) (goals : List (ClaimKind × AnyGoal)) → length (expected_of number (rules_of goals)) ≡ length goals
-length-expected number [] = refl
-length-expected number (g ∷ goals) = ap suc (length-expected number goals)
-
 asked_more : (folder : Option FilesByName) (day : DayFiles) (i : ℕ) (e : Entrant) (claims more : List Expected) → i < length day.task.entrants → e ≡ get_or day.task.entrants i e → AreAsked folder day.task day.airspace (take i day.task.entrants) claims → AreAskedIn folder day.task day.airspace e more → AreAsked folder day.task day.airspace (take (i + 1) day.task.entrants) (claims ++ more)
 asked_more folder day i e claims more below item asked last =
     let all = day.task.entrants in
@@ -44,13 +42,13 @@ asked_more folder day i e claims more below item asked last =
     (asked-push folder day.task day.airspace (take i all) e claims more asked last)
 
 -- those of one entrant more are proved
-pub AreChecked-more : (folder : Option FilesByName) (day : DayFiles) (i : ℕ) (e : Entrant) (goals : List (ClaimKind × AnyGoal)) (statements : List Statement) (count : ℕ) → i < length day.task.entrants → e ≡ get_or day.task.entrants i e → AreChecked folder day (take i day.task.entrants) statements count → AreAskedIn folder day.task day.airspace e (expected_of e.number (rules_of goals)) → GoesOn count (expected_of e.number (rules_of goals)) statements None → AreChecked folder day (take (i + 1) day.task.entrants) statements (count + length goals)
+pub AreChecked-more : (folder : Option FilesByName) (day : DayFiles) (i : ℕ) (e : Entrant) (goals : List (ClaimKind × AnyGoal)) (statements : List Statement) (count : ℕ) → i < length day.task.entrants → e ≡ get_or day.task.entrants i e → AreChecked folder day (take i day.task.entrants) statements count → AreAskedIn folder day.task day.airspace e (expected_of e.number (rules_of_claims goals)) → GoesOn count (expected_of e.number (rules_of_claims goals)) statements None → AreChecked folder day (take (i + 1) day.task.entrants) statements (count + length goals)
 AreChecked-more folder day i e goals statements count below item so_far asked goes =
-    let more = expected_of e.number (rules_of goals) in
+    let more = expected_of e.number (rules_of_claims goals) in
     record {
       expected = so_far.expected ++ more;
       asked = asked_more folder day i e so_far.expected more below item so_far.asked asked;
-      counted = omega (arith, length-append so_far.expected more, length-expected e.number goals, so_far.counted);
+      counted = omega (arith, length-append so_far.expected more, length-claims_for e.number goals, so_far.counted);
       proved = goes so_far.expected so_far.counted so_far.proved;
     }
 
@@ -59,9 +57,9 @@ said_behind [] expected statements wrong is = inl is
 said_behind (e ∷ others) expected statements wrong is = (wrong, refl, is)
 
 -- one of them is the first that is wrong
-pub checked_wrong : (folder : Option FilesByName) (day : DayFiles) (i : ℕ) (e : Entrant) (goals : List (ClaimKind × AnyGoal)) (statements : List Statement) (count : ℕ) (wrong : NotProved) → i < length day.task.entrants → e ≡ get_or day.task.entrants i e → AreChecked folder day (take i day.task.entrants) statements count → AreAskedIn folder day.task day.airspace e (expected_of e.number (rules_of goals)) → GoesOn count (expected_of e.number (rules_of goals)) statements (Some wrong) → IsDayChecked folder day statements (Refused wrong)
+pub checked_wrong : (folder : Option FilesByName) (day : DayFiles) (i : ℕ) (e : Entrant) (goals : List (ClaimKind × AnyGoal)) (statements : List Statement) (count : ℕ) (wrong : NotProved) → i < length day.task.entrants → e ≡ get_or day.task.entrants i e → AreChecked folder day (take i day.task.entrants) statements count → AreAskedIn folder day.task day.airspace e (expected_of e.number (rules_of_claims goals)) → GoesOn count (expected_of e.number (rules_of_claims goals)) statements (Some wrong) → IsDayChecked folder day statements (Refused wrong)
 checked_wrong folder day i e goals statements count wrong below item so_far asked goes =
-    let more = expected_of e.number (rules_of goals) in
+    let more = expected_of e.number (rules_of_claims goals) in
     record {
       entrants = take (i + 1) day.task.entrants;
       others = drop (i + 1) day.task.entrants;

@@ -28,8 +28,9 @@ use Rattle.gl_day.specs.declared.flight.Flight.{Flight}
 use Rattle.gl_day.specs.declared.flight.Seen.{Seen}
 use Rattle.gl_day.specs.declared.flight.Seen.TheVariants.{Recorded, Refused}
 use Rattle.gl_day.specs.Day.{IsSheetOf}
-use Rattle.gl_day.specs.Expected.{Proves, expected_of, rules_of}
-use Rattle.gl_day.specs.Flight.{IsFlight, IsReadFlight, IsRefusedFlight, IsSeen, StewardRules}
+use Rattle.gl_day.specs.Expected.{Proves, expected_of}
+use Rattle.gl_judge.specs.Claimed.{rules_of_claims}
+use Rattle.gl_day.specs.Flight.{IsFlight, IsReadFlight, IsRefusedFlight, IsSeen, StewardRules, most_bytes}
 use Rattle.gl_day.specs.Laws.Written.{expected_statements}
 use Rattle.gl_day.specs.Laws.Texts.{claim_texts-append, proof_text-parts}
 use Rattle.gl_day.proofs.Walked.{zip-length, zip-push}
@@ -37,7 +38,6 @@ use Rattle.gl_app.specs.declared.day_files.DayFiles.{DayFiles}
 use Rattle.gl_app.specs.Appending.{HasAppended, HasAppendedPart, IsAppended}
 use Rattle.gl_app.specs.Asked.{AreAsked, AreAskedIn, AreAskedOf, AreAskedOfReading, Expected, HaveFiles, IsEntrantSeen, IsSeenAmong}
 use Rattle.gl_app.specs.DayFiles.{Sees}
-use Rattle.gl_app.specs.Listed.{most_bytes}
 use Rattle.gl_app.specs.Score.{ArePartlyProved, IsBegun, IsScored, Scored, flights_of_all, statements_of_all, text_so_far}
 use Rattle.gl_app.specs.Scoring.{AreClaimedPartly, AreEntrantsScored, IsDayDone, IsDayStopped, IsEntrantBegun, IsEntrantScored}
 use Rattle.gl_app.proofs.Appended.{HasAppended-none, HasAppended-reads, HasAppended-then, HasAppendedPart-memory, HasAppendedPart-then}

@@ -12,5 +12,6 @@ pub mod FreeTexts
 pub mod LineTexts
 pub mod NoTask
 pub mod Readings
+pub mod Pieces
 pub mod Rights
 pub mod TaskSame

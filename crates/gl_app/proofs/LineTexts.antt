@@ -17,7 +17,7 @@ use Rattle.gl_app.specs.declared.refusal.Cause.TheVariants.{NotListed, Listed, T
 use Rattle.gl_app.specs.declared.status.Status.TheVariants.{Done}
 use Rattle.gl_app.specs.Answer.{Answer, refused}
 use Rattle.gl_app.specs.Free.{IsFree, IsFreeOfText}
-use Rattle.gl_app.specs.Listed.{most_bytes}
+use Rattle.gl_day.specs.Flight.{most_bytes}
 use Rattle.gl_app.specs.Refusals.{Parts, Place, Nowhere, AtLine, AtKey, parts_of, place_text, line_with, refusal_line, file_refusal}
 use Rattle.gl_app.specs.Texts.{IsLine}
 use Rattle.gl_app.specs.Words.{is_dots, is_file_name, is_name_byte}

@@ -10,7 +10,7 @@ use Rattle.gl_igc.specs.declared.error.IgcError.TheVariants as igc
 use Rattle.gl_proof.specs.Text.{statements_of}
 use Rattle.gl_day.specs.declared.fault.Checked.{Checked}
 use Rattle.gl_day.specs.declared.fault.Checked.TheVariants as checked
-use Rattle.gl_day.specs.Flight.{StewardRules}
+use Rattle.gl_day.specs.Flight.{StewardRules, most_bytes}
 use Rattle.gl_app.specs.declared.refusal.Cause.{Cause}
 use Rattle.gl_app.specs.declared.refusal.Cause.TheVariants.{NotListed, TooLarge, NotIgc, NoDate, TooManyFixes, NoFix}
 use Rattle.gl_app.specs.declared.status.Status.{Status}
@@ -19,7 +19,6 @@ use Rattle.gl_app.specs.Answer.{Answer, refused, saying}
 use Rattle.gl_app.specs.Appending.{HasGiven, IsAppended}
 use Rattle.gl_app.specs.Check.{IsCheck, checked_answer}
 use Rattle.gl_app.specs.Free.{IsFree, IsFreeOfText, PassesFree}
-use Rattle.gl_app.specs.Listed.{most_bytes}
 use Rattle.gl_app.specs.Run.{Ends, Gives, GivesPart, IsRight, IsRightFor, PassTests, Stops}
 use Rattle.gl_app.specs.Score.{IsScore}
 use Rattle.gl_app.specs.Statuses.{stop_at}

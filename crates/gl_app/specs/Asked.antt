@@ -14,9 +14,8 @@ use Rattle.gl_task.specs.declared.task.Task.{Task}
 use Rattle.gl_day.specs.declared.flight.Seen.{Seen}
 use Rattle.gl_day.specs.declared.flight.Seen.TheVariants as code
 use Rattle.gl_day.specs.Expected.{expected_of}
-use Rattle.gl_day.specs.Flight.{IsFlight, IsSeen, StewardRules}
+use Rattle.gl_day.specs.Flight.{IsFlight, IsSeen, StewardRules, most_bytes}
 use Rattle.gl_app.specs.DayFiles.{Sees}
-use Rattle.gl_app.specs.Listed.{most_bytes}
 
 -- a claim that a proof has to have: the number of an entrant, a kind and a goal
 abbrev pub Expected : Type 0

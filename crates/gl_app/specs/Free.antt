@@ -10,7 +10,7 @@ use Rattle.gl_goal.specs.Free.{free_goal}
 use Rattle.gl_app.specs.declared.status.Status.TheVariants.{Done}
 use Rattle.gl_app.specs.declared.refusal.Cause.TheVariants.{NotListed, TooLarge, NotIgc, NoDate, TooManyFixes, NoFix}
 use Rattle.gl_app.specs.Answer.{Answer, saying, refused}
-use Rattle.gl_app.specs.Listed.{most_bytes}
+use Rattle.gl_day.specs.Flight.{most_bytes}
 use Rattle.gl_app.specs.Texts.{free_text}
 
 -- the goal over all fixes of a recording, with a loss of at most 1,000 m

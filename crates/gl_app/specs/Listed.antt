@@ -4,12 +4,9 @@ use Rattle.gl_desk.specs.Desk.{FilesByName, IsSeenIn, IsLongerThan}
 use Rattle.gl_app.specs.declared.listed.Listed as code
 use Rattle.gl_app.specs.declared.listed.Listed.TheVariants.{Missing, Large, Bytes}
 
--- the most bytes that a proof may have, and those that any other file may have
+-- the most bytes that a proof may have; any other file has at most those of a recording
 abbrev pub most_proof_bytes : ℕ
 most_proof_bytes = 1_073_741_824
-
-abbrev pub most_bytes : ℕ
-most_bytes = 16_777_216
 
 -- what was seen under a name, with a limit of bytes
 abbrev pub IsSeenAs : Option FilesByName → List ℕ → ℕ → code.Listed → Type 0

@@ -2,7 +2,8 @@ ghost use Rattle.std.specs.Prelude.{◌≡◌, ◌++◌, ◌∷◌, IfOk, OnOk, 
 ghost use Rattle.gl_desk.specs.Answers.{OnlyReads, stop_of};
 ghost use Rattle.gl_desk.specs.Desk.{ListsNames};
 ghost use Rattle.gl_proof.specs.Claim.{statement_of};
-ghost use Rattle.gl_day.specs.Expected.{expected_of, rules_of};
+ghost use Rattle.gl_day.specs.Expected.{expected_of};
+ghost use Rattle.gl_judge.specs.Claimed.{rules_of_claims};
 ghost use Rattle.gl_app.specs.Answer.{answer_of};
 ghost use Rattle.gl_app.specs.Asked.{AreAskedIn};
 ghost use Rattle.gl_app.specs.Check.{IsDayChecked, accepted_line, checked_answer, not_proved_line};
@@ -31,7 +32,7 @@ fn asked_of<D: Desk>(
     requires { ListsNames (D.told desk.old).folder names.now }
     ensures asked { IfOk result (λ goals.
         AreAskedIn (D.told desk.old).folder files.now.task files.now.airspace entrant.now
-        (expected_of entrant.now.number (rules_of goals.items))) }
+        (expected_of entrant.now.number (rules_of_claims goals.items))) }
     ensures reads { OnlyReads (stop_of result) (D.told desk.old) (D.told desk.new) }
 {
     match see_entrant(alloc, desk, names, &files.task, entrant)? {

@@ -7,9 +7,10 @@ ghost use Rattle.gl_app.specs.Halts.{AreBytes, IsNoFault, IsTested, halt_stop};
 
 use crate::day_names::DayNames;
 use crate::halt::{Halt, refusing, refusing_for};
-use crate::listed::{MOST_BYTES, MOST_PROOF_BYTES};
+use crate::listed::MOST_PROOF_BYTES;
 use crate::refusal::Cause;
 use gl_airspace::{AirError, Airspace, empty, read_openair};
+use gl_day::MOST_BYTES;
 use gl_desk::{Desk, DeskError, Name, ReadError, read_all};
 use gl_proof::{Proof, ProofError, read_proof};
 use gl_task::{Task, TaskError, read_task};

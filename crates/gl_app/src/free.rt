@@ -8,10 +8,11 @@ ghost use Rattle.gl_app.specs.Free.{IsFree, IsFreeOfText, IsFreeText};
 
 use crate::answer::Answer;
 use crate::line::refuse;
-use crate::listed::{Listed, MOST_BYTES, read_listed};
+use crate::listed::{Listed, read_listed};
 use crate::refusal::Cause;
 use crate::status::Status;
 use crate::texts::free_lines;
+use gl_day::MOST_BYTES;
 use gl_desk::{Desk, DeskError, Name};
 use gl_goal::{FreeGoal, fix_numbers};
 use gl_igc::{IgcError, Recording, read_igc};

@@ -6,10 +6,7 @@ ghost use Rattle.gl_app.specs.Listed.{IsSeenAs};
 use gl_desk::{Desk, DeskError, Name, ReadError, read_all};
 use std::alloc::Global;
 
-/// The most bytes that a file may have which is no proof.
-pub const MOST_BYTES: u64 = 16_777_216;
-
-/// The most bytes that a proof may have.
+/// The most bytes that a proof may have; any other file has at most those of a recording.
 pub const MOST_PROOF_BYTES: u64 = 1_073_741_824;
 
 /// What the tests of a file saw.

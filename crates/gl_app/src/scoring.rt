@@ -1,9 +1,11 @@
 ghost use Rattle.std.specs.Prelude.{◌≡◌, ◌⊎◌, ℕ, List, [], Option, Some, Contains, IfErr, IfOk, IsTrue, OnOk, length, map};
 ghost use Rattle.gl_desk.specs.Desk.{ListsNames};
-ghost use Rattle.gl_proof.specs.Claim.{IsWritable, claim_text, statement_of};
+ghost use Rattle.gl_box.specs.Closed.{box_of};
+ghost use Rattle.gl_proof.specs.Claim.{box_line, claim_text, front_text, spelled, statement_of};
 ghost use Rattle.gl_proof.specs.Number.{is_number};
 ghost use Rattle.gl_day.specs.declared.flight.Seen.TheVariants.{Recorded};
-ghost use Rattle.gl_day.specs.Expected.{expected_of, rules_of};
+ghost use Rattle.gl_day.specs.Expected.{expected_of};
+ghost use Rattle.gl_judge.specs.Claimed.{rules_of_claims};
 ghost use Rattle.gl_day.specs.Flight.{IsSeen, steward_rules};
 ghost use Rattle.gl_app.specs.Appending.{HasAppended, HasAppendedPart};
 ghost use Rattle.gl_app.specs.Asked.{HaveFiles, IsSeenAmong};
@@ -12,15 +14,62 @@ ghost use Rattle.gl_app.specs.Scoring.{AreClaimed, AreClaimedPartly, AreEntrants
 use crate::appending::append_piece;
 use crate::day_files::DayFiles;
 use crate::seeing::see_entrant;
+use gl_box::Closed;
 use gl_day::{Flight, Seen, Totals, claim_of, end_line, finish_flight, heading_line, sheet_of};
 use gl_desk::{Desk, DeskError, Name};
 use gl_goal::AnyGoal;
 use gl_igc::Recording;
 use gl_judge::{claims, judge};
-use gl_proof::{Claim, ClaimKind, write_claim};
+use gl_proof::{Claim, ClaimKind, write_boxes, write_front};
 use gl_steward::Steward;
 use gl_task::Entrant;
 use std::alloc::Global;
+
+/// How many boxes are written before their lines are appended, so that the text of a claim with
+/// millions of boxes isn't in memory beside them.
+const BOXES: usize = 16_384;
+
+/// Appends the lines of boxes to the proof, some thousands at a time. After an error a first part of
+/// them was appended.
+fn append_boxes<D: Desk>(
+    alloc: Global,
+    desk: &mut D,
+    proof: &Name,
+    boxes: &[Closed],
+) -> Result<(), DeskError>
+    ensures appended { OnOk result (HasAppended proof.now
+        (spelled (map box_line (map box_of boxes.now))) (D.told desk.old) (D.told desk.new)) }
+    ensures stopped { IfErr result (HasAppendedPart proof.now
+        (spelled (map box_line (map box_of boxes.now))) (D.told desk.old) (D.told desk.new)) }
+{
+    let mut at = 0;
+    'pieces: while at < boxes.len() {
+        let end = at + BOXES.min(boxes.len() - at);
+        let mut text = Vec::new(alloc);
+        write_boxes(&mut text, &boxes[at..end])?;
+        append_piece(alloc, desk, proof, &text)?;
+        at = end;
+    }
+    Ok(())
+}
+
+/// Appends the lines of a claim that stand before its boxes. After an error a first part of them was
+/// appended.
+fn append_front<D: Desk>(
+    alloc: Global,
+    desk: &mut D,
+    proof: &Name,
+    claim: &Claim,
+) -> Result<(), DeskError>
+    ensures appended { OnOk result (HasAppended proof.now
+        (front_text (statement_of claim.now)) (D.told desk.old) (D.told desk.new)) }
+    ensures stopped { IfErr result (HasAppendedPart proof.now
+        (front_text (statement_of claim.now)) (D.told desk.old) (D.told desk.new)) }
+{
+    let mut text = Vec::new(alloc);
+    write_front(&mut text, claim)?;
+    append_piece(alloc, desk, proof, &text)
+}
 
 /// Appends the lines of a claim to the proof. After an error a first part of them was appended.
 fn append_claim<D: Desk>(
@@ -29,15 +78,13 @@ fn append_claim<D: Desk>(
     proof: &Name,
     claim: &Claim,
 ) -> Result<(), DeskError>
-    requires { IsWritable claim.now }
     ensures appended { OnOk result (HasAppended proof.now (claim_text (statement_of claim.now))
         (D.told desk.old) (D.told desk.new)) }
     ensures stopped { IfErr result (HasAppendedPart proof.now
         (claim_text (statement_of claim.now)) (D.told desk.old) (D.told desk.new)) }
 {
-    let mut text = Vec::new(alloc);
-    write_claim(&mut text, claim)?;
-    append_piece(alloc, desk, proof, &text)
+    append_front(alloc, desk, proof, claim)?;
+    append_boxes(alloc, desk, proof, claim.cells.as_slice())
 }
 
 /// Proves the claims of a flight, one after the other, and appends the lines of each to the proof.
@@ -51,10 +98,10 @@ fn prove_claims<D: Desk>(
 ) -> Result<Totals, DeskError>
     requires { IsTrue (is_number number.now) }
     ensures claimed { IfOk result (λ totals.
-        AreClaimed (expected_of number.now (rules_of goals.now)) totals proof.now
+        AreClaimed (expected_of number.now (rules_of_claims goals.now)) totals proof.now
         (D.told desk.old) (D.told desk.new)) }
     ensures stopped { IfErr result
-        (AreClaimedPartly (expected_of number.now (rules_of goals.now)) proof.now
+        (AreClaimedPartly (expected_of number.now (rules_of_claims goals.now)) proof.now
         (D.told desk.old) (D.told desk.new)) }
 {
     let mut totals = Totals::NONE;

@@ -10,7 +10,8 @@ use Rattle.gl_proof.specs.declared.claim.ClaimKind.{ClaimKind}
 use Rattle.gl_proof.specs.Claim.{Statement}
 use Rattle.gl_day.specs.declared.fault.NotProved.{NotProved}
 use Rattle.gl_day.specs.Checked.{AreProved, IsFaultAt, IsNotProved}
-use Rattle.gl_day.specs.Expected.{Proves, expected_of, rules_of}
+use Rattle.gl_day.specs.Expected.{Proves, expected_of}
+use Rattle.gl_judge.specs.Claimed.{rules_of_claims}
 
 -- a claim that is expected
 abbrev Expected : Type 0
@@ -77,14 +78,14 @@ wrong_next before more behind statements at e wrong proved long fault number = r
 }
 
 -- the claims of goals
-abbrev claims_for : List ℕ → List (ClaimKind × AnyGoal) → List Expected
-claims_for number goals = expected_of number (rules_of goals)
+abbrev pub claims_for : List ℕ → List (ClaimKind × AnyGoal) → List Expected
+claims_for number goals = expected_of number (rules_of_claims goals)
 
-claims_for-append : (number : List ℕ) (xs ys : List (ClaimKind × AnyGoal)) → claims_for number (xs ++ ys) ≡ claims_for number xs ++ claims_for number ys
+pub claims_for-append : (number : List ℕ) (xs ys : List (ClaimKind × AnyGoal)) → claims_for number (xs ++ ys) ≡ claims_for number xs ++ claims_for number ys
 claims_for-append number [] ys = refl
 claims_for-append number (x ∷ xs) ys = ap (λ (l : List Expected). (number, x.0, any_rule x.1) ∷ l) (claims_for-append number xs ys)
 
-length-claims_for : (number : List ℕ) (xs : List (ClaimKind × AnyGoal)) → length (claims_for number xs) ≡ length xs
+pub length-claims_for : (number : List ℕ) (xs : List (ClaimKind × AnyGoal)) → length (claims_for number xs) ≡ length xs
 length-claims_for number [] = refl
 length-claims_for number (x ∷ xs) = ap suc (length-claims_for number xs)
 
@@ -92,7 +93,7 @@ length-front : (number : List ℕ) (goals : List (ClaimKind × AnyGoal)) (i : �
 length-front number goals i before at below sum = omega (arith, length-append before (claims_for number (take i goals)), length-claims_for number (take i goals), length-take i goals)
 
 -- the claims of one goal more are proved
-pub goes_more : (number : List ℕ) (goals : List (ClaimKind × AnyGoal)) (i : ℕ) (g : ClaimKind × AnyGoal) (before : List Expected) (statements : List Statement) (at : ℕ) → i < length goals → g ≡ get_or goals i g → length before + i ≡ at → AreProved (before ++ expected_of number (rules_of (take i goals))) statements → IsSomeAnd (slice_get statements at) (Proves (number, g.0, any_rule g.1)) → AreProved (before ++ expected_of number (rules_of (take (i + 1) goals))) statements
+pub goes_more : (number : List ℕ) (goals : List (ClaimKind × AnyGoal)) (i : ℕ) (g : ClaimKind × AnyGoal) (before : List Expected) (statements : List Statement) (at : ℕ) → i < length goals → g ≡ get_or goals i g → length before + i ≡ at → AreProved (before ++ expected_of number (rules_of_claims (take i goals))) statements → IsSomeAnd (slice_get statements at) (Proves (number, g.0, any_rule g.1)) → AreProved (before ++ expected_of number (rules_of_claims (take (i + 1) goals))) statements
 goes_more number goals i g before statements at below item sum proved holds =
     let next = take_more goals i g below ∙ ap (λ (x : ClaimKind × AnyGoal). take i goals ++ x ∷ []) (sym item) in
     let claims = ap (claims_for number) next ∙ claims_for-append number (take i goals) (g ∷ []) in
@@ -100,7 +101,7 @@ goes_more number goals i g before statements at below item sum proved holds =
     (proved_next before (claims_for number (take i goals)) statements at (number, g.0, any_rule g.1) proved (length-front number goals i before at below sum) holds)
 
 -- the claim of the next goal is wrong
-pub goes_wrong : (number : List ℕ) (goals : List (ClaimKind × AnyGoal)) (i : ℕ) (g : ClaimKind × AnyGoal) (before : List Expected) (statements : List Statement) (at : ℕ) (wrong : NotProved) → i < length goals → g ≡ get_or goals i g → length before + i ≡ at → AreProved (before ++ expected_of number (rules_of (take i goals))) statements → IsFaultAt (number, g.0, any_rule g.1) (slice_get statements at) wrong.fault → wrong.claim ≡ at + 1 → IsNotProved (before ++ expected_of number (rules_of goals)) statements wrong
+pub goes_wrong : (number : List ℕ) (goals : List (ClaimKind × AnyGoal)) (i : ℕ) (g : ClaimKind × AnyGoal) (before : List Expected) (statements : List Statement) (at : ℕ) (wrong : NotProved) → i < length goals → g ≡ get_or goals i g → length before + i ≡ at → AreProved (before ++ expected_of number (rules_of_claims (take i goals))) statements → IsFaultAt (number, g.0, any_rule g.1) (slice_get statements at) wrong.fault → wrong.claim ≡ at + 1 → IsNotProved (before ++ expected_of number (rules_of_claims goals)) statements wrong
 goes_wrong number goals i g before statements at wrong below item sum proved fault claim =
     let rest = drop_more goals i g below ∙ ap (λ (x : ClaimKind × AnyGoal). x ∷ drop (i + 1) goals) (sym item) in
     let whole = sym (take-append-drop i goals) ∙ ap (λ (l : List (ClaimKind × AnyGoal)). take i goals ++ l) rest in

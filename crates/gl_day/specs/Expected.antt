@@ -1,7 +1,5 @@
 -- What is expected of a proof, claim by claim.
 use Rattle.std.specs.Prelude.{◌≡◌, ℕ, List, map}
-use Rattle.gl_goal.specs.declared.any.AnyGoal.{AnyGoal}
-use Rattle.gl_goal.specs.AnyGoal.{any_rule}
 use Rattle.gl_goal.specs.Certificate.{IsCertificate}
 use Rattle.gl_goal.specs.Rule.{Rule}
 use Rattle.gl_proof.specs.declared.claim.ClaimKind.{ClaimKind}
@@ -18,7 +16,3 @@ pub record Proves (expected : List ℕ × ClaimKind × Rule) (statement : Statem
 -- what is expected of an entrant: each claim of the flight, under the entrant's number
 abbrev pub expected_of : List ℕ → List (ClaimKind × Rule) → List (List ℕ × ClaimKind × Rule)
 expected_of number claims = map (λ claim. (number, claim.0, claim.1)) claims
-
--- goals by their rules
-abbrev pub rules_of : List (ClaimKind × AnyGoal) → List (ClaimKind × Rule)
-rules_of goals = map (λ claim. (claim.0, any_rule claim.1)) goals

@@ -5,7 +5,8 @@ ghost use Rattle.gl_goal.specs.Rule.{Rule};
 ghost use Rattle.gl_proof.specs.declared.claim.ClaimKind.{ClaimKind};
 ghost use Rattle.gl_proof.specs.Claim.{Statement, statement_of};
 ghost use Rattle.gl_day.specs.Checked.{Ends, GoesOn, IsFoundAt, IsNamed, IsSaid, Proceeds};
-ghost use Rattle.gl_day.specs.Expected.{Proves, expected_of, rules_of};
+ghost use Rattle.gl_day.specs.Expected.{Proves, expected_of};
+ghost use Rattle.gl_judge.specs.Claimed.{rules_of_claims};
 
 use crate::fault::{Checked, Fault, NotProved};
 use gl_check::{Verdict, check_claim};
@@ -87,13 +88,13 @@ pub fn check_flight(
     count: usize,
 ) -> Result<Option<NotProved>, AllocError>
     requires { count ≤ length claims.now }
-    ensures goes_on { IfOk result (GoesOn count (expected_of number.now (rules_of goals.now))
+    ensures goes_on { IfOk result (GoesOn count (expected_of number.now (rules_of_claims goals.now))
         (map statement_of claims.now)) }
     ensures within { IfOk result
         (λ wrong. IfNone wrong (count + length goals.now ≤ length claims.now)) }
 
     // A proof of what is expected so far, of this flight and of what follows is never refused here.
-    ensures passes { IfOk result (λ wrong. Proceeds count (expected_of number.now (rules_of goals.now))
+    ensures passes { IfOk result (λ wrong. Proceeds count (expected_of number.now (rules_of_claims goals.now))
         (map statement_of claims.now) → IsNone wrong) }
 {
     let mut at = count;

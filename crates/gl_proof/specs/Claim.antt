@@ -62,3 +62,9 @@ spelled lines = flat_map ended lines
 -- the text of a claim
 abbrev pub claim_text : Statement → List ℕ
 claim_text statement = spelled (claim_lines statement)
+
+-- the text of a claim's lines before its boxes
+abbrev pub front_text : Statement → List ℕ
+front_text statement =
+    spelled (ClaimLine statement.number statement.kind statement.total
+    ∷ fix_lines statement.total statement.fixes)

@@ -85,7 +85,8 @@ pub fn short_number_at(text: &[u8]) -> Option<(u32, &[u8])>
     }
 }
 
-/// The same as `short_number_at`, for all numbers.
+/// The same number as `short_number_at` finds, whatever its digits: slower, for what
+/// `common_number_at` passes over.
 fn any_number_at(text: &[u8]) -> Option<(u32, &[u8])>
     ensures { Reads (λ number. number) (IsNumberAt (2 ^ 32) text.now) result }
 {

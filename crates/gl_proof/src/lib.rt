@@ -16,7 +16,7 @@ pub use claim::{Claim, ClaimKind};
 pub use error::ProofError;
 pub use proof::Proof;
 pub use read::read_proof;
-pub use write::write_claim;
+pub use write::{write_boxes, write_claim, write_front};
 
 #[cfg(test)]
 mod tests;

@@ -3,7 +3,7 @@ ghost use Rattle.std.specs.Fmt.{decimal};
 ghost use Rattle.std.specs.List.{flat_map};
 ghost use Rattle.gl_box.specs.Cell.{spans_of};
 ghost use Rattle.gl_box.specs.Closed.{box_of};
-ghost use Rattle.gl_proof.specs.Claim.{IsWritable, box_line, claim_text, fix_lines, spelled, statement_of};
+ghost use Rattle.gl_proof.specs.Claim.{IsWritable, box_line, claim_text, front_text, spelled, statement_of};
 ghost use Rattle.gl_proof.specs.Kept.{Keeps};
 ghost use Rattle.gl_proof.specs.Line.{BoxLine, ClaimLine, FixLine, ended, kind_word, reason_word, span_word, spaced, total_word};
 
@@ -122,8 +122,9 @@ fn push_claim_line(
     Ok(())
 }
 
-/// Appends the lines of boxes.
-fn push_boxes(out: &mut Vec<u8>, cells: &[Closed]) -> Result<(), AllocError>
+/// Appends the lines of boxes, so that a claim with millions of them can be written piece by piece. The
+/// only error is want of memory; `out` has then what it had, and perhaps more.
+pub fn write_boxes(out: &mut Vec<u8>, cells: &[Closed]) -> Result<(), AllocError>
     ensures ok { OnOk result (out.new.items
         ≡ out.old.items ++ spelled (map box_line (map box_of cells.now))) }
     ensures err { OnErr result (Keeps out.old.items out.new.items) }
@@ -134,12 +135,11 @@ fn push_boxes(out: &mut Vec<u8>, cells: &[Closed]) -> Result<(), AllocError>
     Ok(())
 }
 
-/// Appends the lines of a claim's total and fixes.
-fn push_front(out: &mut Vec<u8>, claim: &Claim) -> Result<(), AllocError>
-    ensures ok { OnOk result (out.new.items
-        ≡ out.old.items
-        ++ spelled (ClaimLine claim.now.number claim.now.kind claim.now.total
-        ∷ fix_lines claim.now.total claim.now.fixes.items)) }
+/// Appends the lines of a claim that stand before its boxes. The only error is want of memory; `out` has
+/// then what it had, and perhaps more.
+pub fn write_front(out: &mut Vec<u8>, claim: &Claim) -> Result<(), AllocError>
+    ensures ok { OnOk result
+        (out.new.items ≡ out.old.items ++ front_text (statement_of claim.now)) }
     ensures err { OnErr result (Keeps out.old.items out.new.items) }
 {
     let number = claim.number.as_str().as_bytes();
@@ -156,8 +156,8 @@ fn push_claim(out: &mut Vec<u8>, claim: &Claim) -> Result<(), AllocError>
         (out.new.items ≡ out.old.items ++ claim_text (statement_of claim.now)) }
     ensures err { OnErr result (Keeps out.old.items out.new.items) }
 {
-    push_front(out, claim)?;
-    push_boxes(out, claim.cells.as_slice())
+    write_front(out, claim)?;
+    write_boxes(out, claim.cells.as_slice())
 }
 
 /// Appends just the lines of a claim, as docs/proof-file.md has them. The only error is want of

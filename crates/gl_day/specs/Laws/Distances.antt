@@ -20,7 +20,8 @@ use Rattle.gl_proof.specs.Claim.{Statement}
 use Rattle.gl_task.specs.declared.day_type.Kind.{Kind}
 use Rattle.gl_task.specs.declared.day_type.Kind.TheVariants.{Racing, Area}
 use Rattle.gl_task.specs.declared.task.Task.{Task}
-use Rattle.gl_day.specs.Expected.{Proves, expected_of, rules_of}
+use Rattle.gl_day.specs.Expected.{Proves, expected_of}
+use Rattle.gl_judge.specs.Claimed.{rules_of_claims}
 use Rattle.gl_day.specs.Laws.Expected.{range_alone, some_judged}
 use Rattle.gl_day.specs.Totals.{claimed_total, is_distance, total_if}
 
@@ -71,7 +72,7 @@ abbrev head_name : ClaimKind → List (ClaimKind × Rule) → ClaimKind
 head_name other [] = other
 head_name other (claim ∷ claims) = claim.0
 
-first_some : (number : List ℕ) (goals : List (ClaimKind × AnyGoal)) (statements : List Statement) (first : ComesFirst (rules_of goals)) → HaveLegal (rules_of goals) → AllZip Proves (expected_of number (rules_of goals)) statements → IsSome (claimed_total is_distance statements)
+first_some : (number : List ℕ) (goals : List (ClaimKind × AnyGoal)) (statements : List Statement) (first : ComesFirst (rules_of_claims goals)) → HaveLegal (rules_of_claims goals) → AllZip Proves (expected_of number (rules_of_claims goals)) statements → IsSome (claimed_total is_distance statements)
 first_some number [] statements first legal each = let e = first.are in absurd (cc)
 first_some number (g ∷ goals) [] first legal each = absurd each
 first_some number (g ∷ goals) (s ∷ statements) first legal each =
@@ -83,7 +84,7 @@ first_some number (g ∷ goals) (s ∷ statements) first legal each =
     total_first is_distance s statements s.total refl some (ap is_distance each.0.kind ∙ counts)
 
 -- where the distance of a flight is that of a claim, its claims have a total for it
-pub distance_claimed : (task : Task) (air : Airspace) (recording : Recording) (judged : Judged) (number : List ℕ) (goals : List (ClaimKind × AnyGoal)) (statements : List Statement) → IsJudged task air recording judged → AreExpected task air recording (rules_of goals) → HaveLegal (rules_of goals) → AllZip Proves (expected_of number (rules_of goals)) statements → IsTrue (is_chosen task.kind judged) → IsSome (claimed_total is_distance statements)
+pub distance_claimed : (task : Task) (air : Airspace) (recording : Recording) (judged : Judged) (number : List ℕ) (goals : List (ClaimKind × AnyGoal)) (statements : List Statement) → IsJudged task air recording judged → AreExpected task air recording (rules_of_claims goals) → HaveLegal (rules_of_claims goals) → AllZip Proves (expected_of number (rules_of_claims goals)) statements → IsTrue (is_chosen task.kind judged) → IsSome (claimed_total is_distance statements)
 distance_claimed task air recording judged number goals statements is expected legal each chosen =
     let some = some_judged task recording is.judged judged task.kind is.is chosen in
     let same = range_alone task air recording.fixes is.judged expected.judged is.range expected.range some in

@@ -8,7 +8,8 @@ use Rattle.gl_proof.specs.Claim.{statement_of}
 use Rattle.gl_task.specs.declared.task.Entrant.{Entrant}
 use Rattle.gl_day.specs.declared.fault.NotProved.{NotProved}
 use Rattle.gl_day.specs.Checked.{GoesOn}
-use Rattle.gl_day.specs.Expected.{expected_of, rules_of}
+use Rattle.gl_day.specs.Expected.{expected_of}
+use Rattle.gl_judge.specs.Claimed.{rules_of_claims}
 use Rattle.gl_app.specs.Asked.{AreAskedIn}
 use Rattle.gl_app.proofs.Commanded.{reads_twice}
 use Rattle.gl_app.proofs.Compared.{AreChecked, AreChecked-more, checked_end, checked_wrong}
@@ -25,9 +26,9 @@ returns-in-Some-clause-checked g c =
     let same = c.as_slice-entrant-items.ensures in
     let below = subst (λ (l : List Entrant). i < length l) same c.loop-entrant-test.true in
     let item = subst (λ (l : List Entrant). e ≡ get_or l i e) same c.entrant-item.is in
-    let asked = subst (λ (f : Option FilesByName). AreAskedIn f day.task day.airspace e (expected_of e.number (rules_of goals))) c.loop-entrant.invariant.reads.folder c.in_ok-goals.ensures.asked in
-    let found = subst (λ (o : Option NotProved). GoesOn c.loop-entrant.count (expected_of e.number (rules_of c.deref.result.now)) statements o) c.in-Some.is c.in_ok-wrong.ensures.goes_on in
-    let goes = subst (λ (l : List (ClaimKind × AnyGoal)). GoesOn c.loop-entrant.count (expected_of e.number (rules_of l)) statements (Some c.in-Some.wrong)) c.deref.ensures.value found in
+    let asked = subst (λ (f : Option FilesByName). AreAskedIn f day.task day.airspace e (expected_of e.number (rules_of_claims goals))) c.loop-entrant.invariant.reads.folder c.in_ok-goals.ensures.asked in
+    let found = subst (λ (o : Option NotProved). GoesOn c.loop-entrant.count (expected_of e.number (rules_of_claims c.deref.result.now)) statements o) c.in-Some.is c.in_ok-wrong.ensures.goes_on in
+    let goes = subst (λ (l : List (ClaimKind × AnyGoal)). GoesOn c.loop-entrant.count (expected_of e.number (rules_of_claims l)) statements (Some c.in-Some.wrong)) c.deref.ensures.value found in
     checked_wrong folder day i e goals statements c.loop-entrant.count c.in-Some.wrong below item c.loop-entrant.invariant.checked asked goes
 
 pub loop-entrant-preserved : goal.loop-entrant-preserved
@@ -41,9 +42,9 @@ loop-entrant-preserved g c =
     let same = c.as_slice-entrant-items.ensures in
     let below = subst (λ (l : List Entrant). i < length l) same c.loop-entrant-test.true in
     let item = subst (λ (l : List Entrant). e ≡ get_or l i e) same c.entrant-item.is in
-    let asked = subst (λ (f : Option FilesByName). AreAskedIn f day.task day.airspace e (expected_of e.number (rules_of goals))) c.loop-entrant.invariant.reads.folder c.in_ok-goals.ensures.asked in
-    let found = subst (λ (o : Option NotProved). GoesOn c.loop-entrant.count (expected_of e.number (rules_of c.deref.result.now)) statements o) c.in_default.is c.in_ok-wrong.ensures.goes_on in
-    let goes = subst (λ (l : List (ClaimKind × AnyGoal)). GoesOn c.loop-entrant.count (expected_of e.number (rules_of l)) statements None) c.deref.ensures.value found in
+    let asked = subst (λ (f : Option FilesByName). AreAskedIn f day.task day.airspace e (expected_of e.number (rules_of_claims goals))) c.loop-entrant.invariant.reads.folder c.in_ok-goals.ensures.asked in
+    let found = subst (λ (o : Option NotProved). GoesOn c.loop-entrant.count (expected_of e.number (rules_of_claims c.deref.result.now)) statements o) c.in_default.is c.in_ok-wrong.ensures.goes_on in
+    let goes = subst (λ (l : List (ClaimKind × AnyGoal)). GoesOn c.loop-entrant.count (expected_of e.number (rules_of_claims l)) statements None) c.deref.ensures.value found in
     let long : c.len-count.result ≡ length goals = c.len-count.ensures ∙ c.in_ok-goals.goals.ok.0 in
     let room : c.loop-entrant.count + length c.deref.result.now ≤ length c.args.proved.now = subst (λ (o : Option NotProved). IfNone o (c.loop-entrant.count + length c.deref.result.now ≤ length c.args.proved.now)) c.in_default.is c.in_ok-wrong.ensures.within in
     record {

@@ -3,7 +3,8 @@ use Rattle.gl_goal.specs.Rule.{Rule}
 use Rattle.gl_proof.specs.declared.claim.ClaimKind.{ClaimKind}
 use Rattle.gl_proof.specs.Claim.{statement_of}
 use Rattle.gl_day.specs.Checked.{AreProved}
-use Rattle.gl_day.specs.Expected.{expected_of, rules_of}
+use Rattle.gl_day.specs.Expected.{expected_of}
+use Rattle.gl_judge.specs.Claimed.{rules_of_claims}
 use Rattle.gl_day.proofs.check.check_flight.Given as goal
 
 abbrev pub invariant-loop-goal : goal.invariant-loop-goal
@@ -12,6 +13,6 @@ invariant-loop-goal l = record {
   within : l.at ≤ length l.claims;
   proved : (before : List (List ℕ × ClaimKind × Rule)) → length before ≡ l.count
       → AreProved before (map statement_of l.claims)
-      → AreProved (before ++ expected_of l.number (rules_of (take l.goal-index l.goals)))
+      → AreProved (before ++ expected_of l.number (rules_of_claims (take l.goal-index l.goals)))
       (map statement_of l.claims);
 }

@@ -1,7 +1,7 @@
 use Rattle.std.proofs.Common.{◌≡◌, ◌++◌, map, take}
 use Rattle.gl_box.specs.Closed.{box_of}
 use Rattle.gl_proof.specs.Claim.{box_line, spelled}
-use Rattle.gl_proof.proofs.write.push_boxes.Given as goal
+use Rattle.gl_proof.proofs.write.write_boxes.Given as goal
 
 -- the boxes so far are written
 abbrev pub invariant-loop-closed : goal.invariant-loop-closed
