@@ -4,4 +4,5 @@ pub mod Entries
 pub mod Gaps
 pub mod Kept
 pub mod LeastBoxes
+pub mod Nearest
 pub mod Spans

@@ -2,3 +2,4 @@
 -- of goals rest on.
 pub mod Boxes
 pub mod Chords
+pub mod Held

@@ -27,7 +27,7 @@ impl Model for Hulls {
 }
 
 impl Hulls {
-    ghost use Rattle.std.specs.Prelude.{◌≡◌, ◌≤◌, ◌<◌, length, map, All, IfOk, IfSome, Some, slice_get};
+    ghost use Rattle.std.specs.Prelude.{◌≡◌, ◌+◌, ◌≤◌, ◌<◌, length, map, All, IfOk, IfSome, Some, slice_get};
     ghost use Rattle.gl_box.specs.Cell.{ends};
     ghost use Rattle.gl_hull.specs.Box.{IsLeastBox, fixes_in, hull_of};
     ghost use Rattle.gl_hull.specs.Hull.{box_of};
@@ -60,6 +60,27 @@ impl Hulls {
         ensures { result ≡ length self.now }
     {
         self.fixes.len()
+    }
+
+    /// The fix at a place.
+    #[inline]
+    pub fn fix(&self, place: u32) -> &Fix
+        requires { place < length self.now }
+        ensures { slice_get self.now place ≡ Some result.now }
+    {
+        &self.fixes[place as usize]
+    }
+
+    /// The span of all fixes.
+    pub(crate) fn whole(&self) -> Span
+        requires { 0 < length self.now }
+        ensures lo { result.lo ≡ 0 }
+        ensures hi { result.hi + 1 ≡ length self.now }
+    {
+        Span {
+            lo: 0,
+            hi: (self.fixes.len() - 1) as u32,
+        }
     }
 
     /// The least hull of the fixes of a span, where it is kept.

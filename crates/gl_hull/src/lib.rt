@@ -8,6 +8,7 @@ mod entry;
 mod extent;
 mod hull;
 mod hulls;
+mod near;
 mod table;
 #[cfg(test)]
 mod tests;

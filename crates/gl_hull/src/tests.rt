@@ -2,6 +2,7 @@ use crate::{Hull, Hulls, max_sq, min_sq};
 use gl_box::Span;
 use gl_igc::Fix;
 use gl_sphere::{Grid, Vec3, vector};
+use std::process::Abort;
 use std::test::Fail;
 
 /// Takes what threads may share.
@@ -107,5 +108,50 @@ fn hulls_of_spans(rt: HostRuntime) -> Result<(), Fail> {
         alt_hi: 300,
     };
     assert_eq!(rt; last, without_the_first);
+    Ok(())
+}
+
+/// The places at the origin, one degree east of it and one degree north.
+const ORIGIN: Grid = Grid { lat: 0, lon: 0 };
+
+const EAST: Grid = Grid {
+    lat: 0,
+    lon: 6_000_000,
+};
+
+const NORTH: Grid = Grid {
+    lat: 6_000_000,
+    lon: 0,
+};
+
+/// Asserts the last fix from the first to this one that is near a place.
+fn last_near(rt: &impl Abort, hulls: &Hulls, hi: u32, from: Grid, limit: u64, last: Option<u32>) {
+    assert!(rt; (hi as usize) < hulls.len());
+    let near = hulls.last_near(Span { lo: 0, hi }, vector(from), limit);
+    assert_eq!(rt; near, last);
+}
+
+#[test]
+fn last_fixes_near_a_point(rt: HostRuntime) -> Result<(), Fail> {
+    let fixes = [
+        fix_at(0, ORIGIN, 0),
+        fix_at(10, EAST, 0),
+        fix_at(20, ORIGIN, 0),
+        fix_at(30, NORTH, 0),
+        fix_at(40, ORIGIN, 0),
+    ];
+    let hulls = Hulls::new(rt.alloc(), &fixes, &[0, 1, 2, 3, 4])?;
+    // A degree along the sphere is 11,119,492 centimetres.
+    let cases = [
+        (4, NORTH, 0, Some(3)),
+        (0, NORTH, 0, None),
+        (4, ORIGIN, 0, Some(4)),
+        (3, ORIGIN, 0, Some(2)),
+        (3, ORIGIN, 11_119_492, Some(3)),
+        (3, ORIGIN, 11_119_491, Some(2)),
+    ];
+    for (hi, from, limit, last) in cases {
+        last_near(&rt, &hulls, hi, from, limit, last);
+    }
     Ok(())
 }

@@ -1,10 +1,9 @@
 -- What the boxes of a chain say of the fixes in them.
-use Rattle.std.proofs.Common.{◌≡◌, ◌∙◌, sym, ap, refl, subst, ℕ, zero, suc, ◌+◌, ◌-◌, ◌*◌, ◌<◌, ◌≤◌, List, [], ◌∷◌, length, map, drop, take, get_or, Some, slice_get, ℤ, pos, ◌-ℤ◌, arith, ◌++◌}
+use Rattle.std.proofs.Common.{◌≡◌, ◌∙◌, sym, ap, refl, subst, ℕ, zero, suc, ◌+◌, ◌*◌, ◌<◌, ◌≤◌, List, [], ◌∷◌, length, map, take, get_or, Some, slice_get, ℤ, ◌-ℤ◌, arith, ◌++◌}
 use Rattle.std.specs.Prelude.{All, unsigned_abs}
 use Rattle.std.specs.List.{AllZip, cons_option}
-use Rattle.std.proofs.lemmas.Int.{ints, int_max_is}
-use Rattle.std.specs.Int.{int_max}
-use Rattle.std.proofs.lemmas.List.{get_or-drop, get_or-map, get_or-take, length-drop, length-map, length-take}
+use Rattle.std.proofs.lemmas.Int.{ints}
+use Rattle.std.proofs.lemmas.List.{length-map}
 use Rattle.std.proofs.lemmas.Option.{get_or_from_slice_get}
 use Rattle.gl_sphere.proofs.Arcs.{written_distance-bound, written_distance-mono}
 use Rattle.gl_sphere.proofs.Chords.{squared_chord-bound}
@@ -12,10 +11,10 @@ use Rattle.gl_sphere.specs.declared.place.Vec3.{Vec3}
 use Rattle.gl_sphere.specs.Distance.{squared_chord, squared_gap, written_distance}
 use Rattle.gl_igc.specs.declared.fix.Fix.{Fix}
 use Rattle.gl_hull.proofs.Spans.{fixes_in-single}
-use Rattle.gl_hull.specs.Box.{AreEnds, Box, IsBetween, IsInside, ends_of, fixes_in, hull_of, point_box}
-use Rattle.gl_hull.specs.Chords.{gap, greatest_chord, least_chord, reach, squared}
-use Rattle.gl_hull.specs.Laws.Boxes.{hull_of-is_least}
-use Rattle.gl_hull.specs.Laws.Chords.{squared_chord-at_least, squared_chord-at_most}
+use Rattle.gl_hull.specs.Box.{Box, IsInside, fixes_in, hull_of, point_box}
+use Rattle.gl_hull.specs.Chords.{greatest_chord, least_chord, reach, squared}
+use Rattle.gl_hull.specs.Laws.Chords.{gap-at, squared_chord-at_least, squared_chord-at_most}
+pub use Rattle.gl_hull.specs.Laws.Held.{IsHeld, fix_box, hull_of-holds, hull_of-single, named, point_box-inside}
 use Rattle.gl_box.specs.Cell.{Covers, Holds, point}
 use Rattle.gl_box.specs.Laws.Held.{holds_parts}
 use Rattle.gl_goal.specs.Rule.{IsTuple, chosen, whole_cell}
@@ -44,12 +43,6 @@ legs-limited [] = omega arith
 legs-limited (a ∷ []) = omega arith
 legs-limited (a ∷ b ∷ points) = omega (arith, distance-bound a b, legs-limited (b ∷ points))
 
--- the fix that a number names
-pub named : (fixes : List Fix) (number : ℕ) → number < length fixes → (fix : Fix) × (slice_get fixes number ≡ Some fix)
-named [] number below = absurd (omega arith)
-named (fix ∷ fixes) zero below = (fix, refl)
-named (fix ∷ fixes) (suc number) below = named fixes number (omega arith)
-
 next_named : (fixes : List Fix) (number : ℕ) (numbers : List ℕ) → AreNamed fixes (number ∷ numbers) → AreNamed fixes numbers
 next_named fixes number numbers all k d below = all (suc k) d (omega arith)
 
@@ -71,34 +64,6 @@ get_or-fixes_at fixes (number ∷ numbers) zero d all below =
 get_or-fixes_at fixes (number ∷ numbers) (suc place) d all below =
     let fix = named fixes number (all 0 0 (omega arith)) in
     ap (λ fs. get_or fs (suc place) d) (fixes_at-cons fixes number numbers fix.0 fix.1) ∙ get_or-fixes_at fixes numbers place d (next_named fixes number numbers all) (omega arith)
-
--- a box holds a fix, by its point and its altitude
-pub record IsHeld (box : Box) (fix : Fix) : Type 0 where
-  pub inside : IsInside box fix.at
-  pub altitude : IsBetween box.alt fix.alt
-
-component-between : (f : Fix → ℤ) (fixes : List Fix) (k : ℕ) (fix : Fix) (ends : ℤ × ℤ) → AreEnds ends (map f fixes) → k < length fixes → get_or fixes k fix ≡ fix → IsBetween ends (f fix)
-component-between f fixes k fix ends are below is =
-    let P : ℤ → Type 0 = IsBetween ends in
-    subst P (get_or-map f fixes k fix (f fix) below ∙ ap f is) (are.between k (f fix) (omega (arith, length-map fixes f)))
-
--- the hull of a span holds the fix at each of its places
-pub hull_of-holds : (fixes : List Fix) (span : ℕ × ℕ) (place : ℕ) (fix : Fix) → span.0 ≤ place → place ≤ span.1 → span.1 < length fixes → get_or fixes place fix ≡ fix → IsHeld (hull_of (fixes_in fixes span)) fix
-hull_of-holds fixes span place fix low high within is =
-    let seen = fixes_in fixes span in
-    let at = place - span.0 in
-    let size : length seen ≡ span.1 + 1 - span.0 = omega (arith, length-take (span.1 + 1 - span.0) (drop span.0 fixes), length-drop span.0 fixes) in
-    let below : at < length seen = omega arith in
-    let there : get_or seen at fix ≡ fix = get_or-take (span.1 + 1 - span.0) (drop span.0 fixes) at fix (omega arith) ∙ get_or-drop span.0 fixes at fix ∙ ap (λ k. get_or fixes k fix) (omega arith) ∙ is in
-    let least = hull_of-is_least seen (omega arith) in
-    record {
-      inside = record {
-        x = component-between (λ f. f.at.x) seen at fix _ least.x below there;
-        y = component-between (λ f. f.at.y) seen at fix _ least.y below there;
-        z = component-between (λ f. f.at.z) seen at fix _ least.z below there;
-      };
-      altitude = component-between (λ f. f.alt) seen at fix _ least.alt below there;
-    }
 
 next_all : (P : List ℕ → Type 0) (axis : List ℕ) (axes : List (List ℕ)) → All P (axis ∷ axes) → All P axes
 next_all P axis axes all k d below = all (suc k) d (omega arith)
@@ -139,19 +104,6 @@ points-inside [] [] held = tt
 points-inside [] (fix ∷ fixes) held = absurd held
 points-inside (box ∷ boxes) [] held = absurd held
 points-inside (box ∷ boxes) (fix ∷ fixes) held = (held.0.inside, points-inside boxes fixes held.1)
-
--- the box of a single fix
-abbrev pub fix_box : Fix → Box
-fix_box fix = record {
-  x = (fix.at.x, fix.at.x);
-  y = (fix.at.y, fix.at.y);
-  z = (fix.at.z, fix.at.z);
-  alt = (fix.alt, fix.alt);
-}
-
-hull_of-single : (fix : Fix) → hull_of (fix ∷ []) ≡ fix_box fix
-unfolding ends_of
-hull_of-single fix = refl
 
 -- the hulls of a single tuple are the boxes of its fixes
 pub hulls_of-point : (fixes : List Fix) (axes : List (List ℕ)) (tuple : List ℕ) → All (AreNamed fixes) axes → IsTuple axes tuple → hulls_of fixes axes (point tuple) ≡ map fix_box (fixes_at fixes (chosen axes tuple))
@@ -208,13 +160,6 @@ greatest_legs-at (b ∷ d ∷ bs) (p ∷ q ∷ ps) at =
 pub greatest_legs-point : (fixes : List Fix) → greatest_legs (map fix_box fixes) ≡ legs (points_of fixes)
 greatest_legs-point fixes = greatest_legs-at (map fix_box fixes) (points_of fixes) (fix_boxes-at fixes)
 
-pub point_box-inside : (at : Vec3) → IsInside (point_box at) at
-point_box-inside at = record {
-  x = (omega (arith, ints), omega (arith, ints));
-  y = (omega (arith, ints), omega (arith, ints));
-  z = (omega (arith, ints), omega (arith, ints));
-}
-
 -- what holds along two chains holds along them with one link more at the end
 pub AllZip-last : {A B : Type 0} (R : A → B → Type 0) (xs : List A) (ys : List B) (x : A) (y : B) → AllZip R xs ys → R x y → AllZip R (xs ++ x ∷ []) (ys ++ y ∷ [])
 AllZip-last R [] [] x y all last = (last, tt)
@@ -225,13 +170,6 @@ AllZip-last R (p ∷ xs) (q ∷ ys) x y all last = (all.0, AllZip-last R xs ys x
 -- no distance is less than the least one of the boxes, and it is that of single points
 pub distance-at_least : (a b : Box) (p q : Vec3) → IsInside a p → IsInside b q → least_distance a b ≤ distance p q
 distance-at_least a b p q h k = written_distance-mono (least_chord a b) (squared_chord p q) (squared_chord-at_least a b p q h k)
-
-gap-at : (a b : ℤ) (one other : ℤ × ℤ) → one ≡ (a, a) → other ≡ (b, b) → squared (gap one other) ≡ squared_gap a b
-unfolding gap squared_gap
-gap-at a b one other one_is other_is =
-    let greater = int_max (b -ℤ a) (a -ℤ b) in
-    let same : gap (a, a) (b, b) ≡ unsigned_abs (a -ℤ b) = omega (arith, ints, int_max_is (b -ℤ a) (a -ℤ b), int_max_is greater (pos 0)) in
-    (λ i. squared (gap (one_is i) (other_is i))) ∙ ap squared same
 
 pub least_distance-at : (a b : Box) (p q : Vec3) → IsAt a p → IsAt b q → least_distance a b ≡ distance p q
 unfolding least_chord squared_chord

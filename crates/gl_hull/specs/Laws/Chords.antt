@@ -1,12 +1,14 @@
 -- What holds of each two points of two boxes.
-use Rattle.std.proofs.Common.{◌≤◌, ℤ, pos, ◌-ℤ◌, arith}
+use Rattle.std.proofs.Common.{◌≡◌, ◌∙◌, ap, refl, ◌≤◌, ℤ, pos, ◌-ℤ◌, arith}
 use Rattle.std.specs.Prelude.{unsigned_abs}
 use Rattle.std.proofs.lemmas.Int.{ints, int_max_is}
 use Rattle.std.specs.Int.{int_max}
 use Rattle.std.proofs.Math.Nat.{mul-le-mul}
 use Rattle.gl_sphere.specs.declared.place.Vec3.{Vec3}
 use Rattle.gl_sphere.specs.Distance.{squared_chord, squared_gap}
-use Rattle.gl_hull.specs.Box.{Box, IsBetween, IsInside}
+use Rattle.gl_igc.specs.declared.fix.Fix.{Fix}
+use Rattle.gl_hull.specs.Box.{Box, IsBetween, IsInside, point_box}
+use Rattle.gl_hull.specs.Laws.Held.{fix_box}
 use Rattle.gl_hull.specs.Chords.{reach, gap, squared, greatest_chord, least_chord}
 
 difference-at_most : (one other : ℤ × ℤ) (p q : ℤ) → IsBetween one p → IsBetween other q → unsigned_abs (p -ℤ q) ≤ reach one other
@@ -40,3 +42,20 @@ pub squared_chord-at_least : (one other : Box) (p q : Vec3) → IsInside one p �
 unfolding squared_chord least_chord
 squared_chord-at_least one other p q h k =
     omega (arith, squared_gap-at_least one.x other.x p.x q.x h.x k.x, squared_gap-at_least one.y other.y p.y q.y h.y k.y, squared_gap-at_least one.z other.z p.z q.z h.z k.z)
+
+-- the gap of two single values is their difference
+pub gap-at : (a b : ℤ) (one other : ℤ × ℤ) → one ≡ (a, a) → other ≡ (b, b) → squared (gap one other) ≡ squared_gap a b
+unfolding gap squared_gap
+gap-at a b one other one_is other_is =
+    let greater = int_max (b -ℤ a) (a -ℤ b) in
+    let same : gap (a, a) (b, b) ≡ unsigned_abs (a -ℤ b) = omega (arith, ints, int_max_is (b -ℤ a) (a -ℤ b), int_max_is greater (pos 0)) in
+    (λ i. squared (gap (one_is i) (other_is i))) ∙ ap squared same
+
+-- a point and a fix have no other squared chord than their own
+pub least_chord-single : (point : Vec3) (fix : Fix) → least_chord (point_box point) (fix_box fix) ≡ squared_chord point fix.at
+unfolding least_chord squared_chord
+least_chord-single point fix =
+    let x = gap-at point.x fix.at.x _ _ refl refl in
+    let y = gap-at point.y fix.at.y _ _ refl refl in
+    let z = gap-at point.z fix.at.z _ _ refl refl in
+    cc

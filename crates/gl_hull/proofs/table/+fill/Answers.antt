@@ -22,6 +22,7 @@ returns-clause-hull t c =
 
 pub returns-clause-table : goal.returns-clause-table
 returns-clause-table t c = record {
+  most = c.requires.table.most;
   sized = omega (arith, c.fill-upper.ensures.table.sized, length-set c.fill-upper.new.table c.index_of.result (record { span = c.args.span; hull = c.join-hull.result }));
   entries = All-set (IsEntry c.args.fixes.now) c.fill-upper.new.table c.index_of.result _ (returns-clause-hull t c) c.fill-upper.ensures.table.entries;
 }

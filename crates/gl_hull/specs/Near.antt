@@ -1,0 +1,30 @@
+-- Which fixes of a list are near a point, and the last of them in a span.
+use Rattle.std.specs.Prelude.{◌≡◌, ℕ, ◌≤◌, ◌<◌, max, min, List, Some, slice_get}
+use Rattle.gl_sphere.specs.declared.place.Vec3.{Vec3}
+use Rattle.gl_sphere.specs.Distance.{squared_chord, written_distance}
+use Rattle.gl_igc.specs.declared.fix.Fix.{Fix}
+
+-- the fix at a place of a list is at most so many centimetres from a point, along the sphere
+pub record IsNear (fixes : List Fix) (point : Vec3) (limit place : ℕ) : Type 0 where
+  pub fix : Fix
+  pub there : slice_get fixes place ≡ Some fix
+  pub near : written_distance (squared_chord point fix.at) ≤ limit
+
+-- a place lies in a span, from its first place to its last
+abbrev pub IsPlaceOf : ℕ × ℕ → ℕ → Type 0
+IsPlaceOf span place = (span.0 ≤ place) × (place ≤ span.1)
+
+-- the places that lie in both of two spans
+abbrev pub both : ℕ × ℕ → ℕ × ℕ → ℕ × ℕ
+both one other = (max one.0 other.0, min one.1 other.1)
+
+-- no fix of a span is near the point
+abbrev pub IsNoneNear : List Fix → Vec3 → ℕ → ℕ × ℕ → Type 0
+IsNoneNear fixes point limit span =
+    (place : ℕ) → IsPlaceOf span place → ¬ IsNear fixes point limit place
+
+-- a place of a span has a fix near the point, and no later place of the span has one
+pub record IsLastNear (fixes : List Fix) (point : Vec3) (limit : ℕ) (span : ℕ × ℕ) (place : ℕ) : Type 0 where
+  pub within : IsPlaceOf span place
+  pub near : IsNear fixes point limit place
+  pub last : (later : ℕ) → place < later → later ≤ span.1 → ¬ IsNear fixes point limit later

@@ -1,0 +1,72 @@
+ghost use Rattle.std.specs.Prelude.{◌≡◌, ◌<◌, length, MatchOption};
+ghost use Rattle.gl_sphere.specs.Distance.{written_distance};
+ghost use Rattle.gl_box.specs.Cell.{ends};
+ghost use Rattle.gl_hull.specs.Box.{fixes_in, hull_of, point_box};
+ghost use Rattle.gl_hull.specs.Chords.{least_chord};
+ghost use Rattle.gl_hull.specs.Near.{IsLastNear, IsNoneNear, both};
+
+use crate::chords::min_sq;
+use crate::hull::Hull;
+use crate::hulls::Hulls;
+use gl_box::Span;
+use gl_sphere::{Vec3, dist};
+
+impl Hulls {
+    /// The last place of a span whose fix is at most `limit` centimetres from a point, if there is
+    /// one. Takes no memory.
+    pub fn last_near(&self, span: Span, point: Vec3, limit: u64) -> Option<u32>
+        requires { span.hi < length self.now }
+        ensures { MatchOption result
+            (IsNoneNear self.now point limit (ends span))
+            (IsLastNear self.now point limit (ends span)) }
+    {
+        self.last_near_in(self.whole(), span, point, limit)
+    }
+
+    /// The last such place that lies in both of two spans. The first of them is halved, again and
+    /// again, and what is too far from the point, or outside the second, is passed over.
+    fn last_near_in(&self, node: Span, span: Span, point: Vec3, limit: u64) -> Option<u32>
+        requires { node.hi < length self.now }
+        ensures { MatchOption result
+            (IsNoneNear self.now point limit (both (ends node) (ends span)))
+            (IsLastNear self.now point limit (both (ends node) (ends span))) }
+    {
+        if node.hi < span.lo || span.hi < node.lo {
+            return None;
+        }
+        if limit < self.least_distance(point, node) {
+            return None;
+        }
+        if node.lo == node.hi {
+            return Some(node.lo);
+        }
+        let middle = node.lo + (node.hi - node.lo) / 2;
+        let lower = Span {
+            lo: node.lo,
+            hi: middle,
+        };
+        let upper = Span {
+            lo: middle + 1,
+            hi: node.hi,
+        };
+        match self.last_near_in(upper, span, point, limit) {
+            Some(place) => Some(place),
+            None => self.last_near_in(lower, span, point, limit),
+        }
+    }
+
+    /// The distance along the sphere from a point to the hull of a span, in centimetres.
+    #[inline]
+    fn least_distance(&self, point: Vec3, span: Span) -> u64
+        requires { span.hi < length self.now }
+        ensures { result ≡ written_distance
+            (least_chord (point_box point) (hull_of (fixes_in self.now (ends span)))) }
+    {
+        let from = Hull::point(point);
+        let square = match self.kept(span) {
+            Some(hull) => min_sq(&from, hull),
+            None => min_sq(&from, &self.hull(span)),
+        };
+        dist(square)
+    }
+}
