@@ -7,3 +7,4 @@ pub mod Chain
 pub mod Free
 pub mod Area
 pub mod Out
+pub mod Reach

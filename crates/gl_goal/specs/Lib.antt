@@ -11,6 +11,7 @@ pub mod Laws
 pub mod Lists
 pub mod Out
 pub mod OutGoal
+pub mod Reach
 pub mod Rule
 pub use Rattle.gl_box.specs.Cell
 pub use Rattle.gl_box.specs.Closed

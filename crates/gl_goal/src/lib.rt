@@ -17,6 +17,7 @@ mod numbers;
 mod opening;
 mod out_goal;
 mod outlanding;
+mod reach;
 mod way;
 
 pub use any::AnyGoal;

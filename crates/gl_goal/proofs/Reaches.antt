@@ -1,0 +1,158 @@
+-- The reach from a place, by that of the place before it.
+use Rattle.std.proofs.Common.{◌≡◌, ◌∙◌, ap, sym, subst, ℕ, ◌+◌, ◌-◌, ◌*◌, ◌<◌, ◌≤◌, max, List, [], ◌∷◌, ◌++◌, length, get_or, below_more, Option, None, Some, slice_get, ⊎_elim, ℤ, ◌-ℤ◌, arith}
+use Rattle.std.specs.Prelude.{MatchOption, unsigned_abs, unwrap_or}
+use Rattle.std.proofs.lemmas.Bool.{cases_lt}
+use Rattle.std.proofs.lemmas.Int.{ints}
+use Rattle.std.proofs.lemmas.Option.{get_or_from_slice_get, slice_get_within}
+use Rattle.std.proofs.Math.ListN.{get_or-append}
+use Rattle.std.proofs.Math.Seq.{get_or-append_seam}
+use Rattle.gl_sphere.specs.declared.place.Vec3.{Vec3}
+use Rattle.gl_sphere.specs.Distance.{arc_over, floor_root, fourth_term_of, second_term_of, squared_chord, squared_gap, third_term_of, written_distance}
+use Rattle.gl_igc.specs.declared.fix.Fix.{Fix}
+use Rattle.gl_hull.specs.Laws.Held.{named}
+use Rattle.gl_hull.specs.Near.{IsLastNear, IsNear, IsNoneNear}
+use Rattle.gl_goal.specs.Chain.{distance}
+use Rattle.gl_goal.specs.Reach.{Closes, IsReach}
+use Rattle.gl_goal.specs.Laws.Reach.{Closes-mono}
+
+squared_gap-self : (a : ℤ) → squared_gap a a ≡ 0
+unfolding squared_gap
+squared_gap-self a =
+    let none : unsigned_abs (a -ℤ a) ≡ 0 = omega (arith, ints) in
+    ap (λ n. n * n) none
+
+squared_chord-self : (p : Vec3) → squared_chord p p ≡ 0
+unfolding squared_chord
+squared_chord-self p =
+    let x = squared_gap-self p.x in
+    let y = squared_gap-self p.y in
+    let z = squared_gap-self p.z in
+    omega arith
+
+distance-self : (p : Vec3) → distance p p ≡ 0
+unfolding written_distance floor_root arc_over second_term_of third_term_of fourth_term_of
+distance-self p = ap written_distance (squared_chord-self p)
+
+-- a flight closes from a place to itself
+own-closes : (fixes : List Fix) (closing place : ℕ) → place < length fixes → Closes fixes closing place place
+own-closes fixes closing place within =
+    let fix = named fixes place within in
+    record {
+      from = place;
+      to = place;
+      start = fix.0;
+      finish = fix.0;
+      start_is = fix.1;
+      finish_is = fix.1;
+      from_in = omega arith;
+      to_in = omega arith;
+      near = omega (arith, distance-self fix.0.at);
+    }
+
+-- a flight closes to this place, and to none after it from earlier places
+pub record IsLeastReach (fixes : List Fix) (closing place least : ℕ) : Type 0 where
+  pub own : place ≤ least
+  pub within : least < length fixes
+  pub closes : Closes fixes closing place least
+  pub earlier : (c : ℕ) (found : Closes fixes closing place c) → found.from < place → c ≤ least
+
+least-before : (fixes : List Fix) (closing place reach least : ℕ) → place < length fixes → IsReach fixes closing (place - 1) reach → least ≡ max reach place → IsLeastReach fixes closing place least
+least-before fixes closing place reach least within is least_is = record {
+  own = omega arith;
+  within = omega (arith, is.within);
+  closes = ⊎_elim
+      (λ (lt : place < reach). Closes-mono fixes closing (place - 1) place reach least (omega arith) (omega arith) is.closes)
+      (λ (ge : reach ≤ place). Closes-mono fixes closing place place place least (omega arith) (omega arith) (own-closes fixes closing place within))
+      (cases_lt place reach);
+  earlier = λ c found before.
+      let sooner : Closes fixes closing (place - 1) c = record {
+        from = found.from;
+        to = found.to;
+        start = found.start;
+        finish = found.finish;
+        start_is = found.start_is;
+        finish_is = found.finish_is;
+        from_in = omega (arith, before);
+        to_in = found.to_in;
+        near = found.near;
+      } in
+      omega (arith, is.greatest c sooner);
+}
+
+pub least-reach : (fixes : List Fix) (closing place least : ℕ) (before : Option ℕ) → place < length fixes → MatchOption before (place ≡ 0) (IsReach fixes closing (place - 1)) → least ≡ max (unwrap_or before 0) place → IsLeastReach fixes closing place least
+least-reach fixes closing place least None within first least_is = record {
+  own = omega arith;
+  within = omega arith;
+  closes = Closes-mono fixes closing place place place least (omega arith) (omega arith) (own-closes fixes closing place within);
+  earlier = λ c found before. absurd (omega (arith, before, first));
+}
+least-reach fixes closing place least (Some reach) within is least_is =
+    least-before fixes closing place reach least within is least_is
+
+-- nothing is beyond the last place
+pub reach-last : (fixes : List Fix) (closing place last : ℕ) → last + 1 ≡ length fixes → IsLeastReach fixes closing place last → IsReach fixes closing place last
+reach-last fixes closing place last is_last least = record {
+  within = least.within;
+  closes = least.closes;
+  greatest = λ c found. omega (arith, found.to_in, slice_get_within fixes found.to found.finish found.finish_is);
+}
+
+-- what closes beyond the least reach is near the fix at the place itself
+own-near : (fixes : List Fix) (closing place least c : ℕ) (fix : Fix) → slice_get fixes place ≡ Some fix → IsLeastReach fixes closing place least → least < c → (found : Closes fixes closing place c) → IsNear fixes fix.at closing found.to
+own-near fixes closing place least c fix there is beyond found =
+    let at_place : found.from ≡ place =
+    ⊎_elim
+    (λ (before : found.from < place). absurd (omega (arith, is.earlier c found before)))
+    (λ (after : place ≤ found.from). omega (arith, found.from_in))
+    (cases_lt found.from place) in
+    let same : found.start ≡ fix = sym (get_or_from_slice_get fixes found.from found.start fix found.start_is) ∙ ap (λ n. get_or fixes n fix) at_place ∙ get_or_from_slice_get fixes place fix fix there in
+    let P : Fix → Type 0 = λ f. distance f.at found.finish.at ≤ closing in
+    record { fix = found.finish; there = found.finish_is; near = subst P same found.near }
+
+reach-none : (fixes : List Fix) (closing place least last : ℕ) (fix : Fix) → slice_get fixes place ≡ Some fix → last + 1 ≡ length fixes → IsLeastReach fixes closing place least → IsNoneNear fixes fix.at closing (least + 1, last) → IsReach fixes closing place least
+reach-none fixes closing place least last fix there is_last is none = record {
+  within = is.within;
+  closes = is.closes;
+  greatest = λ c found.
+      ⊎_elim
+      (λ (beyond : least < c). absurd (none found.to (omega (arith, beyond, found.to_in), omega (arith, slice_get_within fixes found.to found.finish found.finish_is)) (own-near fixes closing place least c fix there is beyond found)))
+      (λ (within : c ≤ least). within)
+      (cases_lt least c);
+}
+
+reach-some : (fixes : List Fix) (closing place least last reach : ℕ) (fix : Fix) → slice_get fixes place ≡ Some fix → last + 1 ≡ length fixes → IsLeastReach fixes closing place least → IsLastNear fixes fix.at closing (least + 1, last) reach → IsReach fixes closing place reach
+reach-some fixes closing place least last reach fix there is_last is near = record {
+  within = omega (arith, near.within.1);
+  closes = record {
+    from = place;
+    to = reach;
+    start = fix;
+    finish = near.near.fix;
+    start_is = there;
+    finish_is = near.near.there;
+    from_in = omega arith;
+    to_in = omega arith;
+    near = near.near.near;
+  };
+  greatest = λ c found.
+      ⊎_elim
+      (λ (beyond : reach < c). absurd (near.last found.to (omega (arith, beyond, found.to_in)) (omega (arith, slice_get_within fixes found.to found.finish found.finish_is)) (own-near fixes closing place least c fix there is (omega (arith, beyond, near.within.0)) found)))
+      (λ (within : c ≤ reach). within)
+      (cases_lt reach c);
+}
+
+pub reach-found : (fixes : List Fix) (closing place least last : ℕ) (fix : Fix) (found : Option ℕ) → slice_get fixes place ≡ Some fix → last + 1 ≡ length fixes → IsLeastReach fixes closing place least → MatchOption found (IsNoneNear fixes fix.at closing (least + 1, last)) (IsLastNear fixes fix.at closing (least + 1, last)) → IsReach fixes closing place (unwrap_or found least)
+reach-found fixes closing place least last fix None there is_last is none =
+    reach-none fixes closing place least last fix there is_last is none
+reach-found fixes closing place least last fix (Some reach) there is_last is near =
+    reach-some fixes closing place least last reach fix there is_last is near
+
+-- one more place, and its reach
+pub reaches_more : (fixes : List Fix) (closing place reach : ℕ) (reaches more : List ℕ) → more ≡ reaches ++ reach ∷ [] → length reaches ≡ place → ((k : ℕ) → k < place → IsReach fixes closing k (get_or reaches k 0)) → IsReach fixes closing place reach → (k : ℕ) → k < place + 1 → IsReach fixes closing k (get_or more k 0)
+reaches_more fixes closing place reach reaches more pushed sized each is =
+    let P : ℕ → Type 0 = λ k. IsReach fixes closing k (get_or more k 0) in
+    let there : get_or more place 0 ≡ reach = (λ i. get_or (pushed i) (sym sized i) 0) ∙ get_or-append_seam reaches reach [] 0 in
+    let Q : ℕ → Type 0 = IsReach fixes closing place in
+    below_more P place
+    (λ k below. let R : ℕ → Type 0 = IsReach fixes closing k in subst R (sym (ap (λ xs. get_or xs k 0) pushed ∙ get_or-append reaches (reach ∷ []) 0 k (omega arith))) (each k below))
+    (subst Q (sym there) is)

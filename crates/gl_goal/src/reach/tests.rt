@@ -1,0 +1,52 @@
+use super::*;
+use gl_igc::Fix;
+use gl_sphere::{Grid, vector};
+use std::test::Fail;
+
+// The places at the origin, one degree east of it and one degree north.
+const ORIGIN: Grid = Grid { lat: 0, lon: 0 };
+
+const EAST: Grid = Grid {
+    lat: 0,
+    lon: 6_000_000,
+};
+
+const NORTH: Grid = Grid {
+    lat: 6_000_000,
+    lon: 0,
+};
+
+// A fix on the grid, at 1,000 metres.
+fn fix_at(second: i32, grid: Grid) -> Fix {
+    Fix {
+        second,
+        grid,
+        at: vector(grid),
+        alt: 1_000,
+        enl: None,
+    }
+}
+
+#[test]
+fn reaches_of_five_fixes(rt: HostRuntime) -> Result<(), Fail> {
+    let alloc = rt.alloc();
+    let fixes = [
+        fix_at(0, EAST),
+        fix_at(10, ORIGIN),
+        fix_at(20, EAST),
+        fix_at(30, NORTH),
+        fix_at(40, NORTH),
+    ];
+    let hulls = Hulls::new(alloc, &fixes, &[0, 1, 2, 3, 4])?;
+    // A degree along the sphere is 11,119,492 centimetres; from east to north it is farther.
+    let cases = [
+        (0, [2, 2, 2, 4, 4]),
+        (11_119_491, [2, 2, 2, 4, 4]),
+        (11_119_492, [2, 4, 4, 4, 4]),
+    ];
+    for (closing, expected) in cases {
+        let reaches = reaches(alloc, &hulls, closing)?;
+        assert_eq!(rt; reaches.as_slice(), expected.as_slice());
+    }
+    Ok(())
+}
