@@ -13,7 +13,7 @@ use Rattle.gl_goal.specs.Out.{all_but_last, greatest_way_out, way_out}
 use Rattle.gl_goal.specs.Laws.Chain.{greatest_legs-last, legs-last, length-points}
 use Rattle.gl_goal.specs.Laws.Order.{length-whole}
 
-length-hulls_of : (fixes : List Fix) (lists : List (List ℕ)) (spans : List (ℕ × ℕ)) → length spans ≡ length lists → length (hulls_of fixes lists spans) ≡ length lists
+pub length-hulls_of : (fixes : List Fix) (lists : List (List ℕ)) (spans : List (ℕ × ℕ)) → length spans ≡ length lists → length (hulls_of fixes lists spans) ≡ length lists
 length-hulls_of fixes [] spans sized = refl
 length-hulls_of fixes (list ∷ lists) [] sized = absurd (omega arith)
 length-hulls_of fixes (list ∷ lists) (span ∷ spans) sized = ap suc (length-hulls_of fixes lists spans (omega arith))

@@ -8,3 +8,6 @@ pub mod Free
 pub mod Area
 pub mod Out
 pub mod Reach
+pub mod Fair
+pub mod Closing
+pub mod Triangle

@@ -3,6 +3,8 @@ pub mod Area
 pub mod AreaGoal
 pub mod Certificate
 pub mod Chain
+pub mod Closing
+pub mod Fair
 pub mod Free
 pub mod FreeGoal
 pub mod FreeLegs
@@ -12,7 +14,10 @@ pub mod Lists
 pub mod Out
 pub mod OutGoal
 pub mod Reach
+pub mod Round
 pub mod Rule
+pub mod Triangle
+pub mod TriangleGoal
 pub use Rattle.gl_box.specs.Cell
 pub use Rattle.gl_box.specs.Closed
 pub use Rattle.gl_box.specs.Frontier

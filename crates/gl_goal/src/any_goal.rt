@@ -15,6 +15,7 @@ impl Goal for AnyGoal {
             AnyGoal::Area(goal) => goal.axes(),
             AnyGoal::Out(goal) => goal.axes(),
             AnyGoal::Free(goal) => goal.axes(),
+            AnyGoal::Triangle(goal) => goal.axes(),
         }
     }
 
@@ -23,6 +24,7 @@ impl Goal for AnyGoal {
             AnyGoal::Area(goal) => goal.len(axis),
             AnyGoal::Out(goal) => goal.len(axis),
             AnyGoal::Free(goal) => goal.len(axis),
+            AnyGoal::Triangle(goal) => goal.len(axis),
         }
     }
 
@@ -31,6 +33,7 @@ impl Goal for AnyGoal {
             AnyGoal::Area(goal) => goal.fix(axis, place),
             AnyGoal::Out(goal) => goal.fix(axis, place),
             AnyGoal::Free(goal) => goal.fix(axis, place),
+            AnyGoal::Triangle(goal) => goal.fix(axis, place),
         }
     }
 
@@ -39,6 +42,7 @@ impl Goal for AnyGoal {
             AnyGoal::Area(goal) => goal.legal(tuple),
             AnyGoal::Out(goal) => goal.legal(tuple),
             AnyGoal::Free(goal) => goal.legal(tuple),
+            AnyGoal::Triangle(goal) => goal.legal(tuple),
         }
     }
 
@@ -47,6 +51,7 @@ impl Goal for AnyGoal {
             AnyGoal::Area(goal) => goal.value(tuple),
             AnyGoal::Out(goal) => goal.value(tuple),
             AnyGoal::Free(goal) => goal.value(tuple),
+            AnyGoal::Triangle(goal) => goal.value(tuple),
         }
     }
 
@@ -56,6 +61,7 @@ impl Goal for AnyGoal {
             AnyGoal::Area(goal) => goal.disordered(cell),
             AnyGoal::Out(goal) => goal.disordered(cell),
             AnyGoal::Free(goal) => goal.disordered(cell),
+            AnyGoal::Triangle(goal) => goal.disordered(cell),
         }
     }
 
@@ -65,6 +71,7 @@ impl Goal for AnyGoal {
             AnyGoal::Area(goal) => goal.shut(cell),
             AnyGoal::Out(goal) => goal.shut(cell),
             AnyGoal::Free(goal) => goal.shut(cell),
+            AnyGoal::Triangle(goal) => goal.shut(cell),
         }
     }
 
@@ -74,6 +81,7 @@ impl Goal for AnyGoal {
             AnyGoal::Area(goal) => goal.bound(cell),
             AnyGoal::Out(goal) => goal.bound(cell),
             AnyGoal::Free(goal) => goal.bound(cell),
+            AnyGoal::Triangle(goal) => goal.bound(cell),
         }
     }
 
@@ -84,6 +92,7 @@ impl Goal for AnyGoal {
             AnyGoal::Area(goal) => goal.leg(),
             AnyGoal::Out(goal) => goal.leg(),
             AnyGoal::Free(goal) => goal.leg(),
+            AnyGoal::Triangle(goal) => goal.leg(),
         }
     }
 
@@ -93,6 +102,7 @@ impl Goal for AnyGoal {
             AnyGoal::Area(goal) => goal.bound_by(cell, legs),
             AnyGoal::Out(goal) => goal.bound_by(cell, legs),
             AnyGoal::Free(goal) => goal.bound_by(cell, legs),
+            AnyGoal::Triangle(goal) => goal.bound_by(cell, legs),
         }
     }
 }

@@ -13,6 +13,7 @@ use crate::free::FreeGoal;
 use crate::goal::Goal;
 use crate::leg::Leg;
 use crate::legs::{leg, leg_at_most};
+use crate::numbers::numbers_between;
 use gl_box::{Cell, Span, Tuple};
 use gl_hull::{Hull, Hulls};
 use gl_igc::Fix;
@@ -63,10 +64,7 @@ impl FreeGoal {
         // Staying at the first fix is always legal.
         ensures legal { IfOk result (λ goal. IsLegal (rule_of goal) (0 ∷ 0 ∷ 0 ∷ 0 ∷ 0 ∷ [])) }
     {
-        let mut numbers = Vec::with_capacity(alloc, (last - first + 1) as usize)?;
-        for number in first..last + 1 {
-            numbers.push(number)?;
-        }
+        let numbers = numbers_between(alloc, first, last)?;
         Ok(FreeGoal {
             fixes: Vec::from_slice(alloc, fixes)?,
             hulls: Hulls::new(alloc, fixes, numbers.as_slice())?,

@@ -93,6 +93,15 @@ impl Lists {
         self.axes[axis as usize].numbers.len() as u32
     }
 
+    /// The hulls over the fixes of an axis.
+    pub fn hulls(&self, axis: u8) -> &Hulls
+        requires { axis < length self.now.lists }
+        ensures { result.now
+            ≡ fixes_at self.now.fixes (slice_index_or self.now.lists axis []) }
+    {
+        &self.axes[axis as usize].hulls
+    }
+
     /// The number of the fix at a place of an axis.
     pub fn number(&self, axis: u8, place: u32) -> u32
         requires axis_in { axis < length self.now.lists }

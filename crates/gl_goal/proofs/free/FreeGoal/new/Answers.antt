@@ -1,31 +1,18 @@
-use Rattle.std.proofs.Common.{◌≡◌, ◌∙◌, ℕ, suc, ◌+◌, ◌-◌, ◌≤◌, ◌++◌, ◌∷◌, [], List, length, slice_get, ap, sym, subst, w32, to_z, of_z, pos, arith}
+use Rattle.std.proofs.Common.{◌≡◌, ◌∙◌, ℕ, List, length, slice_get, ap, sym, subst, w32, to_z, of_z, pos, arith}
 use Rattle.std.specs.Prelude.{◌≤ℤ◌}
 use Rattle.std.proofs.lemmas.Int.{ints}
 use Rattle.gl_igc.specs.declared.fix.Fix.{Fix}
 use Rattle.gl_goal.specs.Chain.{fixes_at}
-use Rattle.gl_goal.specs.Free.{numbers_between, numbers_from}
+use Rattle.gl_goal.specs.Free.{numbers_between}
 use Rattle.gl_goal.specs.Lists.{AreNamed}
 use Rattle.gl_goal.specs.Laws.Free.{free_goal-is_goal, length-numbers_between, numbers_between-named}
-use Rattle.gl_goal.proofs.FreeLosses.{filter_map-found, numbers_from-more, stay_legal}
+use Rattle.gl_goal.proofs.FreeLosses.{filter_map-found, stay_legal}
 use Rattle.gl_goal.proofs.free.FreeGoal.new.Goals as goal
 use Rattle.gl_goal.proofs.free.FreeGoal.new.Goals.{After-as_slice}
 
-one_more : (first number : ℕ) (numbers pushed : List ℕ) → first ≤ number → pushed ≡ numbers ++ number ∷ [] → numbers ≡ numbers_from first (number - first) → pushed ≡ numbers_from first (number + 1 - first)
-one_more first number numbers pushed low is before =
-    let last : first + (number - first) ≡ number = omega arith in
-    let count : suc (number - first) ≡ number + 1 - first = omega arith in
-    is ∙ ap (λ (ns : List ℕ). ns ++ number ∷ []) before ∙ ap (λ (n : ℕ). numbers_from first (number - first) ++ n ∷ []) (sym last)
-    ∙ sym (numbers_from-more first (number - first)) ∙ ap (numbers_from first) count
-
-pub loop-number-preserved : goal.loop-number-preserved
-loop-number-preserved c =
-    one_more c.args.first c.loop-number.number _ _ (omega arith) c.in_ok-push.ensures.items c.loop-number.invariant
-
 -- the numbers that the hulls are made over
 numbers-are : (c : After-as_slice) → c.as_slice.result.now ≡ numbers_between c.args.first c.args.last
-numbers-are c =
-    let count : c.loop-number.number - c.args.first ≡ suc (c.args.last - c.args.first) = omega arith in
-    c.as_slice.ensures.value ∙ c.loop-number.invariant ∙ ap (numbers_from c.args.first) count
+numbers-are c = c.as_slice.ensures.value ∙ c.in_ok-numbers.ensures
 
 pub new-requires-clause-most : goal.new-requires-clause-most
 new-requires-clause-most c =
@@ -39,8 +26,7 @@ new-requires-clause-named c =
 pub invariant_of-result : goal.invariant_of-result
 invariant_of-result c =
     let same = c.in_ok-from_slice.ensures.items in
-    let count : c.loop-number.number - c.args.first ≡ suc (c.args.last - c.args.first) = omega arith in
-    let numbers = c.as_slice.ensures.value ∙ c.loop-number.invariant ∙ ap (numbers_from c.args.first) count in
+    let numbers = c.as_slice.ensures.value ∙ c.in_ok-numbers.ensures in
     let found = filter_map-found (slice_get c.args.fixes.now) c.as_slice.result.now c.in_ok-new.field-0 c.in_ok-new.ensures in
     record {
       in_order = c.requires.order;

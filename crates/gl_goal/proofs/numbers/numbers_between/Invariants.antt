@@ -1,6 +1,6 @@
 use Rattle.std.proofs.Common.{◌≡◌, ◌-◌}
 use Rattle.gl_goal.specs.Free.{numbers_from}
-use Rattle.gl_goal.proofs.free.FreeGoal.new.Given as goal
+use Rattle.gl_goal.proofs.numbers.numbers_between.Given as goal
 
 abbrev pub invariant-loop-number : goal.invariant-loop-number
 invariant-loop-number l = l.numbers.items ≡ numbers_from l.first (l.number - l.first)

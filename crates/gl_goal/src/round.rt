@@ -1,0 +1,26 @@
+ghost use Rattle.std.specs.Prelude.{◌<◌, ◌^◌};
+
+/// The legs from each of three to the next, all the way round, in centimetres.
+#[derive(Clone, Copy, Debug)]
+pub(crate) struct Round {
+    pub first: u64,
+    pub second: u64,
+    pub third: u64,
+    pub ghost first_below: { first < 2 ^ 40 },
+    pub ghost second_below: { second < 2 ^ 40 },
+    pub ghost third_below: { third < 2 ^ 40 },
+}
+
+impl Round {
+    ghost use Rattle.std.specs.Prelude.{◌≡◌, ◌+◌};
+    ghost use Rattle.std.specs.List.{sum};
+    ghost use Rattle.gl_goal.specs.Round.{legs_of};
+
+    /// All three legs together.
+    pub fn length(&self) -> u64
+        ensures value { result ≡ sum (legs_of self.now) }
+        ensures legs { result ≡ self.now.first + self.now.second + self.now.third }
+    {
+        self.first + self.second + self.third
+    }
+}
