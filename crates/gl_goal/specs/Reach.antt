@@ -25,4 +25,5 @@ pub record IsReach (fixes : List Fix) (closing place reach : ℕ) : Type 0 where
 -- the reach of each place
 pub record AreReaches (fixes : List Fix) (closing : ℕ) (reaches : List ℕ) : Type 0 where
   pub sized : length reaches ≡ length fixes
-  pub each : (place : ℕ) → place < length fixes → IsReach fixes closing place (slice_index reaches place)
+  pub each : (place : ℕ) → place < length fixes
+      → IsReach fixes closing place (slice_index reaches place)

@@ -24,7 +24,8 @@ IsNoneNear fixes point limit span =
     (place : ℕ) → IsPlaceOf span place → ¬ IsNear fixes point limit place
 
 -- a place of a span has a fix near the point, and no later place of the span has one
-pub record IsLastNear (fixes : List Fix) (point : Vec3) (limit : ℕ) (span : ℕ × ℕ) (place : ℕ) : Type 0 where
+pub record IsLastNear (fixes : List Fix) (point : Vec3) (limit : ℕ) (span : ℕ × ℕ) (place : ℕ)
+    : Type 0 where
   pub within : IsPlaceOf span place
   pub near : IsNear fixes point limit place
   pub last : (later : ℕ) → place < later → later ≤ span.1 → ¬ IsNear fixes point limit later

@@ -1,6 +1,6 @@
 use Rattle.std.proofs.Common.{◌-◌, ◌∙◌, ap, max, sym, subst, ℕ, arith}
 use Rattle.gl_goal.specs.Reach.{IsReach}
-use Rattle.gl_goal.proofs.Reaches.{IsLeastReach, least-reach, reach-found, reach-last}
+use Rattle.gl_goal.proofs.Closing.{IsLeastReach, least-reach, reach-found, reach-last}
 use Rattle.gl_goal.proofs.reach.reach_from.Goals as goal
 
 pub returns-then-least-last : goal.returns-then-least-last

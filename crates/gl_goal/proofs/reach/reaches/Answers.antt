@@ -1,6 +1,6 @@
 use Rattle.std.proofs.Common.{◌≡◌, ◌+◌, ◌-◌, ℕ, ap, subst, length, length-append, arith}
 use Rattle.gl_goal.specs.Reach.{IsReach}
-use Rattle.gl_goal.proofs.Reaches.{reaches_more}
+use Rattle.gl_goal.proofs.Closing.{reaches_more}
 use Rattle.gl_goal.proofs.reach.reaches.Goals as goal
 
 pub loop-place-preserved : goal.loop-place-preserved

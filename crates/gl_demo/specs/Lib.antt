@@ -1,0 +1,7 @@
+pub mod Day
+pub mod Draws
+pub mod Leg
+pub mod Line
+pub mod Place
+pub mod Recording
+pub mod Task
