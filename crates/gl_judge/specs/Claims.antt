@@ -1,10 +1,11 @@
 -- Which claims are expected of a flight, each with its goal.
-use Rattle.std.specs.Prelude.{◌≡◌, ℕ, ◌-◌, ◌&&◌, nat_lt, if◌then◌else◌, List, [], ◌∷◌, ◌++◌, All}
+use Rattle.std.specs.Prelude.{◌≡◌, ℕ, ◌-◌, Bool, ◌&&◌, nat_lt, if◌then◌else◌, List, [], ◌∷◌, ◌++◌, All}
 use Rattle.gl_airspace.specs.declared.volume.Airspace.{Airspace}
 use Rattle.gl_igc.specs.declared.fix.Fix.{Fix}
 use Rattle.gl_igc.specs.declared.recording.Recording.{Recording}
 use Rattle.gl_goal.specs.Free.{free_goal}
 use Rattle.gl_goal.specs.Rule.{IsLegal, Rule}
+use Rattle.gl_goal.specs.Triangle.{triangle_goal}
 use Rattle.gl_proof.specs.declared.claim.ClaimKind.{ClaimKind}
 use Rattle.gl_proof.specs.declared.claim.ClaimKind.TheVariants as kind
 use Rattle.gl_task.specs.declared.day_type.Kind.{Kind}
@@ -27,12 +28,26 @@ AreChoices contest task fixes judged (Outlanded window zones) claims =
     × (claims ≡ (kind.Out, rule) ∷ [])
 AreChoices contest task fixes judged NoStart claims = claims ≡ []
 
--- the claim of the list of free distances, where it is asked for and a fix is judged
+-- a claim of a list, where the list is asked for and a fix is judged
+abbrev pub claim_if : Bool → ℕ × ℕ → ClaimKind × Rule → List (ClaimKind × Rule)
+claim_if asked judged claim = if asked && nat_lt judged.0 judged.1 then claim ∷ [] else []
+
+-- the claim of the list of free distances, over all judged fixes
 abbrev pub free_claims : Task → List Fix → ℕ × ℕ → List (ClaimKind × Rule)
 free_claims task fixes judged =
-    if task.free && nat_lt judged.0 judged.1
-    then (kind.Free, free_goal fixes judged.0 (judged.1 - 1) task.rules.loss) ∷ []
-    else []
+    claim_if task.free judged
+    (kind.Free, free_goal fixes judged.0 (judged.1 - 1) task.rules.loss)
+
+-- the claim of the list of triangles, over all judged fixes
+abbrev pub triangle_claims : Task → List Fix → ℕ × ℕ → List (ClaimKind × Rule)
+triangle_claims task fixes judged =
+    claim_if task.triangle judged
+    (kind.Triangle, triangle_goal fixes judged.0 (judged.1 - 1) task.rules.closing)
+
+-- the claims of the lists
+abbrev pub list_claims : Task → List Fix → ℕ × ℕ → List (ClaimKind × Rule)
+list_claims task fixes judged =
+    free_claims task fixes judged ++ triangle_claims task fixes judged
 
 -- the claims that are expected of a flight, in their order
 pub record AreExpected (task : Task) (air : Airspace) (recording : Recording)
@@ -43,7 +58,7 @@ pub record AreExpected (task : Task) (air : Airspace) (recording : Recording)
   pub is : IsOutcome task recording judged outcome
   pub choices : List (ClaimKind × Rule)
   pub are : AreChoices task.kind task recording.fixes judged outcome choices
-  pub all : claims ≡ choices ++ free_claims task recording.fixes judged
+  pub all : claims ≡ choices ++ list_claims task recording.fixes judged
 
 -- a kind of claim of which some choice is always legal
 abbrev pub HasLegal : ClaimKind → Rule → Type 0

@@ -1,7 +1,7 @@
 ghost use Rattle.std.specs.Prelude.{◌≡◌, ◌≤◌, ◌++◌, length, IfOk};
 ghost use Rattle.std.specs.Option.{option_to_list};
 ghost use Rattle.gl_judge.specs.Claimed.{rules_of_claims};
-ghost use Rattle.gl_judge.specs.Claims.{AreChoices, AreExpected, HaveLegal, free_claims};
+ghost use Rattle.gl_judge.specs.Claims.{AreChoices, AreExpected, HaveLegal, free_claims, triangle_claims};
 ghost use Rattle.gl_judge.specs.Outcome.{IsOutcome};
 ghost use Rattle.gl_judge.specs.Stretch.{range_of};
 
@@ -11,7 +11,7 @@ use crate::judging::outcome_of;
 use crate::outcome::Judged;
 use crate::stretch::Stretch;
 use gl_airspace::Airspace;
-use gl_goal::{AnyGoal, FreeGoal};
+use gl_goal::{AnyGoal, FreeGoal, TriangleGoal};
 use gl_igc::Recording;
 use gl_proof::ClaimKind;
 use gl_task::{Kind, Task};
@@ -68,14 +68,38 @@ fn free_claim(
     Ok(Some((ClaimKind::Free, AnyGoal::Free(goal))))
 }
 
+/// The claim of the list of triangles, where it is asked for and a fix is judged. The only error is
+/// want of memory.
+fn triangle_claim(
+    alloc: Global,
+    task: &Task,
+    rec: &Recording,
+    judged: Stretch,
+) -> Result<Option<(ClaimKind, AnyGoal)>, AllocError>
+    requires to_in_list { judged.to ≤ length rec.now.fixes }
+    ensures expected { IfOk result (λ claim. rules_of_claims (option_to_list claim)
+        ≡ triangle_claims task.now rec.now.fixes (range_of judged)) }
+    ensures legal { IfOk result (λ claim. HaveLegal (rules_of_claims (option_to_list claim))) }
+{
+    if !task.triangle || judged.to <= judged.from {
+        return Ok(None);
+    }
+    let fixes = rec.fixes.as_slice();
+    let last = judged.to - 1;
+    let first = judged.from as u32;
+    let goal = TriangleGoal::new(alloc, fixes, first, last as u32, task.rules.closing)?;
+    Ok(Some((ClaimKind::Triangle, AnyGoal::Triangle(goal))))
+}
+
 /// The claims that there are, the one for the distance first. The only error is want of memory.
 fn listed(
     alloc: Global,
     chosen: Option<(ClaimKind, AnyGoal)>,
     free: Option<(ClaimKind, AnyGoal)>,
+    triangle: Option<(ClaimKind, AnyGoal)>,
 ) -> Result<Vec<(ClaimKind, AnyGoal)>, AllocError>
-    ensures { IfOk result (λ claims.
-        claims.items ≡ option_to_list chosen ++ option_to_list free) }
+    ensures { IfOk result (λ claims. claims.items
+        ≡ option_to_list chosen ++ (option_to_list free ++ option_to_list triangle)) }
 {
     let mut claims = Vec::new(alloc);
     if let Some(claim) = chosen {
@@ -84,12 +108,15 @@ fn listed(
     if let Some(claim) = free {
         claims.push(claim)?;
     }
+    if let Some(claim) = triangle {
+        claims.push(claim)?;
+    }
     Ok(claims)
 }
 
 /// The claims that are expected of a flight, each with its goal, in this order: the distance, of
-/// one who finished a task of areas or landed out; the free distance, where the task asks for its
-/// list and a fix is judged. The only error is want of memory.
+/// one who finished a task of areas or landed out; the free distance and the triangle, each where
+/// the task asks for its list and a fix is judged. The only error is want of memory.
 pub fn claims(
     alloc: Global,
     task: &Task,
@@ -104,5 +131,6 @@ pub fn claims(
     let outcome = outcome_of(task, rec, judged);
     let chosen = chosen_claim(alloc, task, rec, judged, outcome)?;
     let free = free_claim(alloc, task, rec, judged)?;
-    listed(alloc, chosen, free)
+    let triangle = triangle_claim(alloc, task, rec, judged)?;
+    listed(alloc, chosen, free, triangle)
 }

@@ -13,7 +13,7 @@ use Rattle.gl_judge.specs.declared.outcome.Judged.{Judged}
 use Rattle.gl_judge.specs.declared.outcome.Judged.TheVariants.{Finished, Outlanded, NoStart}
 use Rattle.gl_judge.specs.declared.outcome.Window.{Window}
 use Rattle.gl_judge.specs.Choices.{IsOutChoice, area_choice, areas_choice, racing_choice}
-use Rattle.gl_judge.specs.Claims.{AreChoices, AreExpected, free_claims}
+use Rattle.gl_judge.specs.Claims.{AreChoices, AreExpected, list_claims}
 use Rattle.gl_judge.specs.Greatest.{IsGreatest, IsLeast}
 use Rattle.gl_judge.specs.JudgedFixes.{IsInRange, IsJudgedRange}
 use Rattle.gl_judge.specs.Marking.{is_chosen}
@@ -91,8 +91,12 @@ not_listed false some list none = refl
 not_listed true false list none = refl
 not_listed true true list none = absurd (cc)
 
-none_listed : (task : Task) (fixes : List Fix) (judged : ℕ × ℕ) → judged.1 ≤ judged.0 → free_claims task fixes judged ≡ []
-none_listed task fixes judged none = not_listed task.free (nat_lt judged.0 judged.1) _ (not_below judged.0 judged.1 none)
+none_listed : (task : Task) (fixes : List Fix) (judged : ℕ × ℕ) → judged.1 ≤ judged.0 → list_claims task fixes judged ≡ []
+none_listed task fixes judged none =
+    let past = not_below judged.0 judged.1 none in
+    let free = not_listed task.free (nat_lt judged.0 judged.1) _ past in
+    let triangle = not_listed task.triangle (nat_lt judged.0 judged.1) _ past in
+    λ i. free i ++ triangle i
 
 same_first : (task : Task) (recording : Recording) (judged : ℕ × ℕ) (w v : Window) (s t : ℕ) → IsFinished task recording judged w s → IsFinished task recording judged v t → w.first ≡ v.first
 same_first task recording judged w v s t is also = greatest_alone (IsCompleteStart task recording judged) w.first v.first is.first also.first
@@ -175,13 +179,13 @@ expected_alone task air recording a b one other =
           let is = subst (λ (r : ℕ × ℕ). IsOutcome task recording r one.outcome) same one.is in
           let are = subst (λ (r : ℕ × ℕ). AreChoices task.kind task recording.fixes r one.outcome one.choices) same one.are in
           let chosen = choices_alone task.kind task recording other.judged one.outcome other.outcome one.choices other.choices is other.is are other.are in
-          one.all ∙ ap (λ (l : List (ClaimKind × Rule)). l ++ free_claims task recording.fixes one.judged) chosen
-          ∙ ap (λ (r : ℕ × ℕ). other.choices ++ free_claims task recording.fixes r) same ∙ sym other.all)
+          one.all ∙ ap (λ (l : List (ClaimKind × Rule)). l ++ list_claims task recording.fixes one.judged) chosen
+          ∙ ap (λ (r : ℕ × ℕ). other.choices ++ list_claims task recording.fixes r) same ∙ sym other.all)
       | inr none ↦ (let empty = both_empty task air recording.fixes one.judged other.judged one.range other.range none in
           let no_choice = none_chosen task.kind task recording one.judged one.outcome one.choices none one.is one.are in
           let no_list = none_listed task recording.fixes one.judged none in
           let no_choice_too = none_chosen task.kind task recording other.judged other.outcome other.choices empty other.is other.are in
           let no_list_too = none_listed task recording.fixes other.judged empty in
-          one.all ∙ ap (λ (l : List (ClaimKind × Rule)). l ++ free_claims task recording.fixes one.judged) (no_choice ∙ sym no_choice_too)
+          one.all ∙ ap (λ (l : List (ClaimKind × Rule)). l ++ list_claims task recording.fixes one.judged) (no_choice ∙ sym no_choice_too)
           ∙ ap (λ (l : List (ClaimKind × Rule)). other.choices ++ l) (no_list ∙ sym no_list_too) ∙ sym other.all)
     ]

@@ -15,15 +15,17 @@ use Rattle.gl_goal.specs.Free.{five_axes, free_goal}
 use Rattle.gl_goal.specs.Laws.Area.{area_goal-is_goal}
 use Rattle.gl_goal.specs.Laws.Free.{five_axes-named, free_goal-is_goal}
 use Rattle.gl_goal.specs.Laws.Out.{out_goal-is_goal}
+use Rattle.gl_goal.specs.Laws.Triangle.{three_axes-named, triangle_goal-is_goal}
 use Rattle.gl_goal.specs.Lists.{AreLists, AreNamed}
 use Rattle.gl_goal.specs.Out.{out_goal}
 use Rattle.gl_goal.specs.Rule.{IsGoal, Rule}
+use Rattle.gl_goal.specs.Triangle.{three_axes, triangle_goal}
 use Rattle.gl_zone.specs.declared.zone.Zone.{Zone}
 use Rattle.gl_judge.specs.declared.outcome.Judged.{Judged}
 use Rattle.gl_judge.specs.declared.outcome.Judged.TheVariants.{Finished, Outlanded, NoStart}
 use Rattle.gl_judge.specs.declared.outcome.Window.{Window}
 use Rattle.gl_judge.specs.Choices.{IsOutChoice, area_choice, course_point, numbers_before, start_point, zone_lists}
-use Rattle.gl_judge.specs.Claims.{AreChoices, AreExpected, free_claims}
+use Rattle.gl_judge.specs.Claims.{AreChoices, AreExpected, free_claims, list_claims, triangle_claims}
 use Rattle.gl_judge.specs.Finishes.{lead_of}
 use Rattle.gl_judge.specs.JudgedFixes.{IsInRange}
 use Rattle.gl_judge.specs.Marking.{course_of, finish_point, ring_radius}
@@ -73,6 +75,13 @@ unfolding free_goal
 free_short fixes first last loss most order within = record {
   is_goal = free_goal-is_goal fixes first last loss order within;
   short = named_short fixes (five_axes first last) most (five_axes-named fixes first last order within);
+}
+
+triangle_short : (fixes : List Fix) (first last : ℕ) (closing : ℕ) → length fixes ≤ 90_000 → first ≤ last → last < length fixes → IsShort (triangle_goal fixes first last closing)
+unfolding triangle_goal
+triangle_short fixes first last closing most order within = record {
+  is_goal = triangle_goal-is_goal fixes first last closing order within;
+  short = named_short fixes (three_axes first last) most (three_axes-named fixes first last order within);
 }
 
 -- the choice of one who finished a task of areas
@@ -155,13 +164,26 @@ free_listed task recording judged within =
     let less = below_so judged.0 judged.1 some in
     free_short recording.fixes judged.0 (judged.1 - 1) task.rules.loss recording.at_most_90000 (omega (arith, less)) (omega (arith, less, within)))
 
+triangle_listed : (task : Task) (recording : Recording) (judged : ℕ × ℕ) → judged.1 ≤ length recording.fixes → AreShortGoals (triangle_claims task recording.fixes judged)
+triangle_listed task recording judged within =
+    listed_short task.triangle (nat_lt judged.0 judged.1)
+    (kind.Triangle, triangle_goal recording.fixes judged.0 (judged.1 - 1) task.rules.closing)
+    (λ some.
+    let less = below_so judged.0 judged.1 some in
+    triangle_short recording.fixes judged.0 (judged.1 - 1) task.rules.closing recording.at_most_90000 (omega (arith, less)) (omega (arith, less, within)))
+
+lists_listed : (task : Task) (recording : Recording) (judged : ℕ × ℕ) → judged.1 ≤ length recording.fixes → AreShortGoals (list_claims task recording.fixes judged)
+lists_listed task recording judged within =
+    All-append (λ (claim : ClaimKind × Rule). IsShort claim.1) (free_claims task recording.fixes judged) (triangle_claims task recording.fixes judged)
+    (free_listed task recording judged within) (triangle_listed task recording judged within)
+
 expected_short : (task : Task) (air : Airspace) (recording : Recording) (claims : List (ClaimKind × Rule)) → AreExpected task air recording claims → AreShortGoals claims
 expected_short task air recording claims expected =
     let within = expected.range.within in
     subst AreShortGoals (sym expected.all)
-    (All-append (λ (claim : ClaimKind × Rule). IsShort claim.1) expected.choices (free_claims task recording.fixes expected.judged)
+    (All-append (λ (claim : ClaimKind × Rule). IsShort claim.1) expected.choices (list_claims task recording.fixes expected.judged)
     (choices_short task.kind task recording expected.judged expected.outcome expected.choices within expected.is expected.are)
-    (free_listed task recording expected.judged within))
+    (lists_listed task recording expected.judged within))
 
 each_written : (number : List ℕ) (claims : List (ClaimKind × Rule)) (statements : List Statement) → IsTrue (is_number number) → AreShortGoals claims → AllZip Proves (expected_of number claims) statements → All IsStatement statements
 each_written number [] [] numbered short each = λ k d below. absurd (omega arith)

@@ -1,4 +1,4 @@
-use Rattle.std.proofs.Common.{◌∙◌, ap, subst, sym}
+use Rattle.std.proofs.Common.{◌∙◌, ◌++◌, List, ap, subst, sym}
 use Rattle.std.specs.Option.{option_to_list}
 use Rattle.std.proofs.lemmas.List.{map-append}
 use Rattle.std.proofs.lemmas.List.Elements.{All-append}
@@ -9,10 +9,17 @@ use Rattle.gl_proof.specs.declared.claim.ClaimKind.{ClaimKind}
 use Rattle.gl_judge.specs.Claims.{HasLegal, HaveLegal}
 use Rattle.gl_judge.proofs.expected.claims.Goals as goal
 
+all_legal : (a b c : List (ClaimKind × Rule)) → HaveLegal a → HaveLegal b → HaveLegal c → HaveLegal (a ++ (b ++ c))
+all_legal a b c one other third =
+    let P : ClaimKind × Rule → Type 0 = λ claim. HasLegal claim.0 claim.1 in
+    All-append P a (b ++ c) one (All-append P b c other third)
+
 pub returns-clause-legal : goal.returns-clause-legal
 returns-clause-legal c =
     let chosen = option_to_list c.in_ok-chosen.chosen in
     let free = option_to_list c.in_ok-free.free in
+    let triangle = option_to_list c.in_ok-triangle.triangle in
+    let parts = map-append rule_of_claim chosen (free ++ triangle) ∙ ap (λ (rest : List (ClaimKind × Rule)). rules_of_claims chosen ++ rest) (map-append rule_of_claim free triangle) in
     IfOk-weaker c.listed.result _ _
-    (λ claims are. subst HaveLegal (sym (ap rules_of_claims are ∙ map-append rule_of_claim chosen free)) (All-append (λ (claim : ClaimKind × Rule). HasLegal claim.0 claim.1) (rules_of_claims chosen) (rules_of_claims free) c.in_ok-chosen.ensures.legal c.in_ok-free.ensures.legal))
+    (λ claims are. subst HaveLegal (sym (ap rules_of_claims are ∙ parts)) (all_legal (rules_of_claims chosen) (rules_of_claims free) (rules_of_claims triangle) c.in_ok-chosen.ensures.legal c.in_ok-free.ensures.legal c.in_ok-triangle.ensures.legal))
     c.listed.ensures
