@@ -85,7 +85,7 @@ passed_or (Ok x) tested P named follows is = follows x refl is
 passed_or (Err refusal) tested P named follows is = subst RefusesNamed (sym is) named
 
 task_in : (file text : List ℕ) (tested : Tested Task) → is_unbroken file ≡ true → IsTaskIn file text tested → RefusesNamed tested
-task_in file text tested named (Ok read, is, allowed) = large_or read.triangle tested file _ (tested ≡ Ok read) named (passes tested read) allowed
+task_in file text tested named (Ok read, is, same) = passes tested read same
 task_in file text tested named (Err error, is, wrong) = refuses_for tested file (task_cause error) named wrong
 
 task_of : (file bytes : List ℕ) (tested : Tested Task) → is_unbroken file ≡ true → IsTaskOf file bytes tested → RefusesNamed tested

@@ -20,7 +20,7 @@ use Rattle.gl_task.specs.declared.task.Task.{Task}
 use Rattle.gl_app.specs.declared.day_files.DayFiles.{DayFiles}
 use Rattle.gl_app.specs.declared.refusal.Cause.{Cause}
 use Rattle.gl_app.specs.declared.refusal.Refusal.{Refusal}
-use Rattle.gl_app.specs.DayFiles.{IfListed, IfPassed, IsAirspaceFor, IsAirspaceIn, IsAirspaceOf, IsCheckTested, IsDayOf, IsProofIn, IsProofOf, IsRefusedFor, IsScoreTested, IsTaskAllowed, IsTaskIn, IsTaskOf, IsTaskOfText, Tested, airspace_cause, proof_cause, task_cause}
+use Rattle.gl_app.specs.DayFiles.{IfListed, IfPassed, IsAirspaceFor, IsAirspaceIn, IsAirspaceOf, IsCheckTested, IsDayOf, IsProofIn, IsProofOf, IsRefusedFor, IsScoreTested, IsTaskIn, IsTaskOf, IsTaskOfText, Tested, airspace_cause, proof_cause, task_cause}
 use Rattle.gl_app.specs.Listed.{most_proof_bytes}
 use Rattle.gl_day.specs.Flight.{most_bytes}
 use Rattle.gl_app.specs.Refusals.{file_refusal}
@@ -46,23 +46,14 @@ refused_ok file None x is = is
 refused_ok file (Some cause) x is = ok_or_err x (file_refusal file cause) is
 
 -- the task that passed
-allowed_ok : (file : List ℕ) (triangle : Bool) (cause : Cause) (read v : Task) → MatchBool triangle (◌≡◌ {A = Tested Task} (Ok v) (Err (file_refusal file cause))) (◌≡◌ {A = Tested Task} (Ok v) (Ok read)) → (triangle ≡ false) × (v ≡ read)
-allowed_ok file true cause read v is = absurd (ok_or_err v (file_refusal file cause) is)
-allowed_ok file false cause read v is = (refl, cc)
-
 pub record PassedTask (bytes : List ℕ) (v : Task) : Type 0 where
   pub small : nat_lt most_bytes (length bytes) ≡ false
   pub reads : IsReadFrom bytes v
-  pub no_triangles : v.triangle ≡ false
 
 task_in_ok : (file bytes : List ℕ) (v : Task) → nat_lt most_bytes (length bytes) ≡ false → IsTaskIn file bytes (Ok v) → PassedTask bytes v
-task_in_ok file bytes v small (Ok read, is, allowed) =
-    let passed = allowed_ok file read.triangle _ read v allowed in
-    record {
-      small = small;
-      reads = subst (IsReadFrom bytes) (sym passed.1) is;
-      no_triangles = ap (λ (t : Task). t.triangle) passed.1 ∙ passed.0;
-    }
+task_in_ok file bytes v small (Ok read, is, same) =
+    let e : v ≡ read = cc in
+    record { small = small; reads = subst (IsReadFrom bytes) (sym e) is }
 task_in_ok file bytes v small (Err error, is, refused) = absurd (refused_ok file (task_cause error) v refused)
 
 pub task_passed : (file bytes : List ℕ) (v : Task) → IsTaskOf file bytes (Ok v) → PassedTask bytes v
@@ -70,13 +61,8 @@ task_passed file bytes v is =
     let small = small_ok (nat_lt most_bytes (length bytes)) v _ (IsTaskIn file bytes (Ok v)) is in
     task_in_ok file bytes v small.0 small.1
 
-allowed_err : (file : List ℕ) (triangle : Bool) (cause : Cause) (read : Task) (refusal : Refusal) → triangle ≡ false → MatchBool triangle (◌≡◌ {A = Tested Task} (Err refusal) (Err (file_refusal file cause))) (◌≡◌ {A = Tested Task} (Err refusal) (Ok read)) → ⊥
-allowed_err file true cause read refusal none is = absurd (cc)
-allowed_err file false cause read refusal none is = ok_or_err read refusal (sym is)
-
 task_in_err : (file bytes : List ℕ) (v : Task) (refusal : Refusal) → PassedTask bytes v → IsTaskIn file bytes (Err refusal) → ⊥
-task_in_err file bytes v refusal passed (Ok read, is, allowed) =
-    allowed_err file read.triangle _ read refusal (ap (λ (t : Task). t.triangle) (task_same bytes read v is passed.reads) ∙ passed.no_triangles) allowed
+task_in_err file bytes v refusal passed (Ok read, is, same) = ok_or_err read refusal (sym same)
 task_in_err file bytes v refusal passed (Err error, is, refused) =
     subst (λ (e : TaskError). IsRefusedFor {X = Task} file (task_cause e) (Err refusal)) (task_refused bytes v error passed.reads is) refused
 

@@ -18,7 +18,7 @@ use Rattle.gl_task.specs.declared.error.TaskError.TheVariants as task
 use Rattle.gl_task.specs.declared.task.Task.{Task}
 use Rattle.gl_app.specs.declared.day_files.DayFiles.{DayFiles}
 use Rattle.gl_app.specs.declared.refusal.Cause.{Cause}
-use Rattle.gl_app.specs.declared.refusal.Cause.TheVariants.{NotListed, Listed, TooLarge, NotToml, NoKey, WrongValue, NumberTwice, TooManyItems, AsksTriangles, WrongAirspace, TooMuchAirspace, NoHeading, WrongProof, ProofCut}
+use Rattle.gl_app.specs.declared.refusal.Cause.TheVariants.{NotListed, Listed, TooLarge, NotToml, NoKey, WrongValue, NumberTwice, TooManyItems, WrongAirspace, TooMuchAirspace, NoHeading, WrongProof, ProofCut}
 use Rattle.gl_app.specs.declared.refusal.Refusal.{Refusal}
 use Rattle.gl_app.specs.Listed.{most_proof_bytes}
 use Rattle.gl_day.specs.Flight.{most_bytes}
@@ -81,14 +81,9 @@ proof_cause (proof.Line line) = Some (WrongProof line)
 proof_cause proof.Cut = Some ProofCut
 proof_cause proof.Memory = None
 
--- a task may not ask for the list of triangles, which isn't made yet
-abbrev pub IsTaskAllowed : List ℕ → Task → Tested Task → Type 0
-IsTaskAllowed file read tested =
-    MatchBool read.triangle (tested ≡ Err (file_refusal file AsksTriangles)) (tested ≡ Ok read)
-
 -- what the text of a task reads as, or why it gives none
 abbrev pub IsTaskOfText : List ℕ → Result Task TaskError → Tested Task → Type 0
-IsTaskOfText file (Ok read) tested = IsTaskAllowed file read tested
+IsTaskOfText file (Ok read) tested = tested ≡ Ok read
 IsTaskOfText file (Err error) tested = IsRefusedFor file (task_cause error) tested
 
 abbrev pub IsTaskRead : List ℕ → Result Task TaskError → Type 0

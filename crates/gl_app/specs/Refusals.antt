@@ -3,7 +3,7 @@ use Rattle.std.specs.Prelude.{ℕ, List, [], ◌∷◌, ◌++◌, codes}
 use Rattle.std.specs.Fmt.{decimal}
 use Rattle.gl_task.specs.declared.error.Key.{Key}
 use Rattle.gl_app.specs.declared.refusal.Cause.{Cause}
-use Rattle.gl_app.specs.declared.refusal.Cause.TheVariants.{NotListed, Listed, TooLarge, NotIgc, NoDate, TooManyFixes, NoFix, NotToml, NoKey, WrongValue, NumberTwice, TooManyItems, AsksTriangles, WrongAirspace, TooMuchAirspace, NoHeading, WrongProof, ProofCut}
+use Rattle.gl_app.specs.declared.refusal.Cause.TheVariants.{NotListed, Listed, TooLarge, NotIgc, NoDate, TooManyFixes, NoFix, NotToml, NoKey, WrongValue, NumberTwice, TooManyItems, WrongAirspace, TooMuchAirspace, NoHeading, WrongProof, ProofCut}
 use Rattle.gl_app.specs.declared.refusal.Refusal.{Refusal}
 
 -- where in a file something is refused: nowhere in particular, at a line, or at a key of a task by
@@ -47,7 +47,6 @@ parts_of (NoKey key) = parts_at (codes "TASK") 2 (at_key key)
 parts_of (WrongValue key) = parts_at (codes "TASK") 3 (at_key key)
 parts_of (NumberTwice key) = parts_at (codes "TASK") 4 (at_key key)
 parts_of (TooManyItems key) = parts_at (codes "TASK") 5 (at_key key)
-parts_of AsksTriangles = parts_at (codes "TASK") 9 (AtKey 6 0 0)
 parts_of (WrongAirspace line) = parts_at (codes "AIR") 1 (AtLine line)
 parts_of (TooMuchAirspace line) = parts_at (codes "AIR") 2 (AtLine line)
 parts_of NoHeading = parts_at (codes "PROOF") 1 Nowhere

@@ -56,13 +56,12 @@ fn task_cause(error: &TaskError) -> Option<Cause>
     }
 }
 
-/// The task of a text, which may not ask for the list of triangles.
+/// The task of a text.
 fn task_in(alloc: Global, file: &Name, text: &[u8]) -> Result<Task, Halt>
     ensures tested { IsTested (IsTaskIn file.now text.now) result }
     ensures no_fault { IsNoFault result }
 {
     match read_task(alloc, text) {
-        Ok(task) if task.triangle => Err(refusing(file, Cause::AsksTriangles)),
         Ok(task) => Ok(task),
         Err(error) => Err(refusing_for(file, task_cause(&error))),
     }
@@ -189,9 +188,8 @@ fn read_proof_file<D: Desk>(alloc: Global, desk: &mut D, file: &Name) -> Result<
 /// The files that `score` needs, where they pass its tests.
 ///
 /// The tests are made in this order: TASK is one of the folder's names; PROOF is none of them;
-/// TASK has at most 16,777,216 bytes; its text is a task; that doesn't ask for triangles; the
-/// airspace file, where the task names one, is one of the folder's names, has at most as many bytes
-/// and reads.
+/// TASK has at most 16,777,216 bytes; its text is a task; the airspace file, where the
+/// task names one, is one of the folder's names, has at most as many bytes and reads.
 pub fn test_score_files<D: Desk>(
     alloc: Global,
     desk: &mut D,

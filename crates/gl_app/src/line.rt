@@ -24,13 +24,6 @@ pub enum Place {
     AtKey(Key),
 }
 
-/// The key that asks for lists, among them the one of triangles.
-const LISTS: Key = Key {
-    row: 6,
-    item: 0,
-    part: 0,
-};
-
 /// What a refusal's line says beside the name of the file.
 #[derive(Clone, Copy, Debug)]
 pub struct Parts {
@@ -69,7 +62,6 @@ fn parts_of(cause: Cause) -> Parts
         Cause::WrongValue(key) => parts_at("TASK", 3, Place::AtKey(key)),
         Cause::NumberTwice(key) => parts_at("TASK", 4, Place::AtKey(key)),
         Cause::TooManyItems(key) => parts_at("TASK", 5, Place::AtKey(key)),
-        Cause::AsksTriangles => parts_at("TASK", 9, Place::AtKey(LISTS)),
         Cause::WrongAirspace(line) => parts_at("AIR", 1, Place::AtLine(line)),
         Cause::TooMuchAirspace(line) => parts_at("AIR", 2, Place::AtLine(line)),
         Cause::NoHeading => parts_at("PROOF", 1, Place::Nowhere),

@@ -29,8 +29,6 @@ pub enum Cause {
     NumberTwice(Key),
     /// The list of this key of the task has too many items.
     TooManyItems(Key),
-    /// The task asks for the list of triangles, which isn't made yet.
-    AsksTriangles,
     /// This line of the airspace doesn't read.
     WrongAirspace(u32),
     /// With this line there are too many volumes or corners of airspace.
