@@ -1,6 +1,6 @@
 -- A proof that `score` wrote is accepted by `check`, in the same folder with the proof in it.
 use Rattle.std.proofs.Common.{◌≡◌, ◌≢◌, ◌∙◌, sym, ap, subst, refl, ℕ, ◌<◌, ◌≤◌, ◌⊎◌, inl, inr, Bool, true, false, List, [], ◌∷◌, ◌++◌, length, Option, None, Some, Result, Ok, Err, arith, append_assoc, append-nil}
-use Rattle.std.specs.Prelude.{MatchBool, nat_lt}
+use Rattle.std.specs.Prelude.{MatchBool, MatchResult, nat_lt}
 use Rattle.std.specs.List.{AllZip}
 use Rattle.std.proofs.lemmas.Bool.{cases_lt, le-ltb}
 use Rattle.gl_airspace.specs.declared.volume.Airspace.{Airspace}
@@ -30,9 +30,9 @@ use Rattle.gl_app.specs.declared.day_files.DayFiles.{DayFiles}
 use Rattle.gl_app.specs.declared.refusal.Refusal.{Refusal}
 use Rattle.gl_app.specs.declared.status.Status.{Status}
 use Rattle.gl_app.specs.declared.status.Status.TheVariants as status
-use Rattle.gl_app.specs.Answer.{Answer, saying}
+use Rattle.gl_app.specs.Answer.{Answer, refused, saying}
 use Rattle.gl_app.specs.Asked.{AreAsked, AreAskedIn, AreAskedOf, AreAskedOfReading, Expected}
-use Rattle.gl_app.specs.Check.{IsCheck, IsCheckOf, IsDayChecked, IsSaidBehind, IsScoredFolder, checked_answer}
+use Rattle.gl_app.specs.Check.{IsCheck, IsDayChecked, IsProofChecked, IsSaidBehind, IsScoredFolder, checked_answer}
 use Rattle.gl_app.specs.DayFiles.{IfListed, IfPassed, IsAirspaceFor, IsAirspaceOf, IsCheckTested, IsDayOf, IsProofIn, IsProofOf, IsScoreTested, IsTaskOf, Tested}
 use Rattle.gl_app.specs.Listed.{most_proof_bytes}
 use Rattle.gl_app.specs.Score.{IsDayScored, IsScore, Scored, statements_of_all}
@@ -40,6 +40,7 @@ use Rattle.gl_app.specs.Run.{ChecksScored, IsRight}
 use Rattle.gl_app.specs.Words.{Check, Command, DayNames, Free, Score}
 use Rattle.gl_app.proofs.DayPasses.{PassedDay, check_parts, check_with, day_passed, listed_ok, listed_then, new_ok, ok_or_err}
 use Rattle.gl_app.proofs.Flights.{all_asked}
+use Rattle.gl_goal.specs.Laws.Chain.{AllZip-length}
 
 -- two names are the same, or aren't
 same_or_not : (a b : List ℕ) → (a ≡ b) ⊎ (a ≢ b)
@@ -148,15 +149,15 @@ asked_front files task air (e ∷ entrants) others a b (first, more, asked, fron
     let rest = asked_front files task air entrants others more more_too front all in
     (rest.0, are_too ∙ ap (λ (l : List Expected). l ++ more_too) same ∙ ap (λ (l : List Expected). first ++ l) rest.1 ∙ sym (append_assoc first more rest.0) ∙ ap (λ (l : List Expected). l ++ rest.0) (sym are), rest.2)
 
--- a proof of all that is asked for is accepted
-said_accepted : (files : FilesByName) (task : Task) (air : Airspace) (others : List Entrant) (expected rest : List Expected) (statements : List Statement) (said : Checked) → AreAsked (Some files) task air others rest → AllZip Proves (expected ++ rest) statements → IsSaidBehind others expected statements said → (n : ℕ) × (said ≡ checked.Accepted n)
+-- a proof of all that is asked for is accepted, with the count of its claims
+said_accepted : (files : FilesByName) (task : Task) (air : Airspace) (others : List Entrant) (expected rest : List Expected) (statements : List Statement) (said : Checked) → AreAsked (Some files) task air others rest → AllZip Proves (expected ++ rest) statements → IsSaidBehind others expected statements said → said ≡ checked.Accepted (length statements)
 said_accepted files task air [] expected rest statements said none each is =
     let all : AllZip Proves expected statements = subst (λ (l : List Expected). AllZip Proves l statements) (ap (λ (l : List Expected). expected ++ l) none ∙ append-nil expected) each in
-    (length expected, proof_accepted expected statements said all is)
+    proof_accepted expected statements said all is ∙ ap checked.Accepted (AllZip-length Proves expected statements all)
 said_accepted files task air (e ∷ others) expected rest statements said more each (wrong, same, first) =
     absurd (none_wrong (expected ++ rest) statements wrong each (not_proved_more expected rest statements wrong first))
 
-day_accepted : (files : FilesByName) (day : DayFiles) (claims : List Expected) (statements : List Statement) (said : Checked) → AreAsked (Some files) day.task day.airspace day.task.entrants claims → AllZip Proves claims statements → IsDayChecked (Some files) day statements said → (n : ℕ) × (said ≡ checked.Accepted n)
+day_accepted : (files : FilesByName) (day : DayFiles) (claims : List Expected) (statements : List Statement) (said : Checked) → AreAsked (Some files) day.task day.airspace day.task.entrants claims → AllZip Proves claims statements → IsDayChecked (Some files) day statements said → said ≡ checked.Accepted (length statements)
 day_accepted files day claims statements said asked each is =
     let all = subst (λ (l : List Entrant). AreAsked (Some files) day.task day.airspace l claims) is.are asked in
     let rest = asked_front files day.task day.airspace is.entrants is.others is.expected claims is.asked all in
@@ -190,22 +191,42 @@ has_day files names folder ended = record {
   is_text = ended.scored.appended;
 }
 
+-- what is found of a proof that `score` wrote: its claims are accepted, and counted
+pub record FoundAccepted (appended : List ℕ) (tested : Tested Checked) : Type 0 where
+  pub statements : List Statement
+  pub is_text : IsTextOf appended statements
+  pub accepted : tested ≡ Ok (checked.Accepted (length statements))
+
 -- what `score` wrote `check` accepts
-pub scored_accepted : (files : FilesByName) (names : DayNames) (answer : Answer) → IsScoredFolder files names → IsCheck (Some files) names answer → answer.status ≡ status.Done
-scored_accepted files names answer folder (Err refusal, tested, same) =
+pub scored_found : (files : FilesByName) (names : DayNames) (tested : Tested Checked) (folder : IsScoredFolder files names) → IsProofChecked (Some files) names tested → FoundAccepted folder.answer.appended tested
+scored_found files names tested folder (Err refusal, are, same) =
     let ended = score_ended folder.before folder.stewards names folder.answer folder.scored folder.done in
-    absurd (not_refused files names ended.day ended.bytes folder.answer.appended (statements_of_all ended.scored.scored) refusal (has_day files names folder ended) tested)
-scored_accepted files names answer folder (Ok passed, tested, (said, is, same)) =
+    absurd (not_refused files names ended.day ended.bytes folder.answer.appended (statements_of_all ended.scored.scored) refusal (has_day files names folder ended) are)
+scored_found files names tested folder (Ok passed, are, (said, is, same)) =
     let ended = score_ended folder.before folder.stewards names folder.answer folder.scored folder.done in
     let has = has_day files names folder ended in
     let statements = statements_of_all ended.scored.scored in
-    let with = check_with files names ended.day ended.bytes folder.answer.appended statements passed has.task_there has.proof_there has.passed has.is_text tested in
+    let with = check_with files names ended.day ended.bytes folder.answer.appended statements passed has.task_there has.proof_there has.passed has.is_text are in
     let have = all_asked (Some folder.before) ended.day folder.stewards ended.day.task.entrants ended.scored.scored ended.scored.each in
     let foreign = subst (λ (t : List ℕ). recording_of t (Some ended.day.task.date) ≡ Err NotIgc) (sym ended.scored.appended.is) (proof_is_no_recording statements (Some ended.day.task.date)) in
     let asked = all_moved folder.before files names.proof folder.answer.appended ended.day.task ended.day.airspace ended.day.task.entrants have.claims ended.proof_new folder.proof foreign folder.others have.asked in
     let checked_is = subst (λ (l : List Statement). IsDayChecked (Some files) ended.day l said) with.1 (subst (λ (d : DayFiles). IsDayChecked (Some files) d (statements_of passed.1) said) with.0 is) in
-    let accepted = day_accepted files ended.day have.claims statements said asked have.each checked_is in
-    ap (λ (a : Answer). a.status) (same ∙ ap checked_answer accepted.1)
+    record {
+      statements = statements;
+      is_text = ended.scored.appended;
+      accepted = same ∙ ap Ok (day_accepted files ended.day have.claims statements said asked have.each checked_is);
+    }
+
+found_done : (answer : Answer) (appended : List ℕ) (tested : Tested Checked) → FoundAccepted appended tested → MatchResult tested (λ said. answer ≡ checked_answer said) (λ refusal. answer ≡ refused refusal.file refusal.cause) → answer.status ≡ status.Done
+found_done answer appended (Ok said) found same =
+    let e : said ≡ checked.Accepted (length found.statements) = cc in
+    ap (λ (a : Answer). a.status) (same ∙ ap checked_answer e)
+found_done answer appended (Err refusal) found same = absurd (ok_or_err {X = Checked} _ refusal (sym found.accepted))
+
+-- so it is answered
+pub scored_accepted : (files : FilesByName) (names : DayNames) (answer : Answer) → IsScoredFolder files names → IsCheck (Some files) names answer → answer.status ≡ status.Done
+scored_accepted files names answer folder (tested, is, same) =
+    found_done answer folder.answer.appended tested (scored_found files names tested folder is) same
 
 -- so a run that isn't stopped ends with a result
 pub right_accepted : (folder : Option FilesByName) (stewards : List StewardRules) (command : Option Command) (answer : Answer) → ChecksScored folder command → IsRight folder stewards command answer → answer.status ≡ status.Done

@@ -28,7 +28,7 @@ use Rattle.gl_app.specs.declared.refusal.Cause.{Cause}
 use Rattle.gl_app.specs.declared.refusal.Refusal.{Refusal}
 use Rattle.gl_app.specs.declared.status.Status.TheVariants.{Done}
 use Rattle.gl_app.specs.Answer.{Answer, refused}
-use Rattle.gl_app.specs.Check.{IsCheck, IsCheckOf, checked_answer, not_proved_line}
+use Rattle.gl_app.specs.Check.{IsCheck, IsProofChecked, checked_answer, not_proved_line}
 use Rattle.gl_app.specs.DayFiles.{IfListed, IfPassed, IsAirspaceFor, IsAirspaceIn, IsAirspaceOf, IsCheckTested, IsDayOf, IsProofIn, IsProofOf, IsRefusedFor, IsScoreTested, IsTaskIn, IsTaskOf, Tested, airspace_cause, proof_cause, task_cause}
 use Rattle.gl_app.specs.Listed.{most_proof_bytes}
 use Rattle.gl_app.specs.Refusals.{file_refusal}
@@ -159,8 +159,12 @@ checked_line : (said : Checked) (answer : Answer) → answer ≡ checked_answer 
 checked_line (checked.Accepted claims) answer same unless = absurd (unless (ap (λ (a : Answer). a.status) same))
 checked_line (checked.Refused wrong) answer same unless = subst (λ (a : Answer). IsLine a.said) (sym same) (not_proved_is_line wrong)
 
+found_named : (folder : Option FilesByName) (names : DayNames) (tested : Tested Checked) → AreUnbroken names → IsProofChecked folder names tested → RefusesNamed tested
+found_named folder names tested named (files, are, then) =
+    passed_or files tested _ (check_tested folder names files named are) (λ passed _ (said, is, same). passes tested said same) then
+
 -- an answer of `check`
 pub check_line : (folder : Option FilesByName) (names : DayNames) (answer : Answer) → AreUnbroken names → IsCheck folder names answer → answer.status ≢ Done → IsLine answer.said
-check_line folder names answer named (Ok files, tested, (said, is, same)) unless = checked_line said answer same unless
-check_line folder names answer named (Err refusal, tested, same) unless =
-    said_by answer refusal.file refusal.cause same (check_tested folder names (Err refusal) named tested)
+check_line folder names answer named (Ok said, found, same) unless = checked_line said answer same unless
+check_line folder names answer named (Err refusal, found, same) unless =
+    said_by answer refusal.file refusal.cause same (found_named folder names (Err refusal) named found)

@@ -12,18 +12,19 @@ use Rattle.gl_day.specs.declared.fault.Checked.{Checked}
 use Rattle.gl_day.specs.declared.fault.Checked.TheVariants as checked
 use Rattle.gl_day.specs.Flight.{StewardRules, most_bytes}
 use Rattle.gl_app.specs.declared.refusal.Cause.{Cause}
+use Rattle.gl_app.specs.declared.refusal.Refusal.{Refusal}
 use Rattle.gl_app.specs.declared.refusal.Cause.TheVariants.{NotListed, TooLarge, NotIgc, NoDate, TooManyFixes, NoFix}
 use Rattle.gl_app.specs.declared.status.Status.{Status}
 use Rattle.gl_app.specs.declared.status.Status.TheVariants.{Done, Words, Refused, NotProved}
 use Rattle.gl_app.specs.Answer.{Answer, refused, saying}
 use Rattle.gl_app.specs.Appending.{HasGiven, IsAppended}
-use Rattle.gl_app.specs.Check.{IsCheck, checked_answer}
+use Rattle.gl_app.specs.Check.{IsCheck, IsProofChecked, PassesCheck, checked_answer}
 use Rattle.gl_app.specs.Free.{IsFree, IsFreeOfText, PassesFree}
 use Rattle.gl_app.specs.Run.{Ends, Gives, GivesPart, IsRight, IsRightFor, PassTests, Stops}
 use Rattle.gl_app.specs.Score.{IsScore}
 use Rattle.gl_app.specs.Statuses.{stop_at}
 use Rattle.gl_app.specs.Words.{Check, Command, DayNames, Free, Score}
-use Rattle.gl_app.proofs.DayPasses.{check_not_refused, score_not_refused}
+use Rattle.gl_app.proofs.DayPasses.{check_not_refused, ok_or_err, score_not_refused}
 
 -- a command ends with a result, a refusal, or a proof that isn't accepted
 abbrev IsResult : Status → Type 0
@@ -62,8 +63,8 @@ some_result status (inl done) = inl done
 some_result status (inr wrong) = inr (inr wrong)
 
 check_result : (folder : Option FilesByName) (names : DayNames) (answer : Answer) → IsCheck folder names answer → IsResult answer.status
-check_result folder names answer (Ok files, tested, (said, is, same)) = some_result answer.status (checked_result said answer same)
-check_result folder names answer (Err refusal, tested, same) = refuses answer refusal.file refusal.cause same
+check_result folder names answer (Ok said, found, same) = some_result answer.status (checked_result said answer same)
+check_result folder names answer (Err refusal, found, same) = refuses answer refusal.file refusal.cause same
 
 command_result : (folder : Option FilesByName) (stewards : List StewardRules) (command : Command) (answer : Answer) → IsRightFor folder stewards command answer → IsResult answer.status
 command_result folder stewards (Free file) answer right = free_result file right.0 answer right.2
@@ -99,9 +100,13 @@ score_passes : (files : FilesByName) (stewards : List StewardRules) (names : Day
 score_passes files stewards names answer passes (Ok day, tested, scored) = done_no_refusal answer.status (inl scored.ended)
 score_passes files stewards names answer passes (Err refusal, tested, same) = absurd (score_not_refused files names passes.0 refusal passes.1 tested)
 
+found_passes : (files : FilesByName) (names : DayNames) (refusal : Refusal) → PassesCheck files names → IsProofChecked (Some files) names (Err refusal) → ⊥
+found_passes files names refusal passes (Ok passed, tested, (said, is, same)) = ok_or_err said refusal (sym same)
+found_passes files names refusal passes (Err other, tested, same) = check_not_refused files names passes.0 other passes.1 tested
+
 check_passes : (files : FilesByName) (names : DayNames) (answer : Answer) → PassTests (Some files) (Some (Check names)) → IsCheck (Some files) names answer → answer.status ≢ Refused
-check_passes files names answer passes (Ok passed, tested, (said, is, same)) = done_no_refusal answer.status (checked_result said answer same)
-check_passes files names answer passes (Err refusal, tested, same) = absurd (check_not_refused files names passes.0 refusal passes.1 tested)
+check_passes files names answer passes (Ok said, found, same) = done_no_refusal answer.status (checked_result said answer same)
+check_passes files names answer passes (Err refusal, found, same) = absurd (found_passes files names refusal passes found)
 
 free_ok : (file : List ℕ) (read : Result Reading IgcError) (answer : Answer) → IsOk read → IsFreeOfText file read answer → answer.status ≢ Refused
 free_ok file (Ok reading) answer ok right = done_no_refusal answer.status (inl (ap (λ (a : Answer). a.status) right.2))

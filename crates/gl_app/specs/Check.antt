@@ -17,7 +17,7 @@ use Rattle.gl_app.specs.declared.day_files.DayFiles.{DayFiles}
 use Rattle.gl_app.specs.declared.status.Status.TheVariants as status
 use Rattle.gl_app.specs.Answer.{Answer, refused, saying}
 use Rattle.gl_app.specs.Asked.{AreAsked, Expected}
-use Rattle.gl_app.specs.DayFiles.{IsCheckTested, Tested}
+use Rattle.gl_app.specs.DayFiles.{IfPassed, IsCheckTested, Tested}
 use Rattle.gl_app.specs.Listed.{most_proof_bytes}
 use Rattle.gl_app.specs.Score.{IsScore}
 use Rattle.gl_app.specs.Words.{DayNames}
@@ -56,16 +56,19 @@ pub record IsDayChecked (folder : Option FilesByName) (day : DayFiles)
   pub asked : AreAsked folder day.task day.airspace entrants expected
   pub is : IsSaidBehind others expected statements said
 
--- the answer of `check` where the files pass the tests
-abbrev pub IsCheckOf : Option FilesByName → DayFiles → List Statement → Answer → Type 0
-IsCheckOf folder day statements answer =
-    (said : Checked) × IsDayChecked folder day statements said × (answer ≡ checked_answer said)
+-- what is said of the proof that the folder has, where the files pass the tests, or the first
+-- refusal
+abbrev pub IsProofChecked : Option FilesByName → DayNames → Tested Checked → Type 0
+IsProofChecked folder names tested =
+    (files : Tested (DayFiles × Proof)) × IsCheckTested folder names files
+    × IfPassed files tested (λ passed. (said : Checked)
+    × IsDayChecked folder passed.0 (statements_of passed.1) said × (tested ≡ Ok said))
 
 -- the answer of `check`: what is said of the proof, or the first refusal
 abbrev pub IsCheck : Option FilesByName → DayNames → Answer → Type 0
 IsCheck folder names answer =
-    (tested : Tested (DayFiles × Proof)) × IsCheckTested folder names tested
-    × MatchResult tested (λ files. IsCheckOf folder files.0 (statements_of files.1) answer)
+    (tested : Tested Checked) × IsProofChecked folder names tested
+    × MatchResult tested (λ said. answer ≡ checked_answer said)
     (λ refusal. answer ≡ refused refusal.file refusal.cause)
 
 -- the files of a folder that pass every test of `check`

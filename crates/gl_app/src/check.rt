@@ -1,16 +1,35 @@
 ghost use Rattle.std.specs.Prelude.{IfOk};
 ghost use Rattle.gl_desk.specs.Answers.{OnlyReads, stop_of};
 ghost use Rattle.gl_app.specs.Answer.{answer_of};
-ghost use Rattle.gl_app.specs.Check.{IsCheck};
+ghost use Rattle.gl_app.specs.Check.{IsCheck, IsProofChecked};
 ghost use Rattle.gl_app.specs.DayNames.{names_seen};
+ghost use Rattle.gl_app.specs.Halts.{IsTested, halt_stop};
 
 use crate::answer::Answer;
 use crate::checking::{check_claims, checked_answer};
 use crate::day_files::test_check_files;
 use crate::day_names::DayNames;
+use crate::halt::Halt;
 use crate::line::answer_halt;
+use gl_day::Checked;
 use gl_desk::{Desk, DeskError};
 use std::alloc::Global;
+
+/// What is said of a proof by the files of its day: that its claims are accepted, or the first that
+/// is wrong.
+pub fn check_proof<D: Desk>(
+    alloc: Global,
+    desk: &mut D,
+    day: DayNames<'_>,
+) -> Result<Checked, Halt>
+    ensures checked { IsTested
+        (IsProofChecked (D.told desk.old).folder (names_seen day.entry)) result }
+    ensures reads { OnlyReads (halt_stop result) (D.told desk.old) (D.told desk.new) }
+{
+    let names = desk.names(alloc)?;
+    let (files, proof) = test_check_files(alloc, desk, &names, day)?;
+    Ok(check_claims(alloc, desk, &names, &files, proof.claims.as_slice())?)
+}
 
 /// The answer of `check TASK PROOF`: whether the proof is that of the day.
 pub fn check<D: Desk>(alloc: Global, desk: &mut D, day: DayNames<'_>) -> Result<Answer, DeskError>
@@ -18,11 +37,8 @@ pub fn check<D: Desk>(alloc: Global, desk: &mut D, day: DayNames<'_>) -> Result<
         IsCheck (D.told desk.old).folder (names_seen day.entry) (answer_of answer)) }
     ensures reads { OnlyReads (stop_of result) (D.told desk.old) (D.told desk.new) }
 {
-    let names = desk.names(alloc)?;
-    let (files, proof) = match test_check_files(alloc, desk, &names, day) {
-        Ok(passed) => passed,
-        Err(halt) => return answer_halt(alloc, halt),
-    };
-    let said = check_claims(alloc, desk, &names, &files, proof.claims.as_slice())?;
-    Ok(checked_answer(alloc, said)?)
+    match check_proof(alloc, desk, day) {
+        Ok(said) => Ok(checked_answer(alloc, said)?),
+        Err(halt) => answer_halt(alloc, halt),
+    }
 }
