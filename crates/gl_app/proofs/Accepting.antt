@@ -37,7 +37,7 @@ use Rattle.gl_app.specs.DayFiles.{IfListed, IfPassed, IsAirspaceFor, IsAirspaceO
 use Rattle.gl_app.specs.Listed.{most_proof_bytes}
 use Rattle.gl_app.specs.Score.{IsDayScored, IsScore, Scored, statements_of_all}
 use Rattle.gl_app.specs.Run.{ChecksScored, IsRight}
-use Rattle.gl_app.specs.Words.{Check, Command, DayNames, Free, Score}
+use Rattle.gl_app.specs.Words.{Check, Command, DayNames, Free, Score, Triangle}
 use Rattle.gl_app.proofs.DayPasses.{PassedDay, check_parts, check_with, day_passed, listed_ok, listed_then, new_ok, ok_or_err}
 use Rattle.gl_app.proofs.Flights.{all_asked}
 use Rattle.gl_goal.specs.Laws.Chain.{AllZip-length}
@@ -233,5 +233,6 @@ pub right_accepted : (folder : Option FilesByName) (stewards : List StewardRules
 right_accepted None stewards command answer checks right = absurd checks
 right_accepted (Some files) stewards None answer checks right = absurd checks
 right_accepted (Some files) stewards (Some (Free file)) answer checks right = absurd checks
+right_accepted (Some files) stewards (Some (Triangle file)) answer checks right = absurd checks
 right_accepted (Some files) stewards (Some (Score names)) answer checks right = absurd checks
 right_accepted (Some files) stewards (Some (Check names)) answer checks right = scored_accepted files names answer checks right

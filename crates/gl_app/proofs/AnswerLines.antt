@@ -8,29 +8,45 @@ use Rattle.gl_desk.specs.Desk.{FilesByName, followed_by}
 use Rattle.gl_day.specs.Flight.{StewardRules}
 use Rattle.gl_app.specs.declared.status.Status.TheVariants.{Done}
 use Rattle.gl_app.specs.Answer.{Answer}
+use Rattle.gl_app.specs.Free.{IsFreeText}
+use Rattle.gl_app.specs.Triangle.{IsTriangleText}
 use Rattle.gl_app.specs.Run.{IsRight, SaidLine}
 use Rattle.gl_app.specs.Statuses.{stop_at}
 use Rattle.gl_app.specs.Texts.{IsLine, usage_line}
-use Rattle.gl_app.specs.Words.{Check, Command, DayNames, Free, Score, check_form, command_of, day_names, free_form, is_file_name, is_text, score_form}
+use Rattle.gl_app.specs.Words.{Check, Command, DayNames, Free, Score, Triangle, check_form, command_of, day_names, file_form, is_file_name, is_text, score_form}
 use Rattle.gl_app.proofs.DayLines.{AreUnbroken, check_line, score_line}
-use Rattle.gl_app.proofs.LineTexts.{free_line, is_unbroken, is_unbroken-file, line_of}
+use Rattle.gl_app.proofs.LineTexts.{of_file_line, is_unbroken, is_unbroken-file, line_of}
 
 -- the files of a command have such names
 abbrev HasUnbrokenNames : Option Command → Type 0
 HasUnbrokenNames None = Unit {0}
 HasUnbrokenNames (Some (Free file)) = is_unbroken file ≡ true
+HasUnbrokenNames (Some (Triangle file)) = is_unbroken file ≡ true
 HasUnbrokenNames (Some (Score names)) = AreUnbroken names
 HasUnbrokenNames (Some (Check names)) = AreUnbroken names
 
-free_names : (is_free : Bool) (file : List ℕ) → (is_free ≡ true → is_unbroken file ≡ true) → HasUnbrokenNames (if is_free then Some (Free file) else None)
-free_names true file named = named refl
-free_names false file named = tt
+-- so has one file
+abbrev HasUnbroken : Option (List ℕ) → Type 0
+HasUnbroken None = Unit {0}
+HasUnbroken (Some file) = is_unbroken file ≡ true
 
-free_form_names : (words : List (List ℕ)) → HasUnbrokenNames (free_form words)
-free_form_names [] = tt
-free_form_names (word ∷ []) = tt
-free_form_names (word ∷ file ∷ []) = free_names (is_text word (codes "free") && is_file_name file) file (λ is_free. is_unbroken-file file (second_so (is_text word (codes "free")) (is_file_name file) is_free))
-free_form_names (word ∷ file ∷ more ∷ words) = tt
+file_name : (is : Bool) (file : List ℕ) → (is ≡ true → is_unbroken file ≡ true) → HasUnbroken (if is then Some file else None)
+file_name true file named = named refl
+file_name false file named = tt
+
+file_names : (first : List ℕ) (words : List (List ℕ)) → HasUnbroken (file_form first words)
+file_names first [] = tt
+file_names first (word ∷ []) = tt
+file_names first (word ∷ file ∷ []) = file_name (is_text word first && is_file_name file) file (λ is. is_unbroken-file file (second_so (is_text word first) (is_file_name file) is))
+file_names first (word ∷ file ∷ more ∷ words) = tt
+
+as_free : (file : Option (List ℕ)) → HasUnbroken file → HasUnbrokenNames (option_map Free file)
+as_free None named = tt
+as_free (Some file) named = named
+
+as_triangle : (file : Option (List ℕ)) → HasUnbroken file → HasUnbrokenNames (option_map Triangle file)
+as_triangle None named = tt
+as_triangle (Some file) named = named
 
 -- so have the two files of a day
 abbrev HaveUnbroken : Option DayNames → Type 0
@@ -81,15 +97,20 @@ or_names (Some command) other named others = named
 command_names : (words : List (List ℕ)) → HasUnbrokenNames (command_of words)
 unfolding command_of
 command_names words =
-    or_names (free_form words) (option_or (option_map Score (score_form words)) (option_map Check (check_form words))) (free_form_names words)
-    (or_names (option_map Score (score_form words)) (option_map Check (check_form words)) (as_score (score_form words) (score_names words)) (as_check (check_form words) (check_names words)))
+    let free = file_form (codes "free") words in
+    let triangle = file_form (codes "triangle") words in
+    let day = option_or (option_map Score (score_form words)) (option_map Check (check_form words)) in
+    or_names (option_map Free free) (option_or (option_map Triangle triangle) day) (as_free free (file_names (codes "free") words))
+    (or_names (option_map Triangle triangle) day (as_triangle triangle (file_names (codes "triangle") words))
+    (or_names (option_map Score (score_form words)) (option_map Check (check_form words)) (as_score (score_form words) (score_names words)) (as_check (check_form words) (check_names words))))
 
 usage_is_line : IsLine usage_line
 usage_is_line = line_of (take (length usage_line - 1) usage_line) refl
 
 answer_line : (folder : Option FilesByName) (stewards : List StewardRules) (command : Option Command) (answer : Answer) → HasUnbrokenNames command → IsRight folder stewards command answer → answer.status ≢ Done → IsLine answer.said
 answer_line folder stewards None answer names right unless = subst (λ (a : Answer). IsLine a.said) (sym right) usage_is_line
-answer_line folder stewards (Some (Free file)) answer names right unless = free_line file right.0 answer names right.2 unless
+answer_line folder stewards (Some (Free file)) answer names right unless = of_file_line IsFreeText file right.0 answer names right.2 unless
+answer_line folder stewards (Some (Triangle file)) answer names right unless = of_file_line IsTriangleText file right.0 answer names right.2 unless
 answer_line folder stewards (Some (Score files)) answer names right unless = score_line folder stewards files answer names right unless
 answer_line folder stewards (Some (Check files)) answer names right unless = check_line folder files answer names right unless
 

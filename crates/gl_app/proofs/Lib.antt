@@ -8,7 +8,7 @@ pub mod DayLines
 pub mod DayPasses
 pub mod DayTests
 pub mod Flights
-pub mod FreeTexts
+pub mod Bests
 pub mod LineTexts
 pub mod NoTask
 pub mod Readings

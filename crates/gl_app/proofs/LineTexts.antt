@@ -1,6 +1,6 @@
 -- A right answer without a result says one line.
-use Rattle.std.proofs.Common.{◌≡◌, ◌≢◌, refl, sym, ap, subst, ℕ, zero, suc, ◌-◌, ◌/◌, ◌%◌, Bool, true, false, not, ◌==◌, ◌&&◌, if◌then◌else◌, List, [], ◌∷◌, ◌++◌, length, take, Option, None, Some, Result, Ok, Err, codes, arith}
-use Rattle.std.specs.Prelude.{IfNone, MatchBool, nat_lt}
+use Rattle.std.proofs.Common.{◌≡◌, ◌≢◌, refl, sym, ap, subst, ℕ, zero, suc, ◌/◌, ◌%◌, Bool, true, false, not, ◌==◌, if◌then◌else◌, List, [], ◌∷◌, ◌++◌, length, Option, None, Some, Result, Ok, Err, codes, arith}
+use Rattle.std.specs.Prelude.{MatchBool, nat_lt}
 use Rattle.std.specs.List.{list_all}
 use Rattle.std.specs.Cmp.{first_so, second_so}
 use Rattle.std.specs.Fmt.{decimal, digits, digits_onto, digit_glyph}
@@ -8,7 +8,6 @@ use Rattle.std.proofs.lemmas.Bool.Decides.{nat_tests}
 use Rattle.std.proofs.lemmas.List.Folds.{list_all-append}
 use Rattle.std.proofs.lemmas.List.Sums.{AllPass-from_list_all, list_all-from_AllPass}
 use Rattle.std.proofs.lemmas.List.Elements.{All-contains, All-weaker}
-use Rattle.gl_desk.specs.Desk.{FilesByName, followed_by}
 use Rattle.gl_igc.specs.Reading.{Reading, recording_of}
 use Rattle.gl_igc.specs.declared.error.IgcError.{IgcError}
 use Rattle.gl_igc.specs.declared.error.IgcError.TheVariants as igc
@@ -16,7 +15,7 @@ use Rattle.gl_app.specs.declared.refusal.Cause.{Cause}
 use Rattle.gl_app.specs.declared.refusal.Cause.TheVariants.{NotListed, Listed, TooLarge, NotIgc, NoDate, TooManyFixes, NoFix, NotToml, NoKey, WrongValue, NumberTwice, TooManyItems, WrongAirspace, TooMuchAirspace, NoHeading, WrongProof, ProofCut}
 use Rattle.gl_app.specs.declared.status.Status.TheVariants.{Done}
 use Rattle.gl_app.specs.Answer.{Answer, refused}
-use Rattle.gl_app.specs.Free.{IsFree, IsFreeOfText}
+use Rattle.gl_app.specs.OfFile.{IsOfFile, IsOfText}
 use Rattle.gl_day.specs.Flight.{most_bytes}
 use Rattle.gl_app.specs.Refusals.{Parts, Place, Nowhere, AtLine, AtKey, parts_of, place_text, line_with, refusal_line, file_refusal}
 use Rattle.gl_app.specs.Texts.{IsLine}
@@ -106,20 +105,20 @@ refusal_is_line file cause named =
 pub said_by : (answer : Answer) (file : List ℕ) (cause : Cause) → answer ≡ refused file cause → is_unbroken file ≡ true → IsLine answer.said
 said_by answer file cause same named = subst (λ (a : Answer). IsLine a.said) (sym same) (refusal_is_line file cause named)
 
-free_of_text_line : (file : List ℕ) (read : Result Reading IgcError) (answer : Answer) → is_unbroken file ≡ true → IsFreeOfText file read answer → answer.status ≢ Done → IsLine answer.said
-free_of_text_line file (Ok reading) answer named right unless = absurd (unless (ap (λ (a : Answer). a.status) right.2))
-free_of_text_line file (Err igc.NotIgc) answer named right unless = said_by answer file NotIgc right named
-free_of_text_line file (Err igc.NoDate) answer named right unless = said_by answer file NoDate right named
-free_of_text_line file (Err (igc.WrongDay day)) answer named right unless = absurd right
-free_of_text_line file (Err (igc.TooManyFixes line)) answer named right unless = said_by answer file (TooManyFixes line) right named
-free_of_text_line file (Err igc.NoFix) answer named right unless = said_by answer file NoFix right named
-free_of_text_line file (Err igc.Memory) answer named right unless = absurd right
+of_text_line : (IsText : Reading → List ℕ → Type 0) (file : List ℕ) (read : Result Reading IgcError) (answer : Answer) → is_unbroken file ≡ true → IsOfText IsText file read answer → answer.status ≢ Done → IsLine answer.said
+of_text_line IsText file (Ok reading) answer named right unless = absurd (unless (ap (λ (a : Answer). a.status) right.2))
+of_text_line IsText file (Err igc.NotIgc) answer named right unless = said_by answer file NotIgc right named
+of_text_line IsText file (Err igc.NoDate) answer named right unless = said_by answer file NoDate right named
+of_text_line IsText file (Err (igc.WrongDay day)) answer named right unless = absurd right
+of_text_line IsText file (Err (igc.TooManyFixes line)) answer named right unless = said_by answer file (TooManyFixes line) right named
+of_text_line IsText file (Err igc.NoFix) answer named right unless = said_by answer file NoFix right named
+of_text_line IsText file (Err igc.Memory) answer named right unless = absurd right
 
-free_of_bytes_line : (large : Bool) (file : List ℕ) (read : Result Reading IgcError) (answer : Answer) → is_unbroken file ≡ true → MatchBool large (answer ≡ refused file TooLarge) (IsFreeOfText file read answer) → answer.status ≢ Done → IsLine answer.said
-free_of_bytes_line true file read answer named right unless = said_by answer file TooLarge right named
-free_of_bytes_line false file read answer named right unless = free_of_text_line file read answer named right unless
+of_bytes_line : (IsText : Reading → List ℕ → Type 0) (large : Bool) (file : List ℕ) (read : Result Reading IgcError) (answer : Answer) → is_unbroken file ≡ true → MatchBool large (answer ≡ refused file TooLarge) (IsOfText IsText file read answer) → answer.status ≢ Done → IsLine answer.said
+of_bytes_line IsText true file read answer named right unless = said_by answer file TooLarge right named
+of_bytes_line IsText false file read answer named right unless = of_text_line IsText file read answer named right unless
 
-pub free_line : (file : List ℕ) (seen : Option (List ℕ)) (answer : Answer) → is_unbroken file ≡ true → IsFree file seen answer → answer.status ≢ Done → IsLine answer.said
-free_line file None answer named right unless = said_by answer file NotListed right named
-free_line file (Some bytes) answer named right unless =
-    free_of_bytes_line (nat_lt most_bytes (length bytes)) file (recording_of bytes None) answer named right unless
+pub of_file_line : (IsText : Reading → List ℕ → Type 0) (file : List ℕ) (seen : Option (List ℕ)) (answer : Answer) → is_unbroken file ≡ true → IsOfFile IsText file seen answer → answer.status ≢ Done → IsLine answer.said
+of_file_line IsText file None answer named right unless = said_by answer file NotListed right named
+of_file_line IsText file (Some bytes) answer named right unless =
+    of_bytes_line IsText (nat_lt most_bytes (length bytes)) file (recording_of bytes None) answer named right unless

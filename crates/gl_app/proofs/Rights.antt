@@ -1,5 +1,5 @@
 -- How a run with a right answer ends.
-use Rattle.std.proofs.Common.{◌≡◌, ◌≢◌, ◌∙◌, refl, sym, ap, subst, ℕ, ◌⊎◌, inl, inr, Bool, true, false, List, [], length, take, Option, None, Some, Result, Ok, Err}
+use Rattle.std.proofs.Common.{◌≡◌, ◌≢◌, ◌∙◌, refl, sym, ap, subst, ℕ, ◌⊎◌, inl, inr, Bool, true, false, List, length, take, Option, None, Some, Result, Ok, Err}
 use Rattle.std.specs.Prelude.{◌↔◌, IsNone, IsOk, MatchBool, MatchOption, nat_lt}
 use Rattle.std.proofs.Math.Seq.{take-length}
 use Rattle.std.proofs.lemmas.Bool.{le-ltb}
@@ -7,7 +7,6 @@ use Rattle.gl_desk.specs.Desk.{AppendedByName, FilesByName, FileTakes, Told, fil
 use Rattle.gl_igc.specs.Reading.{Reading, recording_of}
 use Rattle.gl_igc.specs.declared.error.IgcError.{IgcError}
 use Rattle.gl_igc.specs.declared.error.IgcError.TheVariants as igc
-use Rattle.gl_proof.specs.Text.{statements_of}
 use Rattle.gl_day.specs.declared.fault.Checked.{Checked}
 use Rattle.gl_day.specs.declared.fault.Checked.TheVariants as checked
 use Rattle.gl_day.specs.Flight.{StewardRules, most_bytes}
@@ -16,14 +15,16 @@ use Rattle.gl_app.specs.declared.refusal.Refusal.{Refusal}
 use Rattle.gl_app.specs.declared.refusal.Cause.TheVariants.{NotListed, TooLarge, NotIgc, NoDate, TooManyFixes, NoFix}
 use Rattle.gl_app.specs.declared.status.Status.{Status}
 use Rattle.gl_app.specs.declared.status.Status.TheVariants.{Done, Words, Refused, NotProved}
-use Rattle.gl_app.specs.Answer.{Answer, refused, saying}
+use Rattle.gl_app.specs.Answer.{Answer, refused}
 use Rattle.gl_app.specs.Appending.{HasGiven, IsAppended}
 use Rattle.gl_app.specs.Check.{IsCheck, IsProofChecked, PassesCheck, checked_answer}
-use Rattle.gl_app.specs.Free.{IsFree, IsFreeOfText, PassesFree}
-use Rattle.gl_app.specs.Run.{Ends, Gives, GivesPart, IsRight, IsRightFor, PassTests, Stops}
+use Rattle.gl_app.specs.Free.{IsFreeText}
+use Rattle.gl_app.specs.OfFile.{IsOfFile, IsOfText, PassesAsRecording}
+use Rattle.gl_app.specs.Triangle.{IsTriangleText}
+use Rattle.gl_app.specs.Run.{Ends, Gives, IsRight, IsRightFor, PassTests, Stops}
 use Rattle.gl_app.specs.Score.{IsScore}
 use Rattle.gl_app.specs.Statuses.{stop_at}
-use Rattle.gl_app.specs.Words.{Check, Command, DayNames, Free, Score}
+use Rattle.gl_app.specs.Words.{Check, Command, DayNames, Free, Score, Triangle}
 use Rattle.gl_app.proofs.DayPasses.{check_not_refused, ok_or_err, score_not_refused}
 
 -- a command ends with a result, a refusal, or a proof that isn't accepted
@@ -33,22 +34,22 @@ IsResult status = (status ≡ Done) ⊎ ((status ≡ Refused) ⊎ (status ≡ No
 refuses : (answer : Answer) (file : List ℕ) (cause : Cause) → answer ≡ refused file cause → IsResult answer.status
 refuses answer file cause same = inr (inl (ap (λ (a : Answer). a.status) same))
 
-free_of_text : (file : List ℕ) (read : Result Reading IgcError) (answer : Answer) → IsFreeOfText file read answer → IsResult answer.status
-free_of_text file (Ok reading) answer right = inl (ap (λ (a : Answer). a.status) right.2)
-free_of_text file (Err igc.NotIgc) answer right = refuses answer file NotIgc right
-free_of_text file (Err igc.NoDate) answer right = refuses answer file NoDate right
-free_of_text file (Err (igc.WrongDay day)) answer right = absurd right
-free_of_text file (Err (igc.TooManyFixes line)) answer right = refuses answer file (TooManyFixes line) right
-free_of_text file (Err igc.NoFix) answer right = refuses answer file NoFix right
-free_of_text file (Err igc.Memory) answer right = absurd right
+of_text : (IsText : Reading → List ℕ → Type 0) (file : List ℕ) (read : Result Reading IgcError) (answer : Answer) → IsOfText IsText file read answer → IsResult answer.status
+of_text IsText file (Ok reading) answer right = inl (ap (λ (a : Answer). a.status) right.2)
+of_text IsText file (Err igc.NotIgc) answer right = refuses answer file NotIgc right
+of_text IsText file (Err igc.NoDate) answer right = refuses answer file NoDate right
+of_text IsText file (Err (igc.WrongDay day)) answer right = absurd right
+of_text IsText file (Err (igc.TooManyFixes line)) answer right = refuses answer file (TooManyFixes line) right
+of_text IsText file (Err igc.NoFix) answer right = refuses answer file NoFix right
+of_text IsText file (Err igc.Memory) answer right = absurd right
 
-free_of_bytes : (large : Bool) (file : List ℕ) (read : Result Reading IgcError) (answer : Answer) → MatchBool large (answer ≡ refused file TooLarge) (IsFreeOfText file read answer) → IsResult answer.status
-free_of_bytes true file read answer right = refuses answer file TooLarge right
-free_of_bytes false file read answer right = free_of_text file read answer right
+of_bytes : (IsText : Reading → List ℕ → Type 0) (large : Bool) (file : List ℕ) (read : Result Reading IgcError) (answer : Answer) → MatchBool large (answer ≡ refused file TooLarge) (IsOfText IsText file read answer) → IsResult answer.status
+of_bytes IsText true file read answer right = refuses answer file TooLarge right
+of_bytes IsText false file read answer right = of_text IsText file read answer right
 
-free_result : (file : List ℕ) (seen : Option (List ℕ)) (answer : Answer) → IsFree file seen answer → IsResult answer.status
-free_result file None answer right = refuses answer file NotListed right
-free_result file (Some bytes) answer right = free_of_bytes (nat_lt most_bytes (length bytes)) file (recording_of bytes None) answer right
+of_file_result : (IsText : Reading → List ℕ → Type 0) (file : List ℕ) (seen : Option (List ℕ)) (answer : Answer) → IsOfFile IsText file seen answer → IsResult answer.status
+of_file_result IsText file None answer right = refuses answer file NotListed right
+of_file_result IsText file (Some bytes) answer right = of_bytes IsText (nat_lt most_bytes (length bytes)) file (recording_of bytes None) answer right
 
 score_result : (folder : Option FilesByName) (stewards : List StewardRules) (names : DayNames) (answer : Answer) → IsScore folder stewards names answer → IsResult answer.status
 score_result folder stewards names answer (Ok day, tested, scored) = inl scored.ended
@@ -67,7 +68,8 @@ check_result folder names answer (Ok said, found, same) = some_result answer.sta
 check_result folder names answer (Err refusal, found, same) = refuses answer refusal.file refusal.cause same
 
 command_result : (folder : Option FilesByName) (stewards : List StewardRules) (command : Command) (answer : Answer) → IsRightFor folder stewards command answer → IsResult answer.status
-command_result folder stewards (Free file) answer right = free_result file right.0 answer right.2
+command_result folder stewards (Free file) answer right = of_file_result IsFreeText file right.0 answer right.2
+command_result folder stewards (Triangle file) answer right = of_file_result IsTriangleText file right.0 answer right.2
 command_result folder stewards (Score names) answer right = score_result folder stewards names answer right
 command_result folder stewards (Check names) answer right = check_result folder names answer right
 
@@ -108,21 +110,22 @@ check_passes : (files : FilesByName) (names : DayNames) (answer : Answer) → Pa
 check_passes files names answer passes (Ok said, found, same) = done_no_refusal answer.status (checked_result said answer same)
 check_passes files names answer passes (Err refusal, found, same) = absurd (found_passes files names refusal passes found)
 
-free_ok : (file : List ℕ) (read : Result Reading IgcError) (answer : Answer) → IsOk read → IsFreeOfText file read answer → answer.status ≢ Refused
-free_ok file (Ok reading) answer ok right = done_no_refusal answer.status (inl (ap (λ (a : Answer). a.status) right.2))
-free_ok file (Err error) answer ok right = absurd (cc)
+of_text_passes : (IsText : Reading → List ℕ → Type 0) (file : List ℕ) (read : Result Reading IgcError) (answer : Answer) → IsOk read → IsOfText IsText file read answer → answer.status ≢ Refused
+of_text_passes IsText file (Ok reading) answer ok right = done_no_refusal answer.status (inl (ap (λ (a : Answer). a.status) right.2))
+of_text_passes IsText file (Err error) answer ok right = absurd (cc)
 
-free_small : (large : Bool) (file : List ℕ) (read : Result Reading IgcError) (answer : Answer) → large ≡ false → IsOk read → MatchBool large (answer ≡ refused file TooLarge) (IsFreeOfText file read answer) → answer.status ≢ Refused
-free_small true file read answer small ok right = absurd (cc)
-free_small false file read answer small ok right = free_ok file read answer ok right
+of_bytes_passes : (IsText : Reading → List ℕ → Type 0) (large : Bool) (file : List ℕ) (read : Result Reading IgcError) (answer : Answer) → large ≡ false → IsOk read → MatchBool large (answer ≡ refused file TooLarge) (IsOfText IsText file read answer) → answer.status ≢ Refused
+of_bytes_passes IsText true file read answer small ok right = absurd (cc)
+of_bytes_passes IsText false file read answer small ok right = of_text_passes IsText file read answer ok right
 
-free_seen : (file : List ℕ) (seen : Option (List ℕ)) (answer : Answer) → PassesFree seen → IsFree file seen answer → answer.status ≢ Refused
-free_seen file None answer passes right = absurd passes
-free_seen file (Some bytes) answer passes right =
-    free_small (nat_lt most_bytes (length bytes)) file (recording_of bytes None) answer (le-ltb most_bytes (length bytes) passes.0) passes.1 right
+of_file_passes : (IsText : Reading → List ℕ → Type 0) (file : List ℕ) (seen : Option (List ℕ)) (answer : Answer) → PassesAsRecording seen → IsOfFile IsText file seen answer → answer.status ≢ Refused
+of_file_passes IsText file None answer passes right = absurd passes
+of_file_passes IsText file (Some bytes) answer passes right =
+    of_bytes_passes IsText (nat_lt most_bytes (length bytes)) file (recording_of bytes None) answer (le-ltb most_bytes (length bytes) passes.0) passes.1 right
 
 command_passes : (files : FilesByName) (stewards : List StewardRules) (command : Command) (answer : Answer) → PassTests (Some files) (Some command) → IsRightFor (Some files) stewards command answer → answer.status ≢ Refused
-command_passes files stewards (Free file) answer passes (seen, there, right) = free_seen file seen answer (subst PassesFree there passes) right
+command_passes files stewards (Free file) answer passes (seen, there, right) = of_file_passes IsFreeText file seen answer (subst PassesAsRecording there passes) right
+command_passes files stewards (Triangle file) answer passes (seen, there, right) = of_file_passes IsTriangleText file seen answer (subst PassesAsRecording there passes) right
 command_passes files stewards (Score names) answer passes right = score_passes files stewards names answer passes right
 command_passes files stewards (Check names) answer passes right = check_passes files names answer passes right
 

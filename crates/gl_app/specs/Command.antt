@@ -6,5 +6,6 @@ use Rattle.gl_app.specs.Words as words
 -- a command of the code as plain data
 abbrev pub seen : Command → words.Command
 seen (code.Free file) = words.Free file.now
+seen (code.Triangle file) = words.Triangle file.now
 seen (code.Score names) = words.Score (names_seen names)
 seen (code.Check names) = words.Check (names_seen names)

@@ -4,7 +4,11 @@ pub mod Answer
 pub mod Statuses
 pub mod Endings
 pub mod Texts
+pub mod Best
+pub mod OfFile
 pub mod Free
+pub mod Triangle
+pub mod Course
 pub mod Run
 pub mod Command
 pub mod DayNames
@@ -19,6 +23,7 @@ pub mod Lines
 pub mod Listed
 pub use Rattle.gl_desk.specs.Desk
 pub use Rattle.gl_goal.specs.Free as FreeGoal
+pub use Rattle.gl_goal.specs.Triangle as TriangleGoal
 pub use Rattle.gl_goal.specs.Rule
 pub use Rattle.gl_igc.specs.Reading
 pub use Rattle.gl_igc.specs.Recording

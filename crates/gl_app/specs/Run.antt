@@ -11,15 +11,19 @@ use Rattle.gl_app.specs.Appending.{IsAppended}
 use Rattle.gl_app.specs.Check.{IsCheck, IsScoredFolder, PassesCheck}
 use Rattle.gl_app.specs.Statuses.{stop_at}
 use Rattle.gl_app.specs.Score.{IsScore, IsScoreBegun, PassesScore}
-use Rattle.gl_app.specs.Words.{Check, Command, Free, Score}
+use Rattle.gl_app.specs.Words.{Check, Command, Free, Score, Triangle}
 use Rattle.gl_app.specs.Texts.{IsLine, usage_line}
-use Rattle.gl_app.specs.Free.{IsFree, PassesFree}
+use Rattle.gl_app.specs.Free.{IsFree}
+use Rattle.gl_app.specs.OfFile.{PassesAsRecording}
+use Rattle.gl_app.specs.Triangle.{IsTriangle}
 
 -- The answer is right for a command: it is right for what the tests of the command saw, and where
 -- the desk tells its folder, that is what the folder has. A further command has its case here.
 abbrev pub IsRightFor : Option FilesByName → List StewardRules → Command → Answer → Type 0
 IsRightFor folder stewards (Free file) answer =
     (seen : Option (List ℕ)) × IsSeenIn folder file seen × IsFree file seen answer
+IsRightFor folder stewards (Triangle file) answer =
+    (seen : Option (List ℕ)) × IsSeenIn folder file seen × IsTriangle file seen answer
 IsRightFor folder stewards (Score names) answer = IsScore folder stewards names answer
 IsRightFor folder stewards (Check names) answer = IsCheck folder names answer
 
@@ -32,6 +36,7 @@ IsRight folder stewards (Some command) answer = IsRightFor folder stewards comma
 abbrev pub IsBegunFor : Option FilesByName → Option Command → List ℕ → Type 0
 IsBegunFor folder None text = ⊥
 IsBegunFor folder (Some (Free file)) text = ⊥
+IsBegunFor folder (Some (Triangle file)) text = ⊥
 IsBegunFor folder (Some (Score names)) text = IsScoreBegun folder names text
 IsBegunFor folder (Some (Check names)) text = ⊥
 
@@ -40,7 +45,8 @@ IsBegunFor folder (Some (Check names)) text = ⊥
 abbrev pub PassTests : Option FilesByName → Option Command → Type 0
 PassTests None command = ⊥
 PassTests (Some files) None = ⊥
-PassTests (Some files) (Some (Free file)) = PassesFree (files file)
+PassTests (Some files) (Some (Free file)) = PassesAsRecording (files file)
+PassTests (Some files) (Some (Triangle file)) = PassesAsRecording (files file)
 PassTests (Some files) (Some (Score names)) = PassesScore files names
 PassTests (Some files) (Some (Check names)) = PassesCheck files names
 
@@ -49,6 +55,7 @@ abbrev pub ChecksScored : Option FilesByName → Option Command → Type 0
 ChecksScored None command = ⊥
 ChecksScored (Some files) None = ⊥
 ChecksScored (Some files) (Some (Free file)) = ⊥
+ChecksScored (Some files) (Some (Triangle file)) = ⊥
 ChecksScored (Some files) (Some (Score names)) = ⊥
 ChecksScored (Some files) (Some (Check names)) = IsScoredFolder files names
 
@@ -56,6 +63,7 @@ ChecksScored (Some files) (Some (Check names)) = IsScoredFolder files names
 abbrev pub target_of : Option Command → Option (List ℕ)
 target_of None = None
 target_of (Some (Free file)) = None
+target_of (Some (Triangle file)) = None
 target_of (Some (Score names)) = Some names.proof
 target_of (Some (Check names)) = None
 

@@ -21,8 +21,13 @@ usage_line =
 abbrev pub spaced : List ℕ → List ℕ
 spaced numbers = flat_map (λ n. 32 ∷ decimal n) numbers
 
--- the two lines of a free distance: the metres of a total in centimetres, and the numbers of the
--- fixes
-unfoldable pub free_text : ℕ → List ℕ → List ℕ
-free_text total fixes =
-    codes "FREE " ++ fixed 2 total ++ codes " m" ++ 10 ∷ codes "FIXES" ++ spaced fixes ++ 10 ∷ []
+-- the two lines of a distance: behind a word the metres of a total in centimetres, and the numbers
+-- of the fixes
+unfoldable pub distance_text : List ℕ → ℕ → List ℕ → List ℕ
+distance_text word total fixes =
+    word ++ codes " " ++ fixed 2 total ++ codes " m" ++ 10 ∷ codes "FIXES" ++ spaced fixes
+    ++ 10 ∷ []
+
+-- the line where no choice of fixes is legal
+abbrev pub no_flight : List ℕ
+no_flight = codes "NO FLIGHT" ++ 10 ∷ []

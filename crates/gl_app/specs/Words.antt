@@ -13,6 +13,7 @@ pub record DayNames : Type 0 where
 -- a command and what it is given
 pub data Command : Type 0 where
   Free : List ℕ → Command
+  Triangle : List ℕ → Command
   Score : DayNames → Command
   Check : DayNames → Command
 
@@ -34,13 +35,13 @@ is_file_name name =
     nat_le 1 (length name) && nat_le (length name) 128 && list_all is_name_byte name
     && not (is_dots name)
 
--- `free FILE`
-abbrev pub free_form : List (List ℕ) → Option Command
-free_form [] = None
-free_form (word ∷ []) = None
-free_form (word ∷ file ∷ []) =
-    if is_text word (codes "free") && is_file_name file then Some (Free file) else None
-free_form (word ∷ file ∷ more ∷ words) = None
+-- `free FILE`, or another first word
+abbrev pub file_form : List ℕ → List (List ℕ) → Option (List ℕ)
+file_form first [] = None
+file_form first (word ∷ []) = None
+file_form first (word ∷ file ∷ []) =
+    if is_text word first && is_file_name file then Some file else None
+file_form first (word ∷ file ∷ more ∷ words) = None
 
 -- the names of a day, where both are those of files
 abbrev pub day_names : List ℕ → List ℕ → Option DayNames
@@ -72,5 +73,6 @@ check_form (word ∷ task ∷ proof ∷ more ∷ words) = None
 -- before it reads.
 unfoldable pub command_of : List (List ℕ) → Option Command
 command_of words =
-    option_or (free_form words)
-    (option_or (option_map Score (score_form words)) (option_map Check (check_form words)))
+    option_or (option_map Free (file_form (codes "free") words))
+    (option_or (option_map Triangle (file_form (codes "triangle") words))
+    (option_or (option_map Score (score_form words)) (option_map Check (check_form words))))

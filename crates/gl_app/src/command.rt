@@ -1,6 +1,6 @@
 ghost use Rattle.std.specs.Prelude.{◌≡◌, option_map};
 ghost use Rattle.std.specs.List.{list_all};
-ghost use Rattle.gl_app.specs.Words.{command_of, free_form, is_dots, is_file_name, is_name_byte};
+ghost use Rattle.gl_app.specs.Words.{command_of, file_form, is_dots, is_file_name, is_name_byte};
 ghost use Rattle.gl_app.specs.Command.{seen};
 
 use crate::day_names::{DayNames, read_check, read_score};
@@ -14,6 +14,8 @@ const MOST_NAME_BYTES: usize = 128;
 pub enum Command<'a> {
     /// `free FILE`: the best free distance of a recording.
     Free(&'a Name),
+    /// `triangle FILE`: the best triangle of a recording.
+    Triangle(&'a Name),
     /// `score TASK PROOF WORKERS`: the sheet of a day, and its proof.
     Score(DayNames<'a>),
     /// `check TASK PROOF`: whether a proof is that of a day.
@@ -45,12 +47,12 @@ pub fn is_file_name(name: &Name) -> bool
     length >= 1 && length <= MOST_NAME_BYTES && are_name_bytes(bytes) && !is_dots(name.as_str())
 }
 
-/// `free FILE`.
-fn read_free(words: &[Name]) -> Option<Command<'_>>
-    ensures { option_map seen result ≡ free_form words.now }
+/// The name in `free FILE`, or behind another first word.
+fn read_file<'a>(first: &str, words: &'a [Name]) -> Option<&'a Name>
+    ensures { option_map (λ file. file.now) result ≡ file_form first.now words.now }
 {
     match words {
-        [word, file] if word.as_str() == "free" && is_file_name(file) => Some(Command::Free(file)),
+        [word, file] if word.as_str() == first && is_file_name(file) => Some(file),
         _ => None,
     }
 }
@@ -61,7 +63,9 @@ fn read_free(words: &[Name]) -> Option<Command<'_>>
 pub fn read_words(words: &[Name]) -> Option<Command<'_>>
     ensures { option_map seen result ≡ command_of words.now }
 {
-    read_free(words)
+    read_file("free", words)
+        .map(Command::Free)
+        .or_else(|| read_file("triangle", words).map(Command::Triangle))
         .or_else(|| read_score(words).map(Command::Score))
         .or_else(|| read_check(words).map(Command::Check))
 }

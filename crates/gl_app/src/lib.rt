@@ -4,6 +4,7 @@
 
 mod answer;
 mod appending;
+mod best;
 mod check;
 mod checking;
 mod command;
@@ -13,6 +14,7 @@ mod free;
 mod halt;
 mod line;
 mod listed;
+mod of_file;
 mod program;
 mod refusal;
 mod run;
@@ -21,6 +23,7 @@ mod scoring;
 mod seeing;
 mod status;
 mod texts;
+mod triangle;
 
 pub use program::run_program;
 pub use run::run_single;

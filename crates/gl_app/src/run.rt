@@ -11,7 +11,7 @@ ghost use Rattle.gl_app.specs.Words.{command_of};
 use crate::answer::Answer;
 use crate::check::check;
 use crate::command::{Command, read_words};
-use crate::free::free;
+use crate::of_file::{Course, answer_of_file};
 use crate::score::score;
 use crate::status::Status;
 use crate::texts::usage;
@@ -39,7 +39,8 @@ fn answer_to_command<D: Desk>(
         ≡ map (λ s. steward_rules (opening s) (fed s) (owed s)) stewards.old.items }
 {
     match command {
-        Command::Free(file) => free(alloc, desk, file),
+        Command::Free(file) => answer_of_file(alloc, desk, Course::Free, file),
+        Command::Triangle(file) => answer_of_file(alloc, desk, Course::Triangle, file),
         Command::Score(day) => score(alloc, desk, day, stewards),
         Command::Check(day) => check(alloc, desk, day),
     }

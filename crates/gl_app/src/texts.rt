@@ -1,5 +1,5 @@
 ghost use Rattle.std.specs.Prelude.{◌≡◌, ◌++◌, IfOk, OnOk};
-ghost use Rattle.gl_app.specs.Texts.{free_text, spaced, usage_line};
+ghost use Rattle.gl_app.specs.Texts.{distance_text, no_flight, spaced, usage_line};
 
 use gl_text::{push_fixed, push_u64};
 use std::alloc::{AllocError, Global};
@@ -29,13 +29,26 @@ fn push_spaced(text: &mut Vec<u8>, numbers: &[u32]) -> Result<(), AllocError>
     Ok(())
 }
 
-/// The two lines of a free distance: its total in centimetres, as metres, and the numbers of its
-/// fixes.
-#[tactic(auto, unfolding(crate::specs::Texts::free_text))]
-pub fn free_lines(alloc: Global, total: u64, fixes: &[u32]) -> Result<Vec<u8>, AllocError>
-    ensures { IfOk result (λ text. text.items ≡ free_text total fixes.now) }
+/// The line where no choice of fixes is legal.
+pub fn no_flight(alloc: Global) -> Result<Vec<u8>, AllocError>
+    ensures { IfOk result (λ line. line.items ≡ no_flight) }
 {
-    let mut text = Vec::from_slice(alloc, b"FREE ")?;
+    Vec::from_slice(alloc, b"NO FLIGHT\n")
+}
+
+/// The two lines of a distance behind a word: its total in centimetres, as metres, and the numbers
+/// of its fixes.
+#[tactic(auto, unfolding(crate::specs::Texts::distance_text))]
+pub fn distance_lines(
+    alloc: Global,
+    word: &str,
+    total: u64,
+    fixes: &[u32],
+) -> Result<Vec<u8>, AllocError>
+    ensures { IfOk result (λ text. text.items ≡ distance_text word.now total fixes.now) }
+{
+    let mut text = Vec::from_slice(alloc, word.as_bytes())?;
+    text.push(b' ')?;
     push_fixed(&mut text, total, METRE_PLACES)?;
     text.extend_from_slice(b" m\nFIXES")?;
     push_spaced(&mut text, fixes)?;

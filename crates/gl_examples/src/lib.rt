@@ -20,3 +20,5 @@ mod setting;
 mod status;
 #[cfg(test)]
 mod system;
+#[cfg(test)]
+mod triangle;

@@ -1,17 +1,32 @@
-use Rattle.std.proofs.Common.{List, Option, ℕ}
-use Rattle.gl_desk.specs.Desk.{IsSeenIn}
+use Rattle.std.proofs.Common.{List, None, Option, Result, ℕ}
+use Rattle.std.specs.Prelude.{IfOk}
+use Rattle.gl_desk.specs.Answers.{OnlyReads, stop_of}
+use Rattle.gl_desk.specs.Desk.{IsSeenIn, Told}
+use Rattle.gl_desk.specs.declared.error.DeskError.{DeskError}
+use Rattle.gl_igc.specs.Reading.{Reading}
+use Rattle.gl_app.specs.declared.answer.Answer as code
 use Rattle.gl_app.specs.Answer.{answer_of, answer_with}
+use Rattle.gl_app.specs.Appending.{HasGiven}
 use Rattle.gl_app.specs.Check.{IsCheck}
 use Rattle.gl_app.specs.DayNames.{names_seen}
-use Rattle.gl_app.specs.Free.{IsFree}
+use Rattle.gl_app.specs.Free.{IsFreeText}
+use Rattle.gl_app.specs.OfFile.{IsOfFile}
+use Rattle.gl_app.specs.Triangle.{IsTriangleText}
 use Rattle.gl_app.proofs.Commanded.{reads_right}
 use Rattle.gl_app.proofs.run.answer_to_command.Goals as goal
 
+-- a command of one recording, which only reads
+file_right : (IsText : Reading → List ℕ → Type 0) (file : List ℕ) (x y : Told) (result : Result code.Answer DeskError) → IfOk result (λ answer. (seen : Option (List ℕ)) × IsSeenIn x.folder file seen × IsOfFile IsText file seen (answer_of answer)) → OnlyReads (stop_of result) x y → IfOk result (λ answer. (text : List ℕ) × ((seen : Option (List ℕ)) × IsSeenIn x.folder file seen × IsOfFile IsText file seen (answer_with answer text)) × HasGiven None text x y)
+file_right IsText file x y result right reads =
+    reads_right (λ answer. (seen : Option (List ℕ)) × IsSeenIn x.folder file seen × IsOfFile IsText file seen (answer_of answer)) (λ answer text. (seen : Option (List ℕ)) × IsSeenIn x.folder file seen × IsOfFile IsText file seen (answer_with answer text)) x y result (λ answer right. right) right reads
+
 pub returns-in-Free-clause-right : goal.returns-in-Free-clause-right
 returns-in-Free-clause-right g c =
-    let folder = (g.D.Desk.told c.args.desk.now).folder in
-    let file = c.in-Free.file.now in
-    rw c.in-Free.is (reads_right (λ answer. (seen : Option (List ℕ)) × IsSeenIn folder file seen × IsFree file seen (answer_of answer)) (λ answer text. (seen : Option (List ℕ)) × IsSeenIn folder file seen × IsFree file seen (answer_with answer text)) (g.D.Desk.told c.args.desk.now) (g.D.Desk.told c.free.new.desk) c.free.result (λ answer right. right) c.free.ensures.right c.free.ensures.reads)
+    rw c.in-Free.is (file_right IsFreeText c.in-Free.file.now (g.D.Desk.told c.args.desk.now) (g.D.Desk.told c.answer_of_file.new.desk) c.answer_of_file.result c.answer_of_file.ensures.right c.answer_of_file.ensures.reads)
+
+pub returns-in-Triangle-clause-right : goal.returns-in-Triangle-clause-right
+returns-in-Triangle-clause-right g c =
+    rw c.in-Triangle.is (file_right IsTriangleText c.in-Triangle.file.now (g.D.Desk.told c.args.desk.now) (g.D.Desk.told c.answer_of_file-in-Triangle.new.desk) c.answer_of_file-in-Triangle.result c.answer_of_file-in-Triangle.ensures.right c.answer_of_file-in-Triangle.ensures.reads)
 
 pub returns-in-Score-clause-right : goal.returns-in-Score-clause-right
 returns-in-Score-clause-right g c = rw c.in-Score.is c.score.ensures.right

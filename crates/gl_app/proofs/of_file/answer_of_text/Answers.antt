@@ -1,5 +1,5 @@
 use Rattle.gl_app.proofs.NoTask.{never_of_another_day}
-use Rattle.gl_app.proofs.free.free_of_text.Goals as goal
+use Rattle.gl_app.proofs.of_file.answer_of_text.Goals as goal
 
 pub unreachable-requires : goal.unreachable-requires
 unreachable-requires c =

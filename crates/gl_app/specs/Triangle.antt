@@ -1,0 +1,29 @@
+-- The right answer of the triangle of a file.
+use Rattle.std.specs.Prelude.{◌≡◌, ℕ, ◌-◌, ◌⊎◌, List, length, Option, codes}
+use Rattle.gl_igc.specs.declared.fix.Fix.{Fix}
+use Rattle.gl_igc.specs.Reading.{Reading}
+use Rattle.gl_goal.specs.Rule.{Rule, HasNoLegal}
+use Rattle.gl_goal.specs.Triangle.{triangle_goal}
+use Rattle.gl_app.specs.Answer.{Answer}
+use Rattle.gl_app.specs.Best.{IsBestText, OfFixes}
+use Rattle.gl_app.specs.OfFile.{IsOfFile}
+use Rattle.gl_app.specs.Texts.{no_flight}
+
+-- the goal over all fixes of a recording, which have to close to at most 1,000 m
+abbrev pub whole_triangle_goal : List Fix → Rule
+whole_triangle_goal fixes = triangle_goal fixes 0 (length fixes - 1) 100_000
+
+-- the text has the greatest triangle, or says that no triangle is legal
+abbrev pub IsTriangleOf : Rule → List ℕ → Type 0
+IsTriangleOf rule said =
+    IsBestText rule (codes "TRIANGLE") said ⊎ (HasNoLegal rule × (said ≡ no_flight))
+
+-- The text has the greatest triangle of the recording and legal fixes that reach it, or says that
+-- it has none.
+abbrev pub IsTriangleText : Reading → List ℕ → Type 0
+IsTriangleText reading said =
+    OfFixes reading (λ fixes. IsTriangleOf (whole_triangle_goal fixes) said)
+
+-- the answer for a file and what the tests saw of it
+abbrev pub IsTriangle : List ℕ → Option (List ℕ) → Answer → Type 0
+IsTriangle = IsOfFile IsTriangleText
