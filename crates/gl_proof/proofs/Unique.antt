@@ -2,16 +2,20 @@
 use Rattle.std.proofs.Common.{◌≡◌, ◌∙◌, sym, ap, refl, subst, ℕ, ◌+◌, ◌^◌, ◌<◌, inl, inr, List, [], ◌∷◌, ◌++◌, length, get_or, map, append_assoc, Option, Some, None, arith}
 use Rattle.std.specs.Fmt.{decimal}
 use Rattle.std.specs.List.{flat_map}
-use Rattle.std.specs.Prelude.{All, MatchOption, codes, min}
+use Rattle.std.proofs.Common.{Bor}
+use Rattle.std.specs.Prelude.{All, IfOk, MatchOption, Result, Ok, Err, codes, min}
 use Rattle.std.proofs.lemmas.Bool.{false≢true}
 use Rattle.std.proofs.lemmas.List.{append-nil, append_cancel_left, get_or_at, length-append}
 use Rattle.std.proofs.lemmas.List.Elements.{All-head, All-tail}
+use Rattle.gl_box.specs.declared.closed.Closed.{Closed}
 use Rattle.gl_box.specs.declared.closed.Why.{Why}
+use Rattle.gl_box.specs.Cell.{spans_of}
 use Rattle.gl_box.specs.declared.closed.Why.TheVariants.{Disordered, Shut, Bound}
 use Rattle.gl_proof.specs.declared.claim.ClaimKind.{ClaimKind}
 use Rattle.gl_proof.specs.declared.error.ProofError.{ProofError}
 use Rattle.gl_proof.specs.declared.error.ProofError.TheVariants.{Heading, Line as WrongLine, Cut, Memory}
 use Rattle.gl_proof.specs.Claim.{IsStatement, Statement, box_line, claim_lines, fix_lines, spelled}
+use Rattle.gl_proof.specs.Fronts.{Adds, AddsBox, AreSpansAt}
 use Rattle.gl_proof.specs.Line.{AreFixes, Line, HeadingLine, ClaimLine, FixLine, BoxLine, EndLine, IsLine, IsSpan, ended, kind_word, may_follow, reason_word, spaced, span_word, total_word}
 use Rattle.gl_proof.specs.Refusal.{Follow, HasLine, IsCut, IsFirstWrong, IsHeadless, IsRefused, NoneFollows, RunsThrough, last_line}
 use Rattle.gl_proof.specs.Text.{IsTextOf, lines_of, proof_text}
@@ -259,3 +263,24 @@ lines_injective (s ∷ ss) (t ∷ ts) each_s each_t same =
 pub text_unique : (text : List ℕ) (ss ts : List Statement) → IsTextOf text ss → IsTextOf text ts → ss ≡ ts
 text_unique text ss ts one other =
     lines_injective ss ts one.each other.each (stuck_same text (lines_of ss) (lines_of ts) [] [] (text_stuck text ss one) (text_stuck text ts other)).0
+
+-- with the word of a box and the letter of its reason before them, spans are the line of a box
+pub box_adds : (text words tail : List ℕ) (why : Why) (before after : List Closed) (taken : Option (Bor (List ℕ))) → text ≡ codes "BOX " ++ words → words ≡ reason_word why ++ tail → Adds (AreSpansAt tail) why before after taken → AddsBox text before after taken
+box_adds text words tail why before after None front letter adds = (
+  λ box rest at.
+      let line : words ≡ reason_word box.1 ++ (spaced (map span_word box.0) ++ 10 ∷ rest) = append_cancel_left (codes "BOX ") _ _ (sym front ∙ at.1 ∙ box_is box.1 box.0 rest) in
+      adds.0 box.0 rest (record { are_spans = at.0; is = (reason_unique why box.1 tail _ (sym letter ∙ line)).1 }),
+  adds.1,
+)
+box_adds text words tail why before after (Some rest) front letter adds = (
+  record { cell = adds.0; why = why },
+  (
+    adds.1.are_spans,
+    front ∙ ap (λ (l : List ℕ). codes "BOX " ++ l) letter ∙ ap (λ (l : List ℕ). codes "BOX " ++ (reason_word why ++ l)) adds.1.is ∙ sym (box_is why (spans_of adds.0) rest.now),
+  ),
+  adds.2,
+)
+
+pub box_added : {E : Type 0} (text words tail : List ℕ) (why : Why) (before after : List Closed) (result : Result (Option (Bor (List ℕ))) E) → text ≡ codes "BOX " ++ words → words ≡ reason_word why ++ tail → IfOk result (Adds (AreSpansAt tail) why before after) → IfOk result (AddsBox text before after)
+box_added text words tail why before after (Ok taken) front letter adds = box_adds text words tail why before after taken front letter adds
+box_added text words tail why before after (Err error) front letter adds = adds

@@ -3,7 +3,11 @@ use Rattle.std.specs.Prelude.{◌≡◌, ℕ, ◌^◌, ◌<◌, Bool, false, IsT
 use Rattle.std.specs.Char.{is_ascii_digit}
 use Rattle.std.specs.Fmt.{decimal}
 use Rattle.std.proofs.Common.{Bor}
+use Rattle.gl_box.specs.declared.cell.Cell.{Cell}
+use Rattle.gl_box.specs.declared.closed.Closed.{Closed}
 use Rattle.gl_box.specs.declared.closed.Why.{Why}
+use Rattle.gl_box.specs.Cell.{spans_of}
+use Rattle.gl_box.specs.Closed.{box_of}
 use Rattle.gl_proof.specs.declared.claim.ClaimKind.{ClaimKind}
 use Rattle.gl_proof.specs.Claim.{box_line}
 use Rattle.gl_proof.specs.Line.{AreFixes, AreSpans, ClaimLine, IsLine, IsSpan, ended, kind_word, reason_word, spaced, span_word, total_word}
@@ -50,6 +54,23 @@ IsReasonAt text why rest = text ≡ reason_word why ++ rest
 -- the line of a box
 abbrev pub IsBoxAt : List ℕ → List (ℕ × ℕ) × Why → List ℕ → Type 0
 IsBoxAt text box rest = AreSpans box.0 × (text ≡ ended (box_line box) ++ rest)
+
+-- A reader added the box that stands at the front of a text to a list and left the rest, or nothing
+-- of the kind stands there and the list stays.
+abbrev pub Adds : (List (ℕ × ℕ) → List ℕ → Type 0) → Why → List Closed → List Closed
+    → Option (Bor (List ℕ)) → Type 0
+Adds StandsAt why before after None =
+    ((spans : _) (rest : List ℕ) → StandsAt spans rest → ⊥) × (after ≡ before)
+Adds StandsAt why before after (Some rest) =
+    (cell : Cell) × StandsAt (spans_of cell) rest.now
+    × (after ≡ before ++ record { cell = cell; why = why } ∷ [])
+
+-- the same for the line of a box
+abbrev pub AddsBox : List ℕ → List Closed → List Closed → Option (Bor (List ℕ)) → Type 0
+AddsBox text before after None =
+    ((box : _) (rest : List ℕ) → IsBoxAt text box rest → ⊥) × (after ≡ before)
+AddsBox text before after (Some rest) =
+    (closed : Closed) × IsBoxAt text (box_of closed) rest.now × (after ≡ before ++ closed ∷ [])
 
 -- the number of an entrant, and a space
 abbrev pub IsEntrantAt : List ℕ → List ℕ → List ℕ → Type 0

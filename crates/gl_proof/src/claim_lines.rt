@@ -1,4 +1,4 @@
-ghost use Rattle.std.specs.Prelude.{◌≡◌, ◌+◌, ◌*◌, ◌≤◌, ◌<◌, ◌↔◌, ℕ, List, length, map, min, IfOk, IfErr, IsTrue};
+ghost use Rattle.std.specs.Prelude.{◌≡◌, ◌+◌, ◌↔◌, ℕ, List, length, map, min, IfOk, IfErr, IsTrue};
 ghost use Rattle.gl_box.specs.Closed.{box_of};
 ghost use Rattle.gl_proof.specs.Claim.{fix_lines, statement_of};
 ghost use Rattle.gl_proof.specs.Number.{is_number};
@@ -8,18 +8,11 @@ ghost use Rattle.gl_proof.specs.Refusal.{HasLine};
 use crate::claim::Claim;
 use crate::error::ProofError;
 use crate::front::behind;
-use crate::line::{box_line_at, claim_line_at, fixes_at};
+use crate::line::{add_box_at, claim_line_at, fixes_at};
 use gl_box::Closed;
 use gl_desk::Name;
 use std::alloc::{AllocError, Global};
 use std::str::from_utf8;
-
-/// The fewest bytes of a box's line: its word, a letter, a span, two spaces and LF.
-const LEAST_LINE: usize = 10;
-
-/// How many bytes are gone over at a time when boxes are counted, so few that their lines fit a
-/// byte.
-const PIECE: usize = 128;
 
 /// The number of the line that stands so many lines later, as it is told.
 pub fn later(line: u32, lines: usize) -> u32
@@ -46,50 +39,14 @@ fn misfit(text: &[u8], line: u32) -> ProofError
     ProofError::Cut
 }
 
-/// How many lines end in a piece of a text, and whether a letter from E to N stands there. Such a
-/// letter stands in each line of a proof but those of boxes.
-fn look_over(piece: &[u8]) -> (u8, bool)
-    requires { length piece.now ≤ 255 }
-    ensures { result.0 ≤ length piece.now }
-{
-    let mut ends: u8 = 0;
-    let mut is_mixed = false;
-    for &byte in piece {
-        ends += u8::from(byte == b'\n');
-        is_mixed |= matches!(byte, b'E'..=b'N');
-    }
-    (ends, is_mixed)
-}
-
-/// About how many lines of boxes stand at the front of a text: as many at least where the text is
-/// that of a proof, and a few more at most. A line takes 10 bytes at least.
-fn count_boxes(text: &[u8]) -> usize
-    ensures { 10 * result ≤ length text.now }
-{
-    let mut count = 0;
-    let mut rest = text;
-    'pieces: while !rest.is_empty() {
-        let (piece, after) = rest.split_at(rest.len().min(PIECE));
-        let (ends, is_mixed) = look_over(piece);
-        count += usize::from(ends);
-        if is_mixed {
-            break;
-        }
-        rest = after;
-    }
-    count.min(text.len() / LEAST_LINE)
-}
-
-/// The boxes whose lines stand at the front of a text, and what follows them. They are counted
-/// first, so that their list takes the memory of its boxes and of a few more at most. The only
-/// error is want of memory.
+/// The boxes whose lines stand at the front of a text, and what follows them. The only error is
+/// want of memory.
 fn boxes_at(alloc: Global, text: &[u8]) -> Result<(Vec<Closed>, &[u8]), AllocError>
     ensures { IfOk result (λ read. AreBoxesAt text.now (map box_of read.0.items) read.1.now) }
 {
-    let mut cells = Vec::with_capacity(alloc, count_boxes(text))?;
+    let mut cells = Vec::new(alloc);
     let mut rest = text;
-    'boxes: while let Some((closed, after)) = box_line_at(rest) {
-        cells.push(closed)?;
+    'boxes: while let Some(after) = add_box_at(&mut cells, rest)? {
         rest = after;
     }
     Ok((cells, rest))

@@ -6,6 +6,9 @@ ghost use Rattle.gl_proof.specs.Fronts.{IsEntrantAt, IsNumberAt, IsSpanAt, Reads
 use gl_box::Span;
 use gl_text::read_u64;
 
+/// The bytes of a common number, at most eight digits, and of what follows it.
+const COMMON_ROOM: usize = 9;
+
 /// What follows a front of a text, where the text has that front.
 #[inline]
 pub fn behind<'a>(text: &'a [u8], front: &[u8]) -> Option<&'a [u8]>
@@ -55,27 +58,36 @@ fn longer(number: u32, digit: u8) -> Option<u32>
 }
 
 /// The number at the front of a text, with all the digits there, and what follows it, for most of
-/// the numbers from 1 to 999,999,999. It finds them sooner than `any_number_at`.
+/// the numbers below 100,000,000 that don't stand at the text's end. It finds them sooner than
+/// `any_number_at`: since the text is long enough, no step has to look for its end.
+#[inline(always)]
 fn common_number_at(text: &[u8]) -> Option<(u32, &[u8])>
     ensures { IfSome result (λ read. IsNumberAt (2 ^ 32) text.now read.0 read.1.now) }
 {
+    if text.len() < COMMON_ROOM {
+        return None;
+    }
     let (&first, mut rest) = text.split_first()?;
-    if !first.is_ascii_digit() || first == b'0' {
+    if !first.is_ascii_digit() {
         return None;
     }
     let mut number = u32::from(first - b'0');
-    'digits: while let Some((&digit, after)) = rest.split_first() {
+    'digits: for _ in 1..COMMON_ROOM {
+        let (&digit, after) = rest.split_first()?;
         if !digit.is_ascii_digit() {
-            break;
+            return Some((number, rest));
+        }
+        if number == 0 {
+            return None;
         }
         number = longer(number, digit)?;
         rest = after;
     }
-    Some((number, rest))
+    None
 }
 
 /// The number of 32 bits at the front of a text, with all the digits there, and what follows it.
-#[inline]
+#[inline(always)]
 pub fn short_number_at(text: &[u8]) -> Option<(u32, &[u8])>
     ensures { Reads (λ number. number) (IsNumberAt (2 ^ 32) text.now) result }
 {
@@ -87,6 +99,7 @@ pub fn short_number_at(text: &[u8]) -> Option<(u32, &[u8])>
 
 /// The same number as `short_number_at` finds, whatever its digits: slower, for what
 /// `common_number_at` passes over.
+#[inline(never)]
 fn any_number_at(text: &[u8]) -> Option<(u32, &[u8])>
     ensures { Reads (λ number. number) (IsNumberAt (2 ^ 32) text.now) result }
 {
@@ -98,6 +111,7 @@ fn any_number_at(text: &[u8]) -> Option<(u32, &[u8])>
 }
 
 /// The span at the front of a text, and what follows it.
+#[inline]
 pub fn span_at(text: &[u8]) -> Option<(Span, &[u8])>
     ensures { Reads ends (IsSpanAt text.now) result }
 {

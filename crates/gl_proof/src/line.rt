@@ -1,13 +1,14 @@
-ghost use Rattle.std.specs.Prelude.{◌≡◌, ◌≤◌, ℕ, List, length, IfOk};
-ghost use Rattle.gl_box.specs.Cell.{spans_of};
-ghost use Rattle.gl_box.specs.Closed.{box_of};
-ghost use Rattle.gl_proof.specs.Fronts.{AreFixesAt, AreSpansAt, IsBoxAt, IsClaimAt, IsKindAt, IsReasonAt, IsTotalAt, Reads};
+ghost use Rattle.std.specs.Prelude.{◌≡◌, ◌≢◌, ◌≤◌, ℕ, List, [], ◌∷◌, ◌++◌, length, IfOk, OnOk, MatchOption, codes};
+ghost use Rattle.gl_proof.specs.Fronts.{AreFixesAt, Adds, AddsBox, AreSpansAt, IsClaimAt, IsKindAt, IsReasonAt, IsTotalAt, Reads};
 ghost use Rattle.gl_proof.specs.ClaimFront.{said_of};
 
 use crate::claim::ClaimKind;
 use crate::front::{behind, entrant_at, number_at, short_number_at, span_at};
 use gl_box::{Cell, Closed, MOST_AXES, Span, Why};
 use std::alloc::{AllocError, Global};
+
+/// A full list of boxes gets room for so many more, and for a quarter of those that it has.
+const LEAST_ROOM: usize = 64;
 
 /// What the first line of a claim says.
 #[derive(Clone, Copy, Debug)]
@@ -34,38 +35,82 @@ fn reason_at(text: &[u8]) -> Option<(Why, &[u8])>
     None
 }
 
-/// The cell whose spans stand at the front of a text, each behind a space and LF behind the last
-/// one, and what follows.
-fn cell_at(text: &[u8]) -> Option<(Cell, &[u8])>
-    ensures { Reads spans_of (AreSpansAt text.now) result }
+/// Appends a box. The list has room for a quarter more boxes than it needs at most, and for a few.
+/// The only error is want of memory.
+#[inline]
+fn add_box(cells: &mut Vec<Closed>, closed: Closed) -> Result<(), AllocError>
+    ensures { OnOk result (cells.new.items ≡ cells.old.items ++ closed ∷ []) }
+{
+    if cells.len() == cells.capacity() {
+        cells.reserve_exact(cells.len() / 4 + LEAST_ROOM)?;
+    }
+    cells.push(closed)?;
+    Ok(())
+}
+
+/// Appends the box with a reason and the spans that stand at the front of a text, each behind a
+/// space and LF behind the last one, and hands out what follows. The only error is want of memory.
+fn add_spans_at<'a>(
+    cells: &mut Vec<Closed>,
+    why: Why,
+    text: &'a [u8],
+) -> Result<Option<&'a [u8]>, AllocError>
+    ensures { IfOk result (Adds (AreSpansAt text.now) why cells.old.items cells.new.items) }
 {
     let mut spans = [Span { lo: 0, hi: 0 }; MOST_AXES];
     let mut axes = 0;
     let mut rest = text;
     'axes: while let Some(word) = behind(rest, b" ") {
         if axes == MOST_AXES {
-            return None;
+            return Ok(None);
         }
-        let (span, after) = span_at(word)?;
+        let Some((span, after)) = span_at(word) else {
+            return Ok(None);
+        };
         spans[axes] = span;
         axes += 1;
         rest = after;
     }
-    let rest = behind(rest, b"\n")?;
+    let Some(after) = behind(rest, b"\n") else {
+        return Ok(None);
+    };
     if axes == 0 {
-        return None;
+        return Ok(None);
     }
     let axes = axes as u8;
-    Some((Cell { axes, spans }, rest))
+    let cell = Cell { axes, spans };
+    add_box(cells, Closed { cell, why })?;
+    Ok(Some(after))
 }
 
-/// The box whose line stands at the front of a text, and what follows.
-pub fn box_line_at(text: &[u8]) -> Option<(Closed, &[u8])>
-    ensures { Reads box_of (IsBoxAt text.now) result }
+/// What follows the word of a box and its space, where the text begins with them. It compares byte
+/// by byte, as the compiler does best.
+#[inline]
+fn behind_box(text: &[u8]) -> Option<&[u8]>
+    ensures { MatchOption result ((rest : List ℕ) → text.now ≢ codes "BOX " ++ rest)
+        (λ rest. text.now ≡ codes "BOX " ++ rest.now) }
 {
-    let (why, rest) = reason_at(behind(text, b"BOX ")?)?;
-    let (cell, rest) = cell_at(rest)?;
-    Some((Closed { cell, why }, rest))
+    let rest = behind(text, b"B")?;
+    let rest = behind(rest, b"O")?;
+    let rest = behind(rest, b"X")?;
+    behind(rest, b" ")
+}
+
+/// Appends the box whose line stands at the front of a text, and hands out what follows. The only
+/// error is want of memory.
+pub fn add_box_at<'a>(
+    cells: &mut Vec<Closed>,
+    text: &'a [u8],
+) -> Result<Option<&'a [u8]>, AllocError>
+    ensures { IfOk result (AddsBox text.now cells.old.items cells.new.items) }
+{
+    let Some(words) = behind_box(text) else {
+        return Ok(None);
+    };
+    let Some((why, rest)) = reason_at(words) else {
+        return Ok(None);
+    };
+    add_spans_at(cells, why, rest)
 }
 
 /// The numbers of fixes at the front of a text, each behind a space and LF behind the last one, and

@@ -4,7 +4,7 @@ use Rattle.std.specs.Prelude.{All}
 use Rattle.gl_box.specs.Cell.{ends}
 use Rattle.gl_proof.specs.Fronts.{Stops}
 use Rattle.gl_proof.specs.Line.{IsSpan, spaced, span_word}
-use Rattle.gl_proof.proofs.line.cell_at.Given as goal
+use Rattle.gl_proof.proofs.line.add_spans_at.Given as goal
 
 -- the spans so far are read, and the others are those of no axis
 abbrev pub invariant-axes : goal.invariant-axes
