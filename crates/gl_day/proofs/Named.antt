@@ -1,5 +1,5 @@
 -- The fixes that a search found, and how many they are.
-use Rattle.std.proofs.Common.{◌≡◌, sym, subst, refl, ℕ, ◌<◌, ◌≤◌, List, length, Option, Some, None, arith}
+use Rattle.std.proofs.Common.{◌≡◌, sym, subst, refl, ℕ, ◌≤◌, List, length, Option, Some, None, arith}
 use Rattle.std.specs.Prelude.{◌↔◌, IsNone, IsSome}
 use Rattle.gl_goal.specs.Laws.Order.{length-chosen}
 use Rattle.gl_goal.specs.Rule.{IsGoal, IsLegal, IsOptimum, Rule}

@@ -1,14 +1,12 @@
 -- The totals of claims, one claim after another.
-use Rattle.std.proofs.Common.{◌≡◌, ◌∙◌, sym, ap, refl, ℕ, Bool, true, false, List, [], ◌∷◌, ◌++◌, Option, Some, None}
+use Rattle.std.proofs.Common.{◌≡◌, ◌∙◌, sym, ap, refl, ℕ, Bool, List, [], ◌∷◌, ◌++◌, Option, Some, None}
 use Rattle.std.specs.Prelude.{slice_get}
 use Rattle.std.specs.List.{filter_map}
 use Rattle.std.specs.Option.{option_or}
 use Rattle.std.proofs.lemmas.List.Elements.{filter_map-append}
 use Rattle.gl_proof.specs.declared.claim.ClaimKind.{ClaimKind}
-use Rattle.gl_proof.specs.declared.claim.ClaimKind.TheVariants.{Area, Out, Free, Triangle}
 use Rattle.gl_proof.specs.Claim.{Statement}
-use Rattle.gl_day.specs.declared.totals.Totals.{Totals}
-use Rattle.gl_day.specs.Totals.{AreTotals, claimed_total, is_distance, is_free, is_triangle, total_if}
+use Rattle.gl_day.specs.Totals.{claimed_total, total_if}
 
 first-append : (xs ys : List ℕ) → slice_get (xs ++ ys) 0 ≡ option_or (slice_get xs 0) (slice_get ys 0)
 first-append [] ys = refl

@@ -15,7 +15,6 @@ use Rattle.gl_judge.specs.declared.outcome.Window.{Window}
 use Rattle.gl_judge.specs.Claims.{AreExpected}
 use Rattle.gl_judge.specs.Marking.{IsMarked}
 use Rattle.gl_judge.specs.Outcome.{IsJudged}
-use Rattle.gl_points.specs.declared.performance.Performance.{Performance}
 use Rattle.gl_proof.specs.declared.claim.ClaimKind.{ClaimKind}
 use Rattle.gl_proof.specs.Claim.{Statement}
 use Rattle.gl_steward.specs.Penalty.{held_after, penalty}

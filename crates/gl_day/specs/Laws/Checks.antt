@@ -1,8 +1,7 @@
 -- What is expected of all entrants is checked entrant by entrant, and a proof of it is accepted.
-use Rattle.std.proofs.Common.{◌≡◌, ◌∙◌, sym, ap, subst, refl, ℕ, suc, ◌+◌, ◌<◌, ◌≤◌, List, [], ◌∷◌, ◌++◌, length, get_or, Option, Some, None, arith, append_assoc, ◌⊎◌, inl, inr}
+use Rattle.std.proofs.Common.{◌≡◌, ◌∙◌, ap, subst, refl, ℕ, suc, List, [], ◌∷◌, ◌++◌, length, Some, arith, append_assoc, inl, inr}
 use Rattle.std.specs.Prelude.{slice_get}
 use Rattle.std.specs.List.{AllZip}
-use Rattle.std.proofs.lemmas.List.{length-append}
 use Rattle.gl_check.proofs.Judged.{certificate_yes}
 use Rattle.gl_check.specs.declared.verdict.Verdict.{Verdict}
 use Rattle.gl_check.specs.declared.verdict.Verdict.TheVariants as verdict
@@ -14,7 +13,7 @@ use Rattle.gl_day.specs.declared.fault.Checked.TheVariants.{Accepted, Refused}
 use Rattle.gl_day.specs.declared.fault.Fault.{Fault}
 use Rattle.gl_day.specs.declared.fault.Fault.TheVariants.{Missing, Name, Fixes, Total, Extra, Place, Cell, Open, Surplus}
 use Rattle.gl_day.specs.declared.fault.NotProved.{NotProved}
-use Rattle.gl_day.specs.Checked.{AreProved, GoesOn, IsChecked, IsFault, IsFaultAt, IsNotProved, IsSaid, IsSurplus, Proceeds}
+use Rattle.gl_day.specs.Checked.{AreProved, GoesOn, IsChecked, IsFault, IsFaultAt, IsNotProved, IsSaid, Proceeds}
 use Rattle.gl_day.specs.Expected.{Proves}
 
 -- the first claim that is wrong stays it where more claims are expected behind

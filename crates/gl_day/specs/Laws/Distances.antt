@@ -1,14 +1,13 @@
 -- The claim for the distance of a flight has a total.
-use Rattle.std.proofs.Common.{◌≡◌, ◌∙◌, sym, ap, subst, refl, ℕ, ◌<◌, ◌≤◌, List, [], ◌∷◌, ◌++◌, Bool, true, false, Option, None, Some, arith, map}
-use Rattle.std.specs.Prelude.{IsTrue, IsSome, slice_get}
-use Rattle.std.specs.List.{AllZip, filter_map}
+use Rattle.std.proofs.Common.{◌≡◌, ◌∙◌, sym, ap, subst, refl, ℕ, List, [], ◌∷◌, ◌++◌, Bool, true, Option, None, Some, arith}
+use Rattle.std.specs.Prelude.{IsTrue, IsSome}
+use Rattle.std.specs.List.{AllZip}
 use Rattle.gl_airspace.specs.declared.volume.Airspace.{Airspace}
 use Rattle.gl_igc.specs.declared.recording.Recording.{Recording}
 use Rattle.gl_goal.specs.declared.any.AnyGoal.{AnyGoal}
 use Rattle.gl_goal.specs.AnyGoal.{any_goal-is_goal, any_rule}
-use Rattle.gl_goal.specs.Certificate.{IsCertificate}
 use Rattle.gl_goal.specs.Laws.Optimum.{certificate_optimum}
-use Rattle.gl_goal.specs.Rule.{IsGoal, IsLegal, IsOptimum, Rule}
+use Rattle.gl_goal.specs.Rule.{IsLegal, IsOptimum, Rule}
 use Rattle.gl_judge.specs.declared.outcome.Judged.{Judged}
 use Rattle.gl_judge.specs.declared.outcome.Judged.TheVariants.{Finished, Outlanded, NoStart}
 use Rattle.gl_judge.specs.Claims.{AreChoices, AreExpected, HasLegal, HaveLegal}
@@ -23,7 +22,7 @@ use Rattle.gl_task.specs.declared.task.Task.{Task}
 use Rattle.gl_day.specs.Expected.{Proves, expected_of}
 use Rattle.gl_judge.specs.Claimed.{rules_of_claims}
 use Rattle.gl_day.specs.Laws.Expected.{range_alone, some_judged}
-use Rattle.gl_day.specs.Totals.{claimed_total, is_distance, total_if}
+use Rattle.gl_day.specs.Totals.{claimed_total, is_distance}
 
 optimum_some : (rule : Rule) (total : Option ℕ) (tuple : List ℕ) → IsOptimum rule total → IsLegal rule tuple → IsSome total
 optimum_some rule None tuple optimum legal = absurd (optimum tuple legal)

@@ -1,13 +1,10 @@
 -- What is expected of a flight is one list of claims.
-use Rattle.std.proofs.Common.{◌≡◌, ◌∙◌, sym, ap, subst, refl, ℕ, ◌+◌, ◌-◌, ◌<◌, ◌≤◌, List, [], ◌∷◌, ◌++◌, take, arith, rules, Bool, true, ◌⊎◌, inl, inr}
+use Rattle.std.proofs.Common.{◌≡◌, ◌∙◌, sym, ap, subst, refl, ℕ, ◌-◌, ◌<◌, ◌≤◌, List, [], ◌∷◌, ◌++◌, take, arith, rules, Bool, true, inl, inr}
 use Rattle.std.specs.Prelude.{nat_lt, false, IsTrue, ◌&&◌, if◌then◌else◌}
 use Rattle.std.proofs.lemmas.Bool.{cases_lt}
 use Rattle.gl_airspace.specs.declared.volume.Airspace.{Airspace}
-use Rattle.gl_airspace.specs.declared.volume.Volume.{Volume}
 use Rattle.gl_igc.specs.declared.fix.Fix.{Fix}
 use Rattle.gl_igc.specs.declared.recording.Recording.{Recording}
-use Rattle.gl_goal.specs.Area.{area_goal}
-use Rattle.gl_goal.specs.Out.{out_goal}
 use Rattle.gl_goal.specs.Rule.{Rule}
 use Rattle.gl_judge.specs.declared.outcome.Judged.{Judged}
 use Rattle.gl_judge.specs.declared.outcome.Judged.TheVariants.{Finished, Outlanded, NoStart}
@@ -15,7 +12,7 @@ use Rattle.gl_judge.specs.declared.outcome.Window.{Window}
 use Rattle.gl_judge.specs.Choices.{IsOutChoice, area_choice, areas_choice, racing_choice}
 use Rattle.gl_judge.specs.Claims.{AreChoices, AreExpected, list_claims}
 use Rattle.gl_judge.specs.Greatest.{IsGreatest, IsLeast}
-use Rattle.gl_judge.specs.JudgedFixes.{IsInRange, IsJudgedRange}
+use Rattle.gl_judge.specs.JudgedFixes.{IsJudgedRange}
 use Rattle.gl_judge.specs.Marking.{is_chosen}
 use Rattle.gl_judge.specs.Outcome.{Completes, IsCompleteStart, IsOutcome, IsFinished, IsOutlanded}
 use Rattle.gl_judge.specs.Starts.{IsStart}

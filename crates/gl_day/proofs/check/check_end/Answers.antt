@@ -1,4 +1,4 @@
-use Rattle.std.proofs.Common.{◌∙◌, sym, ap, subst, arith, ℕ}
+use Rattle.std.proofs.Common.{sym, arith}
 use Rattle.std.proofs.lemmas.List.{length-map}
 use Rattle.gl_proof.specs.Claim.{statement_of}
 use Rattle.gl_day.specs.Laws.Checks.{zip_long}
