@@ -17,11 +17,7 @@ use std::alloc::Global;
 
 /// What is said of a proof by the files of its day: that its claims are accepted, or the first that
 /// is wrong.
-pub fn check_proof<D: Desk>(
-    alloc: Global,
-    desk: &mut D,
-    day: DayNames<'_>,
-) -> Result<Checked, Halt>
+pub fn check_proof<D: Desk>(alloc: Global, desk: &mut D, day: DayNames<'_>) -> Result<Checked, Halt>
     ensures checked { IsTested
         (IsProofChecked (D.told desk.old).folder (names_seen day.entry)) result }
     ensures reads { OnlyReads (halt_stop result) (D.told desk.old) (D.told desk.new) }

@@ -1,9 +1,10 @@
 use crate::folder::{
-    CLAIM, EAST, HEAD, HOME, NORTH, RACE, SHEET, START, expect_day, joined, make_file, race,
-    replaced, run_with,
+    CLAIM, EAST, File, HEAD, HOME, NORTH, RACE, SHEET, START, expect, expect_day, joined,
+    make_file, race, replaced, run_with,
 };
 use gl_app::Status;
 use gl_steward::Steward;
+use std::alloc::{AllocError, Global};
 use std::test::Fail;
 
 /// The line of columns of each sheet.
@@ -50,19 +51,42 @@ fn recordings_of_other_days(rt: HostRuntime) -> Result<(), Fail> {
     expect_day(&rt, rt.alloc(), files, sheet, "", "ACCEPTED 0\n")
 }
 
-/// A flight with one fix before the start: its free distance is 0, which isn't none.
-#[test]
-fn free_distance_of_one_fix(rt: HostRuntime) -> Result<(), Fail> {
+/// The folder of the race with this list asked for, whose only entrant Eve has one fix at the origin
+/// before the start opens.
+fn one_fix(alloc: Global, list: &str) -> Result<Vec<File>, AllocError> {
     let (front, _) = RACE.split_once("[[entrant]]").unwrap_or((RACE, ""));
-    let listed = replaced(rt.alloc(), front, "[start]", "lists = [\"free\"]\n[start]")?;
+    let lists = joined(alloc, &["lists = [\"", list, "\"]\n[start]"])?;
+    let listed = replaced(alloc, front, "[start]", &lists)?;
     let eve = "[[entrant]]\nnumber = \"EE\"\nname = \"Eve\"\nhandicap = 1000\nfile = \"EE.IGC\"\n";
     let one = "B1000000000000N00000000EA0100001000\n";
-    let mut files = Vec::new(rt.alloc());
-    files.push(make_file(rt.alloc(), "DAY.TOML", &[listed.as_str(), eve])?)?;
-    files.push(make_file(rt.alloc(), "EE.IGC", &[HEAD, one])?)?;
+    let mut files = Vec::new(alloc);
+    files.push(make_file(alloc, "DAY.TOML", &[listed.as_str(), eve])?)?;
+    files.push(make_file(alloc, "EE.IGC", &[HEAD, one])?)?;
+    Ok(files)
+}
+
+/// The free distance of a flight of one fix is 0, which isn't none.
+#[test]
+fn free_distance_of_one_fix(rt: HostRuntime) -> Result<(), Fail> {
+    let files = one_fix(rt.alloc(), "free")?;
     let sheet = joined(rt.alloc(), &[COLUMNS, "1,EE,Eve,NOSTART,0,,0,0,0.00,\n"])?;
     let claim = "CLAIM EE FREE 0\nFIX 0 0 0 0 0\nBOX B 0-0 0-0 0-0 0-0 0-0\n";
     expect_day(&rt, rt.alloc(), files, &sheet, claim, "ACCEPTED 1\n")
+}
+
+/// One fix is no triangle, which its one box shows by its legs, and doesn't by a bound.
+#[test]
+fn no_triangle_of_one_fix(rt: HostRuntime) -> Result<(), Fail> {
+    let sheet = joined(rt.alloc(), &[COLUMNS, "1,EE,Eve,NOSTART,0,,0,0,,-\n"])?;
+    let claim = "CLAIM EE TRIANGLE NONE\nBOX S 0-0 0-0 0-0\n";
+    let files = one_fix(rt.alloc(), "triangle")?;
+    expect_day(&rt, rt.alloc(), files, &sheet, claim, "ACCEPTED 1\n")?;
+    let mut files = one_fix(rt.alloc(), "triangle")?;
+    let bound = "GLIDEPROOF 1\nCLAIM EE TRIANGLE NONE\nBOX B 0-0 0-0 0-0\nEND\n";
+    files.push(make_file(rt.alloc(), "P.TXT", &[bound])?)?;
+    let (line, said) = ("check DAY.TOML P.TXT", "NOT PROVED 1 CELL 1\n");
+    expect(&rt, rt.alloc(), line, &files, Status::NotProved, said)?;
+    Ok(())
 }
 
 /// Airspace over the north takes that fix and all behind it away from the first entrant, so nobody

@@ -72,11 +72,6 @@ fn tasks_are_refused(rt: HostRuntime) -> Result<(), Fail> {
         ),
         (
             "[start]",
-            "lists = [\"triangle\"]\n[start]",
-            "REFUSED TASK 9 6.0.0 DAY.TOML\n",
-        ),
-        (
-            "[start]",
             "airspace = \"AIR.TXT\"\n[start]",
             "REFUSED FILE 1 - AIR.TXT\n",
         ),
