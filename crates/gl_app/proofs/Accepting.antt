@@ -37,7 +37,7 @@ use Rattle.gl_app.specs.DayFiles.{IfListed, IfPassed, IsAirspaceFor, IsAirspaceO
 use Rattle.gl_app.specs.Listed.{most_proof_bytes}
 use Rattle.gl_app.specs.Score.{IsDayScored, IsScore, Scored, statements_of_all}
 use Rattle.gl_app.specs.Run.{ChecksScored, IsRight}
-use Rattle.gl_app.specs.Words.{Check, Command, DayNames, Free, Score, Triangle}
+use Rattle.gl_app.specs.Words.{Check, Command, DayNames, Demo, Free, Score, Triangle}
 use Rattle.gl_app.proofs.DayPasses.{PassedDay, check_parts, check_with, day_passed, listed_ok, listed_then, new_ok, ok_or_err}
 use Rattle.gl_app.proofs.Flights.{all_asked}
 use Rattle.gl_goal.specs.Laws.Chain.{AllZip-length}
@@ -68,7 +68,7 @@ pub record EndedScore (before : FilesByName) (stewards : List StewardRules) (nam
   pub passed : PassedDay (Some before) names.task bytes day
   pub scored : IsDayScored (Some before) day stewards answer
 
-score_ended : (before : FilesByName) (stewards : List StewardRules) (names : DayNames) (answer : Answer) → IsScore (Some before) stewards names answer → answer.status ≡ status.Done → EndedScore before stewards names answer
+pub score_ended : (before : FilesByName) (stewards : List StewardRules) (names : DayNames) (answer : Answer) → IsScore (Some before) stewards names answer → answer.status ≡ status.Done → EndedScore before stewards names answer
 score_ended before stewards names answer (Ok day, (seen, there, is), scored) done =
     let ok = listed_ok {X = DayFiles} names.task seen day _ is in
     let proof = ok.2 in
@@ -236,3 +236,4 @@ right_accepted (Some files) stewards (Some (Free file)) answer checks right = ab
 right_accepted (Some files) stewards (Some (Triangle file)) answer checks right = absurd checks
 right_accepted (Some files) stewards (Some (Score names)) answer checks right = absurd checks
 right_accepted (Some files) stewards (Some (Check names)) answer checks right = scored_accepted files names answer checks right
+right_accepted (Some files) stewards (Some (Demo number)) answer checks right = absurd checks

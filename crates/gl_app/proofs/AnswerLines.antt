@@ -13,8 +13,8 @@ use Rattle.gl_app.specs.Triangle.{IsTriangleText}
 use Rattle.gl_app.specs.Run.{IsRight, SaidLine}
 use Rattle.gl_app.specs.Statuses.{stop_at}
 use Rattle.gl_app.specs.Texts.{IsLine, usage_line}
-use Rattle.gl_app.specs.Words.{Check, Command, DayNames, Free, Score, Triangle, check_form, command_of, day_names, file_form, is_file_name, is_text, score_form}
-use Rattle.gl_app.proofs.DayLines.{AreUnbroken, check_line, score_line}
+use Rattle.gl_app.specs.Words.{Check, Command, DayNames, Demo, Free, Score, Triangle, check_form, command_of, day_names, demo_form, file_form, is_file_name, is_text, score_form}
+use Rattle.gl_app.proofs.DayLines.{AreUnbroken, check_line, score_line, demo_line}
 use Rattle.gl_app.proofs.LineTexts.{of_file_line, is_unbroken, is_unbroken-file, line_of}
 
 -- the files of a command have such names
@@ -24,6 +24,7 @@ HasUnbrokenNames (Some (Free file)) = is_unbroken file ≡ true
 HasUnbrokenNames (Some (Triangle file)) = is_unbroken file ≡ true
 HasUnbrokenNames (Some (Score names)) = AreUnbroken names
 HasUnbrokenNames (Some (Check names)) = AreUnbroken names
+HasUnbrokenNames (Some (Demo number)) = Unit {0}
 
 -- so has one file
 abbrev HasUnbroken : Option (List ℕ) → Type 0
@@ -90,6 +91,10 @@ as_check : (names : Option DayNames) → HaveUnbroken names → HasUnbrokenNames
 as_check None named = tt
 as_check (Some names) named = named
 
+as_demo : (number : Option ℕ) → HasUnbrokenNames (option_map Demo number)
+as_demo None = tt
+as_demo (Some number) = tt
+
 or_names : (first other : Option Command) → HasUnbrokenNames first → HasUnbrokenNames other → HasUnbrokenNames (option_or first other)
 or_names None other named others = others
 or_names (Some command) other named others = named
@@ -99,10 +104,14 @@ unfolding command_of
 command_names words =
     let free = file_form (codes "free") words in
     let triangle = file_form (codes "triangle") words in
-    let day = option_or (option_map Score (score_form words)) (option_map Check (check_form words)) in
+    let score = option_map Score (score_form words) in
+    let check = option_map Check (check_form words) in
+    let demo = option_map Demo (demo_form words) in
+    let day = option_or score (option_or check demo) in
     or_names (option_map Free free) (option_or (option_map Triangle triangle) day) (as_free free (file_names (codes "free") words))
     (or_names (option_map Triangle triangle) day (as_triangle triangle (file_names (codes "triangle") words))
-    (or_names (option_map Score (score_form words)) (option_map Check (check_form words)) (as_score (score_form words) (score_names words)) (as_check (check_form words) (check_names words))))
+    (or_names score (option_or check demo) (as_score (score_form words) (score_names words))
+    (or_names check demo (as_check (check_form words) (check_names words)) (as_demo (demo_form words)))))
 
 usage_is_line : IsLine usage_line
 usage_is_line = line_of (take (length usage_line - 1) usage_line) refl
@@ -113,6 +122,7 @@ answer_line folder stewards (Some (Free file)) answer names right unless = of_fi
 answer_line folder stewards (Some (Triangle file)) answer names right unless = of_file_line IsTriangleText file right.0 answer names right.2 unless
 answer_line folder stewards (Some (Score files)) answer names right unless = score_line folder stewards files answer names right unless
 answer_line folder stewards (Some (Check files)) answer names right unless = check_line folder files answer names right unless
+answer_line folder stewards (Some (Demo number)) answer names right unless = demo_line stewards number answer right unless
 
 pub if_none : {X P : Type 0} (o : Option X) → P → IfNone o P
 if_none None holds = holds

@@ -130,6 +130,12 @@ reads_right P Q x y (Ok answer) follows right reads =
     ([], follows answer right, record { written = record { appended = (refl, reads.folder, reads.outputs); said = reads.said; faults = reads.faults }; untouched = λ none. (reads.folder, reads.outputs) })
 reads_right P Q x y (Err stop) follows right reads = tt
 
+-- so has one that doesn't use the desk
+pub unread_right : (P : code.Answer → Type 0) (Q : code.Answer → List ℕ → Type 0) (x : Told) (result : Result code.Answer DeskError) → ((answer : code.Answer) → P answer → Q answer []) → IfOk result P → IfOk result (λ answer. (text : List ℕ) × Q answer text × HasGiven None text x x)
+unread_right P Q x (Ok answer) follows right =
+    ([], follows answer right, record { written = record { appended = (refl, refl, refl); said = refl; faults = refl }; untouched = λ none. (refl, refl) })
+unread_right P Q x (Err stop) follows right = tt
+
 -- a run that is stopped ends so
 pub stopped_ends : (Right : Answer → Type 0) (Begun : List ℕ → Type 0) (target : Option (List ℕ)) (stop : DeskError) (status : Status) (x z : Told) → status ≡ status_of stop → Stops Right Begun target x z → Ends Right Begun target status x z
 stopped_ends Right Begun target Failed status x z is stops = subst (λ (s : Status). Ends Right Begun target s x z) (sym is) stops

@@ -6,7 +6,9 @@ pub mod Claiming
 pub mod Commanded
 pub mod DayLines
 pub mod DayPasses
+pub mod DayNumbers
 pub mod DayTests
+pub mod Demos
 pub mod Flights
 pub mod Bests
 pub mod LineTexts
@@ -14,4 +16,5 @@ pub mod NoTask
 pub mod Readings
 pub mod Pieces
 pub mod Rights
+pub mod Shelves
 pub mod TaskSame

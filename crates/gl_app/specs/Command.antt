@@ -9,3 +9,4 @@ seen (code.Free file) = words.Free file.now
 seen (code.Triangle file) = words.Triangle file.now
 seen (code.Score names) = words.Score (names_seen names)
 seen (code.Check names) = words.Check (names_seen names)
+seen (code.Demo day) = words.Demo day.number

@@ -2,6 +2,7 @@ pub mod Words
 pub mod Refusals
 pub mod Answer
 pub mod Statuses
+pub mod Demo
 pub mod Endings
 pub mod Texts
 pub mod Best
@@ -19,6 +20,7 @@ pub mod Asked
 pub mod Check
 pub mod Score
 pub mod Scoring
+pub mod Shelf
 pub mod Lines
 pub mod Listed
 pub use Rattle.gl_desk.specs.Desk

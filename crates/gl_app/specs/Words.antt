@@ -4,6 +4,7 @@ use Rattle.std.specs.List.{list_all}
 use Rattle.std.specs.Cmp.Lexicographic.{pointwise}
 use Rattle.std.specs.Fmt.{decimal}
 use Rattle.std.specs.Option.{option_or}
+use Rattle.std.specs.Str.Parse.{digits_value}
 
 -- the names of the two files of a day
 pub record DayNames : Type 0 where
@@ -16,6 +17,7 @@ pub data Command : Type 0 where
   Triangle : List ℕ → Command
   Score : DayNames → Command
   Check : DayNames → Command
+  Demo : ℕ → Command
 
 -- two texts are the same
 abbrev pub is_text : List ℕ → List ℕ → Bool
@@ -69,10 +71,25 @@ check_form (word ∷ task ∷ proof ∷ []) =
     if is_text word (codes "check") then day_names task proof else None
 check_form (word ∷ task ∷ proof ∷ more ∷ words) = None
 
+-- the number from 1 to 1,000,000 that a word writes, without a sign and a leading zero
+abbrev pub day_number : List ℕ → Option ℕ
+day_number word =
+    let number = digits_value 10 word in
+    if is_text word (decimal number) && nat_le 1 number && nat_le number 1_000_000
+    then Some number else None
+
+-- `demo NUMBER`
+abbrev pub demo_form : List (List ℕ) → Option ℕ
+demo_form [] = None
+demo_form (word ∷ []) = None
+demo_form (word ∷ number ∷ []) = if is_text word (codes "demo") then day_number number else None
+demo_form (word ∷ number ∷ more ∷ words) = None
+
 -- The command that the words are a form of, if they are one. A further form is tried where none
 -- before it reads.
 unfoldable pub command_of : List (List ℕ) → Option Command
 command_of words =
     option_or (option_map Free (file_form (codes "free") words))
     (option_or (option_map Triangle (file_form (codes "triangle") words))
-    (option_or (option_map Score (score_form words)) (option_map Check (check_form words))))
+    (option_or (option_map Score (score_form words))
+    (option_or (option_map Check (check_form words)) (option_map Demo (demo_form words)))))

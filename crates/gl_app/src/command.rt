@@ -1,9 +1,10 @@
 ghost use Rattle.std.specs.Prelude.{◌≡◌, option_map};
 ghost use Rattle.std.specs.List.{list_all};
-ghost use Rattle.gl_app.specs.Words.{command_of, file_form, is_dots, is_file_name, is_name_byte};
+ghost use Rattle.gl_app.specs.Words.{Demo, command_of, demo_form, file_form, is_dots, is_file_name, is_name_byte};
 ghost use Rattle.gl_app.specs.Command.{seen};
 
 use crate::day_names::{DayNames, read_check, read_score};
+use crate::day_number::{DayNumber, read_demo};
 use gl_desk::Name;
 
 /// The most bytes that the name of a file has.
@@ -20,6 +21,8 @@ pub enum Command<'a> {
     Score(DayNames<'a>),
     /// `check TASK PROOF`: whether a proof is that of a day.
     Check(DayNames<'a>),
+    /// `demo NUMBER`: the sheet of a generated day.
+    Demo(DayNumber),
 }
 
 /// Whether each byte may stand in a name: no `/`, and none below 32.
@@ -57,6 +60,14 @@ fn read_file<'a>(first: &str, words: &'a [Name]) -> Option<&'a Name>
     }
 }
 
+/// `demo NUMBER`.
+fn read_generated(words: &[Name]) -> Option<Command<'_>>
+    ensures { option_map seen result ≡ option_map Demo (demo_form words.now) }
+{
+    let day = read_demo(words)?;
+    Some(Command::Demo(day))
+}
+
 /// The command that the words are a form of; `None` where they are of no form. The form of a
 /// further command is tried where none before it reads.
 #[tactic(auto, unfolding(crate::specs::Words::command_of))]
@@ -68,4 +79,5 @@ pub fn read_words(words: &[Name]) -> Option<Command<'_>>
         .or_else(|| read_file("triangle", words).map(Command::Triangle))
         .or_else(|| read_score(words).map(Command::Score))
         .or_else(|| read_check(words).map(Command::Check))
+        .or_else(|| read_generated(words))
 }

@@ -11,6 +11,7 @@ ghost use Rattle.gl_app.specs.Words.{command_of};
 use crate::answer::Answer;
 use crate::check::check;
 use crate::command::{Command, read_words};
+use crate::demo::demo;
 use crate::of_file::{Course, answer_of_file};
 use crate::score::score;
 use crate::status::Status;
@@ -43,6 +44,7 @@ fn answer_to_command<D: Desk>(
         Command::Triangle(file) => answer_of_file(alloc, desk, Course::Triangle, file),
         Command::Score(day) => score(alloc, desk, day, stewards),
         Command::Check(day) => check(alloc, desk, day),
+        Command::Demo(day) => demo(alloc, day, stewards),
     }
 }
 

@@ -7,6 +7,8 @@ mod areas;
 #[cfg(test)]
 mod checks;
 #[cfg(test)]
+mod demo;
+#[cfg(test)]
 mod failures;
 #[cfg(test)]
 mod folder;

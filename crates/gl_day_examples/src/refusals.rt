@@ -21,6 +21,11 @@ fn words_and_files(rt: HostRuntime) -> Result<(), Fail> {
         ("score DAY.TOML P.TXT", Status::Words, USAGE),
         ("score DAY.TOML a/b 1", Status::Words, USAGE),
         ("check DAY.TOML", Status::Words, USAGE),
+        ("demo", Status::Words, USAGE),
+        ("demo 0", Status::Words, USAGE),
+        ("demo 01", Status::Words, USAGE),
+        ("demo 1000001", Status::Words, USAGE),
+        ("demo 1 1", Status::Words, USAGE),
         ("check DAY.TOML .. 1", Status::Words, USAGE),
         (
             "score DAY.TOML AA.IGC 1",

@@ -9,10 +9,11 @@ use Rattle.gl_app.specs.Answer.{answer_of, answer_with}
 use Rattle.gl_app.specs.Appending.{HasGiven}
 use Rattle.gl_app.specs.Check.{IsCheck}
 use Rattle.gl_app.specs.DayNames.{names_seen}
+use Rattle.gl_app.specs.Demo.{IsDemo}
 use Rattle.gl_app.specs.Free.{IsFreeText}
 use Rattle.gl_app.specs.OfFile.{IsOfFile}
 use Rattle.gl_app.specs.Triangle.{IsTriangleText}
-use Rattle.gl_app.proofs.Commanded.{reads_right}
+use Rattle.gl_app.proofs.Commanded.{reads_right, unread_right}
 use Rattle.gl_app.proofs.run.answer_to_command.Goals as goal
 
 -- a command of one recording, which only reads
@@ -38,3 +39,7 @@ pub returns-in-Check-clause-right : goal.returns-in-Check-clause-right
 returns-in-Check-clause-right g c =
     let folder = (g.D.Desk.told c.args.desk.now).folder in
     rw c.in-Check.is (reads_right (λ answer. IsCheck folder (names_seen c.in-Check.day) (answer_of answer)) (λ answer text. IsCheck folder (names_seen c.in-Check.day) (answer_with answer text)) (g.D.Desk.told c.args.desk.now) (g.D.Desk.told c.check.new.desk) c.check.result (λ answer right. right) c.check.ensures.right c.check.ensures.reads)
+
+pub returns-in-Demo-clause-right : goal.returns-in-Demo-clause-right
+returns-in-Demo-clause-right g c =
+    rw c.in-Demo.is (unread_right (λ answer. IsDemo _ c.in-Demo.day.number (answer_of answer)) (λ answer text. IsDemo _ c.in-Demo.day.number (answer_with answer text)) (g.D.Desk.told c.args.desk.now) c.demo.result (λ answer right. right) c.demo.ensures.right)

@@ -1,0 +1,111 @@
+-- What `demo` announces.
+use Rattle.std.proofs.Common.{◌≡◌, ◌≢◌, ◌∙◌, sym, ap, subst, refl, ℕ, ◌<◌, ◌≤◌, ◌⊎◌, inl, inr, Bool, true, false, List, [], ◌∷◌, ◌++◌, map, length, Option, None, Some, Ok, Err, arith}
+use Rattle.std.specs.Bool.{OnFalse}
+use Rattle.std.specs.Option.{unwrap_or}
+use Rattle.std.specs.Prelude.{All, Any, IfSome, IsSome, Vec}
+use Rattle.std.specs.declared.alloc.Global.{Global}
+use Rattle.std.proofs.lemmas.List.{get_or-map, length-map}
+use Rattle.std.proofs.lemmas.List.Elements.{All-map}
+use Rattle.gl_demo.specs.Day.{generated_files, named}
+use Rattle.gl_desk.specs.Desk.{FilesByName, FileTakes, Told, file_of, grown_by}
+use Rattle.gl_desk.specs.MemDesk.{HoldsFiles}
+use Rattle.gl_proof.specs.Claim.{Statement}
+use Rattle.gl_proof.specs.Text.{IsTextOf, proof_text}
+use Rattle.gl_day.specs.Flight.{StewardRules}
+use Rattle.gl_app.specs.declared.answer.Answer as code
+use Rattle.gl_app.specs.declared.shelf.Shelf.{Shelf}
+use Rattle.gl_app.specs.declared.status.Status.{Status}
+use Rattle.gl_app.specs.declared.status.Status.TheVariants as status
+use Rattle.gl_app.specs.Answer.{Answer, answer_of, answer_with, refused, saying}
+use Rattle.gl_app.specs.Appending.{HasGiven}
+use Rattle.gl_app.specs.Check.{IsScoredFolder}
+use Rattle.gl_app.specs.Demo.{HasJust, IsCountOf, IsDemo, claims_line, demo_names}
+use Rattle.gl_app.specs.Listed.{most_proof_bytes}
+use Rattle.gl_app.specs.Score.{IsScore}
+use Rattle.gl_app.specs.Shelf.{folder_on, told_on}
+use Rattle.gl_app.specs.Words.{DayNames}
+use Rattle.gl_app.proofs.Accepting.{score_ended}
+
+-- a file as contracts see it
+abbrev plain : List ℕ × Vec ℕ Global → List ℕ × List ℕ
+plain file = (file.0, file.1.items)
+
+-- a folder that holds files in the code has just these
+pub just_files : (files : List (List ℕ × Vec ℕ Global)) (folder : FilesByName) → HoldsFiles files folder → HasJust (named files) folder
+just_files files folder holds = record {
+  each = All-map (λ (file : List ℕ × List ℕ). folder file.0 ≡ Some file.1) plain files holds.each;
+  only = λ name some.
+      let at = holds.only name some in
+      let file : List ℕ × List ℕ = plain at.1 in
+      (at.0, file, omega (arith, at.2, length-map files plain), get_or-map plain files at.0 at.1 file at.2 ∙ ap plain at.3, at.4);
+}
+
+-- what `score` was asked of
+pub record ScoredThere (stewards : List StewardRules) (number : ℕ) (folder : FilesByName) (names : DayNames) (answer : Answer) : Type 0 where
+  pub has : HasJust (generated_files number) folder
+  pub names_are : names ≡ demo_names
+  pub is : IsScore (Some folder) stewards names answer
+
+-- the refusal of `score` is that of `demo`
+refused_so : (folder : FilesByName) (stewards : List StewardRules) (number : ℕ) (scored : code.Answer) (text : List ℕ) → HasJust (generated_files number) folder → IsScore (Some folder) stewards demo_names (answer_with scored text) → scored.status ≢ status.Done → IsDemo stewards number (answer_of scored)
+refused_so folder stewards number scored text has (Ok day, tested, is) differs = absurd (differs is.ended)
+refused_so folder stewards number scored text has (Err refusal, tested, same) differs =
+    (folder, has, Err refusal, tested, λ i. record { status = (same i).status; said = (same i).said; appended = [] })
+
+pub demo_refused : (stewards : List StewardRules) (number : ℕ) (folder : FilesByName) (names : DayNames) (scored : code.Answer) (text : List ℕ) → ScoredThere stewards number folder names (answer_with scored text) → scored.status ≢ status.Done → IsDemo stewards number (answer_of scored)
+demo_refused stewards number folder names scored text there differs =
+    refused_so folder stewards number scored text there.has (subst (λ (n : DayNames). IsScore (Some folder) stewards n (answer_with scored text)) there.names_are there.is) differs
+
+-- and its sheet is announced with the count of claims
+announced_so : (folder : FilesByName) (stewards : List StewardRules) (number : ℕ) (scored answer : Answer) (claims : ℕ) → HasJust (generated_files number) folder → IsScore (Some folder) stewards demo_names scored → scored.status ≡ status.Done → IsCountOf scored.appended claims → answer ≡ saying status.Done (scored.said ++ claims_line claims) → IsDemo stewards number answer
+announced_so folder stewards number scored answer claims has (Ok day, tested, is) done counted says =
+    (folder, has, Ok day, tested, record { scored = scored; is = is; claims = claims; counted = counted; says = says })
+announced_so folder stewards number scored answer claims has (Err refusal, tested, same) done counted says =
+    let e : ◌≡◌ {A = Status} status.Refused status.Done = sym (ap (λ (a : Answer). a.status) same) ∙ done in
+    absurd (cc)
+
+pub demo_announced : (stewards : List StewardRules) (number : ℕ) (folder : FilesByName) (names : DayNames) (scored answer : Answer) (claims : ℕ) → ScoredThere stewards number folder names scored → scored.status ≡ status.Done → IsCountOf scored.appended claims → answer ≡ saying status.Done (scored.said ++ claims_line claims) → IsDemo stewards number answer
+demo_announced stewards number folder names scored answer claims there done counted says =
+    announced_so folder stewards number scored answer claims there.has (subst (λ (n : DayNames). IsScore (Some folder) stewards n scored) there.names_are there.is) done counted says
+
+grown_new : (there : Option (List ℕ)) (text : List ℕ) (after : Option (List ℕ)) → there ≡ None → ◌≡◌ {A = Option (Option (List ℕ))} (Some after) (grown_by (Some there) text) → after ≡ Some text
+grown_new None text after new grows = ap (λ (o : Option (Option (List ℕ))). unwrap_or o None) grows
+grown_new (Some bytes) text after new grows = absurd (cc)
+
+-- the proof stands in the folder
+taken : (before files : FilesByName) (name text : List ℕ) (statements : List Statement) → before name ≡ None → IsTextOf text statements → FileTakes (Some before) (Some files) name text → files name ≡ Some text
+taken before files name text statements new is (inl grows) = grown_new (before name) text (files name) new grows
+taken before files name text statements new is (inr (none, same)) =
+    let e : [] ≡ proof_text statements = sym none ∙ is.is in
+    absurd (cc)
+
+-- the folder behind a `score` that ended with a sheet
+pub scored_folder : (x y : Told) (before files : FilesByName) (stewards : List StewardRules) (names : DayNames) (answer : Answer) → x.folder ≡ Some before → y.folder ≡ Some files → IsScore (Some before) stewards names answer → answer.status ≡ status.Done → HasGiven (Some names.proof) answer.appended x y → ((bytes : List ℕ) → files names.proof ≡ Some bytes → length bytes ≤ most_proof_bytes) → (there : IsScoredFolder files names) × (there.answer.appended ≡ answer.appended)
+scored_folder x y before files stewards names answer x_is y_is scored done given small =
+    let ended = score_ended before stewards names answer scored done in
+    let wrote = given.written.appended in
+    let P : Option FilesByName → Option FilesByName → Type 0 = λ f g. FileTakes f g names.proof answer.appended in
+    let takes : P (Some before) (Some files) = subst (λ f. P f (Some files)) x_is (subst (λ g. P x.folder g) y_is wrote.1) in
+    let proof = taken before files names.proof answer.appended _ ended.proof_new ended.scored.appended takes in (
+      record {
+        before = before;
+        stewards = stewards;
+        answer = answer;
+        scored = scored;
+        done = done;
+        small = small answer.appended proof;
+        proof = proof;
+        others = λ other differs.
+            let same : ◌≡◌ {A = Option (Option (List ℕ))} (Some (files other)) (Some (before other)) = sym (ap (λ (f : Option FilesByName). file_of f other) y_is) ∙ (wrote.2 other differs).1 ∙ ap (λ (f : Option FilesByName). file_of f other) x_is in
+            ap (λ (o : Option (Option (List ℕ))). unwrap_or o None) same;
+      },
+      refl,
+    )
+
+-- a proof that isn't too large
+pub small_of : (large : Bool) (there : Option (List ℕ)) (bytes : List ℕ) → large ≡ false → OnFalse large (IfSome there (λ b. length b ≤ most_proof_bytes)) → there ≡ Some bytes → length bytes ≤ most_proof_bytes
+small_of true there bytes is if_small same = absurd (cc)
+small_of false None bytes is if_small same = absurd (cc)
+small_of false (Some other) bytes is if_small same =
+    let e : other ≡ bytes = cc in
+    subst (λ (b : List ℕ). length b ≤ most_proof_bytes) e if_small

@@ -1,0 +1,39 @@
+ghost use Rattle.std.specs.Prelude.{◌≡◌, ◌≤◌, option_map};
+ghost use Rattle.gl_app.specs.Words.{day_number, demo_form};
+
+use gl_desk::Name;
+use gl_text::read_u64;
+
+/// The greatest number of a generated day.
+const GREATEST_NUMBER: u64 = 1_000_000;
+
+/// The number of a generated day.
+#[derive(Clone, Copy, Debug)]
+pub struct DayNumber {
+    pub number: u32,
+    pub ghost least: { 1 ≤ number },
+    pub ghost most: { number ≤ 1_000_000 },
+}
+
+/// The number from 1 to 1,000,000 that a word writes.
+fn read_number(word: &Name) -> Option<DayNumber>
+    ensures { option_map (λ day. day.number) result ≡ day_number word.now }
+{
+    let number = read_u64(word.as_str().as_bytes())?;
+    if number < 1 || number > GREATEST_NUMBER {
+        return None;
+    }
+    Some(DayNumber {
+        number: number as u32,
+    })
+}
+
+/// The number in `demo NUMBER`.
+pub fn read_demo(words: &[Name]) -> Option<DayNumber>
+    ensures { option_map (λ day. day.number) result ≡ demo_form words.now }
+{
+    match words {
+        [word, number] if word.as_str() == "demo" => read_number(number),
+        _ => None,
+    }
+}
