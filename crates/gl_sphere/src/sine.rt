@@ -2,8 +2,25 @@ ghost use Rattle.std.specs.Prelude.{◌≡◌, ◌+◌, ◌*◌, ◌/◌, ◌^�
 ghost use Rattle.gl_sphere.specs.Range.{IsWithin};
 ghost use Rattle.gl_sphere.specs.Sine.{quarter_sine, half_turn_sine, written_sine, written_cosine};
 
-use crate::quotient::quotient;
+use crate::quotient::{quotient, quotient_by_inverse};
 use crate::sphere::{HALF_TURN, PI, QUARTER_TURN, UNIT};
+
+/// Entry k is 2^117 over `UNIT` times (2k + 2)·(2k + 3), rounded down.
+static INVERSES: [u64; 10] = [
+    2_769_224_991_218_574_735,
+    830_767_497_365_572_420,
+    395_603_570_174_082_105,
+    230_768_749_268_214_561,
+    151_048_635_884_649_531,
+    106_508_653_508_406_720,
+    79_120_714_034_816_421,
+    61_085_845_394_527_383,
+    48_582_894_582_782_012,
+    39_560_357_017_408_210,
+];
+
+/// 2^117 over `UNIT`, rounded down.
+const INVERSE_UNIT: u64 = 16_615_349_947_311_448_411;
 
 /// The written sine of an angle in 1/100,000 minute, where `UNIT` is one.
 pub fn wsin(n: i64) -> i64
@@ -64,14 +81,15 @@ fn next_term(term: u64, square: u64, k: u64) -> u64
     ensures value { result ≡ term * square / UNIT / ((2 * k + 2) * (2 * k + 3)) }
     ensures bound { result ≤ term }
 {
-    over_unit(term, square) / ((2 * k + 2) * (2 * k + 3))
+    let divisor = UNIT * ((2 * k + 2) * (2 * k + 3));
+    quotient_by_inverse(term as u128 * square as u128, divisor, INVERSES[k as usize])
 }
 
-/// The product of two numbers over `UNIT`, rounded down. `UNIT` is 2^16·5^13·5^3.
+/// The product of two numbers over `UNIT`, rounded down.
 pub fn over_unit(a: u64, b: u64) -> u64
     requires a_in_range { a ≤ 2 * UNIT }
     requires b_in_range { b ≤ 3 * UNIT }
     ensures { result ≡ a * b / UNIT }
 {
-    quotient((a as u128 * b as u128) >> 16, 1_220_703_125, 125)
+    quotient_by_inverse(a as u128 * b as u128, UNIT, INVERSE_UNIT)
 }
