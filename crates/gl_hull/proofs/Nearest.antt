@@ -1,10 +1,12 @@
 -- The last fix near a point, by the halves of a span.
-use Rattle.std.proofs.Common.{◌≡◌, ◌∙◌, ap, sym, subst, ℕ, ◌+◌, ◌<◌, ◌≤◌, max, min, List, [], ◌∷◌, length, Option, None, Some, MatchOption, ⊎_elim, arith}
+use Rattle.std.proofs.Common.{◌≡◌, ◌∙◌, ap, sym, subst, ℕ, ◌+◌, ◌*◌, ◌<◌, ◌≤◌, max, min, List, [], ◌∷◌, length, Option, None, Some, MatchOption, ⊎_elim, arith}
 use Rattle.std.proofs.lemmas.Bool.{cases_lt}
 use Rattle.std.proofs.lemmas.Option.{get_or_from_slice_get}
+use Rattle.std.proofs.Math.Nat.{mul-le-mul}
 use Rattle.gl_sphere.proofs.Arcs.{written_distance-mono}
+use Rattle.gl_sphere.proofs.Roots.{IsRoot-floor_root}
 use Rattle.gl_sphere.specs.declared.place.Vec3.{Vec3}
-use Rattle.gl_sphere.specs.Distance.{squared_chord, written_distance}
+use Rattle.gl_sphere.specs.Distance.{arc_over, floor_root, squared_chord, written_distance}
 use Rattle.gl_igc.specs.declared.fix.Fix.{Fix}
 use Rattle.gl_hull.specs.Box.{fixes_in, hull_of, point_box}
 use Rattle.gl_hull.specs.Chords.{least_chord}
@@ -18,10 +20,29 @@ abbrev pub IsFound : List Fix → Vec3 → ℕ → ℕ × ℕ → Option ℕ →
 IsFound fixes point limit span found =
     MatchOption found (IsNoneNear fixes point limit span) (IsLastNear fixes point limit span)
 
+-- the square of the least chord from a point to the hull of a span
+abbrev pub hull_chord : List Fix → Vec3 → ℕ × ℕ → ℕ
+hull_chord fixes point span = least_chord (point_box point) (hull_of (fixes_in fixes span))
+
 -- how far the hull of a span is from a point
 abbrev pub hull_distance : List Fix → Vec3 → ℕ × ℕ → ℕ
 hull_distance fixes point span =
-    written_distance (least_chord (point_box point) (hull_of (fixes_in fixes span)))
+    written_distance (hull_chord fixes point span)
+
+-- the arc over a chord is no shorter than the chord
+arc-at_least : (chord : ℕ) → chord ≤ arc_over chord
+unfolding arc_over
+arc-at_least chord = omega arith
+
+-- where a chord is longer than a limit, so is the distance
+pub longer-far : (square limit : ℕ) → (limit + 1) * (limit + 1) ≤ square → limit < written_distance square
+unfolding written_distance
+longer-far square limit long =
+    let root = IsRoot-floor_root square in
+    ⊎_elim
+    (λ (above : limit < floor_root square). omega (arith, above, arc-at_least (floor_root square)))
+    (λ (most : floor_root square ≤ limit). let p : (floor_root square + 1) * (floor_root square + 1) ≤ (limit + 1) * (limit + 1) = mul-le-mul (omega (arith, most)) (omega (arith, most)) in absurd (omega (arith, p, long, root.next_square_above)))
+    (cases_lt limit (floor_root square))
 
 -- no fix of a span is nearer than its hull
 pub far-none : (fixes : List Fix) (point : Vec3) (limit lo hi from to : ℕ) → hi < length fixes → limit < hull_distance fixes point (lo, hi) → IsNoneNear fixes point limit (both (lo, hi) (from, to))

@@ -1,5 +1,4 @@
-ghost use Rattle.std.specs.Prelude.{◌≡◌, ◌<◌, length, MatchOption};
-ghost use Rattle.gl_sphere.specs.Distance.{written_distance};
+ghost use Rattle.std.specs.Prelude.{◌≡◌, ◌<◌, ◌≤◌, ◌+◌, ◌*◌, length, nat_le, MatchOption};
 ghost use Rattle.gl_box.specs.Cell.{ends};
 ghost use Rattle.gl_hull.specs.Box.{fixes_in, hull_of, point_box};
 ghost use Rattle.gl_hull.specs.Chords.{least_chord};
@@ -9,7 +8,18 @@ use crate::chords::min_sq;
 use crate::hull::Hull;
 use crate::hulls::Hulls;
 use gl_box::Span;
-use gl_sphere::{Vec3, dist};
+use gl_sphere::{GREATEST_SQUARE, Vec3, dist};
+
+/// Whether a chord with this square, in square centimetres, is longer than so many centimetres. The
+/// arc over it is then longer too.
+#[inline]
+fn is_longer(square: u64, limit: u64) -> bool
+    requires { square ≤ GREATEST_SQUARE }
+    ensures { result ≡ nat_le ((limit + 1) * (limit + 1)) square }
+{
+    let next = limit.saturating_add(1);
+    next.saturating_mul(next) <= square
+}
 
 impl Hulls {
     /// The last place of a span whose fix is at most `limit` centimetres from a point, if there is
@@ -34,11 +44,16 @@ impl Hulls {
         if node.hi < span.lo || span.hi < node.lo {
             return None;
         }
-        if limit < self.least_distance(point, node) {
+        let square = self.least_square(point, node);
+        if is_longer(square, limit) {
             return None;
         }
         if node.lo == node.hi {
-            return Some(node.lo);
+            return if dist(square) <= limit {
+                Some(node.lo)
+            } else {
+                None
+            };
         }
         let middle = node.lo + (node.hi - node.lo) / 2;
         let lower = Span {
@@ -55,18 +70,18 @@ impl Hulls {
         }
     }
 
-    /// The distance along the sphere from a point to the hull of a span, in centimetres.
+    /// The square of the least chord from a point to the hull of a span, in square centimetres.
     #[inline]
-    fn least_distance(&self, point: Vec3, span: Span) -> u64
+    fn least_square(&self, point: Vec3, span: Span) -> u64
         requires { span.hi < length self.now }
-        ensures { result ≡ written_distance
-            (least_chord (point_box point) (hull_of (fixes_in self.now (ends span)))) }
+        ensures value { result
+            ≡ least_chord (point_box point) (hull_of (fixes_in self.now (ends span))) }
+        ensures bound { result ≤ GREATEST_SQUARE }
     {
         let from = Hull::point(point);
-        let square = match self.kept(span) {
+        match self.kept(span) {
             Some(hull) => min_sq(&from, hull),
             None => min_sq(&from, &self.hull(span)),
-        };
-        dist(square)
+        }
     }
 }
