@@ -1,6 +1,7 @@
 -- What lists of fixes keep, axis by axis.
 use Rattle.std.proofs.Common.{◌≡◌, ◌∙◌, sym, ap, refl, subst, ℕ, zero, suc, ◌+◌, ◌*◌, ◌^◌, ◌<◌, ◌≤◌, List, [], ◌∷◌, ◌++◌, length, map, take, drop, get_or, Some, slice_get, arith}
 use Rattle.std.specs.Prelude.{All}
+use Rattle.std.specs.Arc.{arc_value}
 use Rattle.std.specs.List.Sorted.{IsStrictlyIncreasing}
 use Rattle.std.proofs.lemmas.List.{drop_more, get_or-map, length-append, length-map, map-append, take_more}
 use Rattle.std.proofs.lemmas.List.Elements.{All-append}
@@ -49,7 +50,7 @@ axis-most fixes axes k axis are is below =
     let inside : k < length (lists_of axes) = omega (arith, length-map axes (λ (a : Axis). a.numbers.items)) in
     omega (arith, rising-most fixes (get_or (lists_of axes) k []) (are.lists.rising k [] inside) (are.lists.named k [] inside), are.most_fixes, ap length list)
 
-pub axis-hulled : (fixes : List Fix) (axes : List Axis) (k : ℕ) (axis : Axis) → AreHulled fixes axes → axis ≡ get_or axes k axis → k < length axes → axis.hulls ≡ fixes_at fixes (get_or (lists_of axes) k [])
+pub axis-hulled : (fixes : List Fix) (axes : List Axis) (k : ℕ) (axis : Axis) → AreHulled fixes axes → axis ≡ get_or axes k axis → k < length axes → arc_value axis.hulls ≡ fixes_at fixes (get_or (lists_of axes) k [])
 axis-hulled fixes axes k axis are is below =
     subst (IsHulled fixes) (sym is) (are.hulled k axis below) ∙ ap (fixes_at fixes) (sym (axis-list axes k axis is below))
 
@@ -89,7 +90,7 @@ cell-within lists cell k span some covers below =
     omega (arith, at.1, top, read, some k [] below)
 
 -- the hulls over a list end where the list ends
-pub hull-within : (fixes : List Fix) (axes : List Axis) (lists : List (List ℕ)) (cell : Cell) (k : ℕ) (span : Span) (axis : Axis) → AreHulled fixes axes → lists_of axes ≡ lists → axis ≡ get_or axes k axis → Covers (whole_cell lists) (spans_of cell) → k < length lists → (get_or cell.spans k span).hi < length axis.hulls
+pub hull-within : (fixes : List Fix) (axes : List Axis) (lists : List (List ℕ)) (cell : Cell) (k : ℕ) (span : Span) (axis : Axis) → AreHulled fixes axes → lists_of axes ≡ lists → axis ≡ get_or axes k axis → Covers (whole_cell lists) (spans_of cell) → k < length lists → (get_or cell.spans k span).hi < length (arc_value axis.hulls)
 hull-within fixes axes lists cell k span axis are same is covers below =
     let inside : k < length (lists_of axes) = omega (arith, ap length same) in
     let within : k < length axes = omega (arith, length-map axes (λ (a : Axis). a.numbers.items)) in
@@ -103,7 +104,7 @@ hulls_of-get fixes (list ∷ lists) [] k below sized = absurd (omega arith)
 hulls_of-get fixes (list ∷ lists) (span ∷ spans) zero below sized = refl
 hulls_of-get fixes (list ∷ lists) (span ∷ spans) (suc k) below sized = hulls_of-get fixes lists spans k (omega arith) (omega arith)
 
-hull-of_axis : (fixes : List Fix) (axes : List Axis) (cell : Cell) (k : ℕ) (span : Span) (axis : Axis) (box : Box) → AreHulled fixes axes → axis ≡ get_or axes k axis → Covers (whole_cell (lists_of axes)) (spans_of cell) → k < length axes → box ≡ hull_of (fixes_in axis.hulls (ends (get_or cell.spans k span))) → slice_get (hulls_of fixes (lists_of axes) (spans_of cell)) k ≡ Some box
+hull-of_axis : (fixes : List Fix) (axes : List Axis) (cell : Cell) (k : ℕ) (span : Span) (axis : Axis) (box : Box) → AreHulled fixes axes → axis ≡ get_or axes k axis → Covers (whole_cell (lists_of axes)) (spans_of cell) → k < length axes → box ≡ hull_of (fixes_in (arc_value axis.hulls) (ends (get_or cell.spans k span))) → slice_get (hulls_of fixes (lists_of axes) (spans_of cell)) k ≡ Some box
 hull-of_axis fixes axes cell k span axis box are is covers within box_is =
     let lists = lists_of axes in
     let below : k < length lists = omega (arith, length-map axes (λ (a : Axis). a.numbers.items)) in
@@ -115,7 +116,7 @@ hull-of_axis fixes axes cell k span axis box are is covers within box_is =
     ∙ ap Some (sym box_is)
 
 -- the hull of an axis of a cell
-pub hull-at : (fixes : List Fix) (axes : List Axis) (listed : Listed) (cell : Cell) (k : ℕ) (span : Span) (axis : Axis) (box : Box) → listed_of fixes axes ≡ listed → AreHulled fixes axes → axis ≡ get_or axes k axis → Covers (whole_cell listed.lists) (spans_of cell) → k < length listed.lists → box ≡ hull_of (fixes_in axis.hulls (ends (get_or cell.spans k span))) → slice_get (hulls_of listed.fixes listed.lists (spans_of cell)) k ≡ Some box
+pub hull-at : (fixes : List Fix) (axes : List Axis) (listed : Listed) (cell : Cell) (k : ℕ) (span : Span) (axis : Axis) (box : Box) → listed_of fixes axes ≡ listed → AreHulled fixes axes → axis ≡ get_or axes k axis → Covers (whole_cell listed.lists) (spans_of cell) → k < length listed.lists → box ≡ hull_of (fixes_in (arc_value axis.hulls) (ends (get_or cell.spans k span))) → slice_get (hulls_of listed.fixes listed.lists (spans_of cell)) k ≡ Some box
 hull-at fixes axes listed cell k span axis box same are is covers below box_is =
     let within = listed-axis fixes axes listed k same below in
     let P : Listed → Type 0 = λ l. Covers (whole_cell l.lists) (spans_of cell) in

@@ -1,5 +1,6 @@
 -- What lists of fixes keep.
 use Rattle.std.specs.Prelude.{◌≡◌, ℕ, ◌≤◌, List, length, map, All}
+use Rattle.std.specs.Arc.{arc_value}
 use Rattle.gl_igc.specs.declared.fix.Fix.{Fix}
 use Rattle.gl_goal.specs.declared.axis.Axis.{Axis}
 use Rattle.gl_goal.specs.Chain.{fixes_at}
@@ -11,7 +12,7 @@ lists_of axes = map (λ axis. axis.numbers.items) axes
 
 -- the hulls of an axis are over the fixes of its numbers
 abbrev pub IsHulled : List Fix → Axis → Type 0
-IsHulled fixes axis = axis.hulls ≡ fixes_at fixes axis.numbers.items
+IsHulled fixes axis = arc_value axis.hulls ≡ fixes_at fixes axis.numbers.items
 
 -- the axes have lists of fixes, each with the hulls over it
 pub record AreHulled (fixes : List Fix) (axes : List Axis) : Type 0 where

@@ -7,6 +7,7 @@ use gl_igc::Fix;
 use gl_sphere::Vec3;
 use std::alloc::{AllocError, Global};
 use std::marker::Model;
+use std::sync::Arc;
 
 /// Lists of fixes to choose from, one for each axis of a goal.
 #[derive(Debug, Drop)]
@@ -31,6 +32,7 @@ impl Model for Lists {
 
 impl Axis {
     ghost use Rattle.std.specs.Prelude.{◌≡◌, ◌≤◌, ◌<◌, length, IfOk};
+    ghost use Rattle.std.specs.Arc.{arc_value};
     ghost use Rattle.std.specs.List.Sorted.{IsStrictlyIncreasing};
     ghost use Rattle.gl_goal.specs.Lists.{AreNamed};
     ghost use Rattle.gl_goal.specs.Hulled.{IsHulled};
@@ -45,7 +47,22 @@ impl Axis {
         ensures hulled { IfOk result (λ axis. IsHulled fixes.now axis) }
     {
         let hulls = Hulls::new(alloc, fixes, numbers.as_slice())?;
-        Ok(Axis { numbers, hulls })
+        Ok(Axis {
+            numbers,
+            hulls: Arc::new(alloc, hulls)?,
+        })
+    }
+
+    /// A further axis with the same numbers, which shares the hulls over them. The only error is
+    /// want of memory.
+    fn again(&self) -> Result<Axis, AllocError>
+        ensures numbers { IfOk result (λ axis. axis.numbers.items ≡ self.now.numbers.items) }
+        ensures hulls { IfOk result (λ axis. arc_value axis.hulls ≡ arc_value self.now.hulls) }
+    {
+        Ok(Axis {
+            numbers: self.numbers.clone()?,
+            hulls: Arc::try_clone(&self.hulls)?,
+        })
     }
 }
 
@@ -56,7 +73,8 @@ impl Lists {
     ghost use Rattle.gl_hull.specs.Box.{fixes_in, hull_of};
     ghost use Rattle.gl_hull.specs.Hull.{box_of};
     ghost use Rattle.gl_goal.specs.Chain.{fixes_at, greatest_legs, hulls_of, last_of, legs, points_of};
-    ghost use Rattle.gl_goal.specs.Lists.{AreLists};
+    ghost use Rattle.std.specs.List.Sorted.{IsStrictlyIncreasing};
+    ghost use Rattle.gl_goal.specs.Lists.{AreLists, AreNamed};
     ghost use Rattle.gl_goal.specs.Rule.{IsDisordered, IsInTimeOrder, IsTuple, chosen, fix_at, whole_cell};
 
     /// The lists with these numbers of fixes. The only error is want of memory.
@@ -74,6 +92,26 @@ impl Lists {
         Ok(Lists {
             fixes: Vec::from_slice(alloc, fixes)?,
             axes,
+        })
+    }
+
+    /// Three lists with the same numbers of fixes, over which the hulls stand once. The only error
+    /// is want of memory.
+    pub fn thrice(alloc: Global, fixes: &[Fix], numbers: Vec<u32>) -> Result<Lists, AllocError>
+        requires most { length fixes.now ≤ 90_000 }
+        requires some { 0 < length numbers.items }
+        requires rising { IsStrictlyIncreasing numbers.items }
+        requires named { AreNamed fixes.now numbers.items }
+        ensures fixes { IfOk result (λ made. made.fixes ≡ fixes.now) }
+        ensures lists { IfOk result (λ made. made.lists
+            ≡ numbers.items ∷ numbers.items ∷ numbers.items ∷ []) }
+    {
+        let first = Axis::new(alloc, fixes, numbers)?;
+        let second = first.again()?;
+        let third = first.again()?;
+        Ok(Lists {
+            fixes: Vec::from_slice(alloc, fixes)?,
+            axes: vec![in alloc; first, second, third]?,
         })
     }
 

@@ -67,7 +67,8 @@ fn greatest_round(hulls: &[Hull; 3]) -> Round
     }
 }
 
-/// The same numbers on each axis of a triangle. The only error is want of memory.
+/// The numbers from the first to the last on each axis of a triangle. The only error is want of
+/// memory.
 fn three_lists(alloc: Global, fixes: &[Fix], first: u32, last: u32) -> Result<Lists, AllocError>
     requires order { first ≤ last }
     requires within { last < length fixes.now }
@@ -75,11 +76,8 @@ fn three_lists(alloc: Global, fixes: &[Fix], first: u32, last: u32) -> Result<Li
     ensures fixes { IfOk result (λ lists. lists.fixes ≡ fixes.now) }
     ensures lists { IfOk result (λ lists. lists.lists ≡ three_axes first last) }
 {
-    let one = numbers_between(alloc, first, last)?;
-    let other = numbers_between(alloc, first, last)?;
-    let third = numbers_between(alloc, first, last)?;
-    let lists = vec![in alloc; one, other, third]?;
-    Lists::new(alloc, fixes, lists)
+    let numbers = numbers_between(alloc, first, last)?;
+    Lists::thrice(alloc, fixes, numbers)
 }
 
 impl TriangleGoal {
@@ -98,6 +96,12 @@ impl TriangleGoal {
         ensures rule { IfOk result (λ goal. triangle_rule goal
             ≡ triangle_goal fixes.now first last closing) }
         ensures well_formed { IfOk result (λ goal. IsGoal (triangle_rule goal)) }
+
+        // So `reach` can be asked of the fixes from the first to the last, and tells of these.
+        ensures first { IfOk result (λ goal. goal.first ≡ first) }
+        ensures last { IfOk result (λ goal. goal.last ≡ last) }
+        ensures closing { IfOk result (λ goal. goal.closing ≡ closing) }
+        ensures fixes { IfOk result (λ goal. goal.lists.fixes ≡ fixes.now) }
     {
         let lists = three_lists(alloc, fixes, first, last)?;
         let reaches = reaches(alloc, lists.hulls(0), closing)?;
