@@ -1,8 +1,8 @@
 -- What `demo` announces.
 use Rattle.std.proofs.Common.{◌≡◌, ◌≢◌, ◌∙◌, sym, ap, subst, refl, ℕ, ◌<◌, ◌≤◌, ◌⊎◌, inl, inr, Bool, true, false, List, [], ◌∷◌, ◌++◌, map, length, Option, None, Some, Ok, Err, arith}
-use Rattle.std.specs.Bool.{OnFalse}
+use Rattle.std.proofs.lemmas.Bool.{ltb-false}
 use Rattle.std.specs.Option.{unwrap_or}
-use Rattle.std.specs.Prelude.{All, Any, IfSome, IsSome, Vec}
+use Rattle.std.specs.Prelude.{All, Any, IfSome, IsSome, Vec, nat_lt}
 use Rattle.std.specs.declared.alloc.Global.{Global}
 use Rattle.std.proofs.lemmas.List.{get_or-map, length-map}
 use Rattle.std.proofs.lemmas.List.Elements.{All-map}
@@ -103,9 +103,8 @@ scored_folder x y before files stewards names answer x_is y_is scored done given
     )
 
 -- a proof that isn't too large
-pub small_of : (large : Bool) (there : Option (List ℕ)) (bytes : List ℕ) → large ≡ false → OnFalse large (IfSome there (λ b. length b ≤ most_proof_bytes)) → there ≡ Some bytes → length bytes ≤ most_proof_bytes
-small_of true there bytes is if_small same = absurd (cc)
-small_of false None bytes is if_small same = absurd (cc)
-small_of false (Some other) bytes is if_small same =
+pub small_of : (large : Bool) (there : Option (List ℕ)) (bytes : List ℕ) → large ≡ false → IfSome there (λ b. large ≡ nat_lt most_proof_bytes (length b)) → there ≡ Some bytes → length bytes ≤ most_proof_bytes
+small_of large None bytes is exact same = absurd (cc)
+small_of large (Some other) bytes is exact same =
     let e : other ≡ bytes = cc in
-    subst (λ (b : List ℕ). length b ≤ most_proof_bytes) e if_small
+    subst (λ (b : List ℕ). length b ≤ most_proof_bytes) e (ltb-false most_proof_bytes (length other) (sym exact ∙ is))

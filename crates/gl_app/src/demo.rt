@@ -1,5 +1,4 @@
-ghost use Rattle.std.specs.Prelude.{◌≡◌, ◌≤◌, ◌++◌, Err, IfOk, IfSome, OnOk, length, map};
-ghost use Rattle.std.specs.Bool.{OnFalse};
+ghost use Rattle.std.specs.Prelude.{◌≡◌, ◌≤◌, ◌++◌, Err, IfOk, IfSome, OnOk, length, map, nat_lt};
 ghost use Rattle.gl_day.specs.Flight.{steward_rules};
 ghost use Rattle.gl_app.specs.Answer.{answer_of};
 ghost use Rattle.gl_app.specs.Check.{IsScoredFolder};
@@ -39,8 +38,8 @@ fn push_claims(text: &mut Vec<u8>, claims: usize) -> Result<(), AllocError>
 
 /// Whether a proof has more bytes than `check` reads.
 fn is_too_large(shelf: &Shelf, proof: &Name) -> bool
-    ensures { OnFalse result (IfSome (folder_on shelf.now proof.now)
-        (λ bytes. length bytes ≤ most_proof_bytes)) }
+    ensures { IfSome (folder_on shelf.now proof.now)
+        (λ bytes. result ≡ nat_lt most_proof_bytes (length bytes)) }
 {
     match shelf.file(proof) {
         Some(bytes) => bytes.len() as u64 > MOST_PROOF_BYTES,

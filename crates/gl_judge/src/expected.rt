@@ -1,7 +1,8 @@
-ghost use Rattle.std.specs.Prelude.{◌≡◌, ◌≤◌, ◌++◌, length, IfOk};
+ghost use Rattle.std.specs.Prelude.{◌≡◌, ◌-◌, ◌≤◌, ◌<◌, [], ◌∷◌, ◌++◌, length, IfOk, MatchOption};
+ghost use Rattle.gl_goal.specs.Rule.{Rule};
 ghost use Rattle.std.specs.Option.{option_to_list};
 ghost use Rattle.gl_judge.specs.Claimed.{rules_of_claims};
-ghost use Rattle.gl_judge.specs.Claims.{AreChoices, AreExpected, HaveLegal, free_claims, triangle_claims};
+ghost use Rattle.gl_judge.specs.Claims.{AreChoices, AreExpected, HaveLegal, claim_if, free_claims, triangle_claims};
 ghost use Rattle.gl_judge.specs.Outcome.{IsOutcome};
 ghost use Rattle.gl_judge.specs.Stretch.{range_of};
 
@@ -45,6 +46,22 @@ fn chosen_claim(
     }
 }
 
+/// The numbers of the first and the last judged fix, where a list is asked for and a fix is judged.
+fn listed_range(asked: bool, judged: Stretch) -> Option<(u32, u32)>
+    requires { judged.to ≤ 90_000 }
+    ensures { MatchOption result
+        ((claim : ClaimKind × Rule) → claim_if asked (range_of judged) claim ≡ [])
+        (λ range. (range.0 ≡ judged.from) × (range.1 ≡ judged.to - 1) × (range.0 ≤ range.1)
+        × (range.1 < judged.to)
+        × ((claim : ClaimKind × Rule)
+        → claim_if asked (range_of judged) claim ≡ claim ∷ [])) }
+{
+    if !asked || judged.to <= judged.from {
+        return None;
+    }
+    Some((judged.from as u32, judged.to as u32 - 1))
+}
+
 /// The claim of the list of free distances, where it is asked for and a fix is judged. The only
 /// error is want of memory.
 fn free_claim(
@@ -58,13 +75,10 @@ fn free_claim(
         ≡ free_claims task.now rec.now.fixes (range_of judged)) }
     ensures legal { IfOk result (λ claim. HaveLegal (rules_of_claims (option_to_list claim))) }
 {
-    if !task.free || judged.to <= judged.from {
+    let Some((first, last)) = listed_range(task.free, judged) else {
         return Ok(None);
-    }
-    let fixes = rec.fixes.as_slice();
-    let last = judged.to - 1;
-    let first = judged.from as u32;
-    let goal = FreeGoal::new(alloc, fixes, first, last as u32, task.rules.loss)?;
+    };
+    let goal = FreeGoal::new(alloc, rec.fixes.as_slice(), first, last, task.rules.loss)?;
     Ok(Some((ClaimKind::Free, AnyGoal::Free(goal))))
 }
 
@@ -81,13 +95,10 @@ fn triangle_claim(
         ≡ triangle_claims task.now rec.now.fixes (range_of judged)) }
     ensures legal { IfOk result (λ claim. HaveLegal (rules_of_claims (option_to_list claim))) }
 {
-    if !task.triangle || judged.to <= judged.from {
+    let Some((first, last)) = listed_range(task.triangle, judged) else {
         return Ok(None);
-    }
-    let fixes = rec.fixes.as_slice();
-    let last = judged.to - 1;
-    let first = judged.from as u32;
-    let goal = TriangleGoal::new(alloc, fixes, first, last as u32, task.rules.closing)?;
+    };
+    let goal = TriangleGoal::new(alloc, rec.fixes.as_slice(), first, last, task.rules.closing)?;
     Ok(Some((ClaimKind::Triangle, AnyGoal::Triangle(goal))))
 }
 

@@ -25,7 +25,7 @@ use Rattle.gl_judge.specs.declared.outcome.Judged.{Judged}
 use Rattle.gl_judge.specs.declared.outcome.Judged.TheVariants.{Finished, Outlanded, NoStart}
 use Rattle.gl_judge.specs.declared.outcome.Window.{Window}
 use Rattle.gl_judge.specs.Choices.{IsOutChoice, area_choice, course_point, numbers_before, start_point, zone_lists}
-use Rattle.gl_judge.specs.Claims.{AreChoices, AreExpected, free_claims, list_claims, triangle_claims}
+use Rattle.gl_judge.specs.Claims.{AreChoices, AreExpected, claim_if, free_claims, list_claims, triangle_claims}
 use Rattle.gl_judge.specs.Finishes.{lead_of}
 use Rattle.gl_judge.specs.JudgedFixes.{IsInRange}
 use Rattle.gl_judge.specs.Marking.{course_of, finish_point, ring_radius}
@@ -156,21 +156,21 @@ listed_short false some claim short = none_listed
 listed_short true false claim short = none_listed
 listed_short true true claim short = one_listed claim (short refl)
 
-free_listed : (task : Task) (recording : Recording) (judged : ℕ × ℕ) → judged.1 ≤ length recording.fixes → AreShortGoals (free_claims task recording.fixes judged)
-free_listed task recording judged within =
-    listed_short task.free (nat_lt judged.0 judged.1)
-    (kind.Free, free_goal recording.fixes judged.0 (judged.1 - 1) task.rules.loss)
+-- the claim of a list over all judged fixes, where its goal is such a one
+list_short : (asked : Bool) (recording : Recording) (judged : ℕ × ℕ) (claim : ClaimKind × Rule) → judged.1 ≤ length recording.fixes → (judged.0 ≤ judged.1 - 1 → judged.1 - 1 < length recording.fixes → IsShort claim.1) → AreShortGoals (claim_if asked judged claim)
+list_short asked recording judged claim within short =
+    listed_short asked (nat_lt judged.0 judged.1) claim
     (λ some.
     let less = below_so judged.0 judged.1 some in
-    free_short recording.fixes judged.0 (judged.1 - 1) task.rules.loss recording.at_most_90000 (omega (arith, less)) (omega (arith, less, within)))
+    short (omega (arith, less)) (omega (arith, less, within)))
+
+free_listed : (task : Task) (recording : Recording) (judged : ℕ × ℕ) → judged.1 ≤ length recording.fixes → AreShortGoals (free_claims task recording.fixes judged)
+free_listed task recording judged within =
+    list_short task.free recording judged _ within (free_short recording.fixes judged.0 (judged.1 - 1) task.rules.loss recording.at_most_90000)
 
 triangle_listed : (task : Task) (recording : Recording) (judged : ℕ × ℕ) → judged.1 ≤ length recording.fixes → AreShortGoals (triangle_claims task recording.fixes judged)
 triangle_listed task recording judged within =
-    listed_short task.triangle (nat_lt judged.0 judged.1)
-    (kind.Triangle, triangle_goal recording.fixes judged.0 (judged.1 - 1) task.rules.closing)
-    (λ some.
-    let less = below_so judged.0 judged.1 some in
-    triangle_short recording.fixes judged.0 (judged.1 - 1) task.rules.closing recording.at_most_90000 (omega (arith, less)) (omega (arith, less, within)))
+    list_short task.triangle recording judged _ within (triangle_short recording.fixes judged.0 (judged.1 - 1) task.rules.closing recording.at_most_90000)
 
 lists_listed : (task : Task) (recording : Recording) (judged : ℕ × ℕ) → judged.1 ≤ length recording.fixes → AreShortGoals (list_claims task recording.fixes judged)
 lists_listed task recording judged within =

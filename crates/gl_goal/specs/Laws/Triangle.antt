@@ -21,51 +21,47 @@ use Rattle.gl_goal.specs.Laws.Fair.{and_both, and_parts, fair_at_most, fair_else
 use Rattle.gl_goal.specs.Laws.Free.{get_or-numbers_from, length-numbers_between, numbers_between-named, numbers_from-rises}
 use Rattle.gl_goal.specs.Laws.Order.{get_or-chosen, length-tuple, place_within, point_in_order, span_at-point}
 
--- the ways round of points lie between those of boxes that hold them
-pub around-at_most : (boxes : List Box) (points : List Vec3) → AllZip IsInside boxes points → AllZip (◌≤◌) (around distance points) (around greatest_distance boxes)
-around-at_most [] [] inside = tt
-around-at_most (b ∷ []) (p ∷ []) inside = tt
-around-at_most (b ∷ d ∷ []) (p ∷ q ∷ []) inside = tt
-around-at_most (b ∷ d ∷ e ∷ []) (p ∷ q ∷ r ∷ []) inside =
-    (distance-at_most b d p q inside.0 inside.1.0, (distance-at_most d e q r inside.1.0 inside.1.1.0, (distance-at_most e b r p inside.1.1.0 inside.0, tt)))
-around-at_most (b ∷ d ∷ e ∷ f ∷ boxes) (p ∷ q ∷ r ∷ s ∷ points) inside = tt
-around-at_most [] (p ∷ points) inside = absurd inside
-around-at_most (b ∷ boxes) [] inside = absurd inside
-around-at_most (b ∷ []) (p ∷ q ∷ points) inside = absurd inside.1
-around-at_most (b ∷ d ∷ boxes) (p ∷ []) inside = absurd inside.1
-around-at_most (b ∷ d ∷ []) (p ∷ q ∷ r ∷ points) inside = absurd inside.1.1
-around-at_most (b ∷ d ∷ e ∷ boxes) (p ∷ q ∷ []) inside = absurd inside.1.1
-around-at_most (b ∷ d ∷ e ∷ []) (p ∷ q ∷ r ∷ s ∷ points) inside = absurd inside.1.1.1
-around-at_most (b ∷ d ∷ e ∷ f ∷ boxes) (p ∷ q ∷ r ∷ []) inside = absurd inside.1.1.1
+-- what holds of each two of two lists holds of the ways round them
+around-zip : (R : Box → Vec3 → Type 0) (S : ℕ → ℕ → Type 0) (far : Box → Box → ℕ) → ((a b : Box) (p q : Vec3) → R a p → R b q → S (far a b) (distance p q)) → (boxes : List Box) (points : List Vec3) → AllZip R boxes points → AllZip S (around far boxes) (around distance points)
+around-zip R S far holds [] [] all = tt
+around-zip R S far holds (b ∷ []) (p ∷ []) all = tt
+around-zip R S far holds (b ∷ d ∷ []) (p ∷ q ∷ []) all = tt
+around-zip R S far holds (b ∷ d ∷ e ∷ []) (p ∷ q ∷ r ∷ []) all =
+    (holds b d p q all.0 all.1.0, (holds d e q r all.1.0 all.1.1.0, (holds e b r p all.1.1.0 all.0, tt)))
+around-zip R S far holds (b ∷ d ∷ e ∷ f ∷ boxes) (p ∷ q ∷ r ∷ s ∷ points) all = tt
+around-zip R S far holds [] (p ∷ points) all = absurd all
+around-zip R S far holds (b ∷ boxes) [] all = absurd all
+around-zip R S far holds (b ∷ []) (p ∷ q ∷ points) all = absurd all.1
+around-zip R S far holds (b ∷ d ∷ boxes) (p ∷ []) all = absurd all.1
+around-zip R S far holds (b ∷ d ∷ []) (p ∷ q ∷ r ∷ points) all = absurd all.1.1
+around-zip R S far holds (b ∷ d ∷ e ∷ boxes) (p ∷ q ∷ []) all = absurd all.1.1
+around-zip R S far holds (b ∷ d ∷ e ∷ []) (p ∷ q ∷ r ∷ s ∷ points) all = absurd all.1.1.1
+around-zip R S far holds (b ∷ d ∷ e ∷ f ∷ boxes) (p ∷ q ∷ r ∷ []) all = absurd all.1.1.1
 
-pub around-at_least : (boxes : List Box) (points : List Vec3) → AllZip IsInside boxes points → AllZip (◌≤◌) (around least_distance boxes) (around distance points)
-around-at_least [] [] inside = tt
-around-at_least (b ∷ []) (p ∷ []) inside = tt
-around-at_least (b ∷ d ∷ []) (p ∷ q ∷ []) inside = tt
-around-at_least (b ∷ d ∷ e ∷ []) (p ∷ q ∷ r ∷ []) inside =
-    (distance-at_least b d p q inside.0 inside.1.0, (distance-at_least d e q r inside.1.0 inside.1.1.0, (distance-at_least e b r p inside.1.1.0 inside.0, tt)))
-around-at_least (b ∷ d ∷ e ∷ f ∷ boxes) (p ∷ q ∷ r ∷ s ∷ points) inside = tt
-around-at_least [] (p ∷ points) inside = absurd inside
-around-at_least (b ∷ boxes) [] inside = absurd inside
-around-at_least (b ∷ []) (p ∷ q ∷ points) inside = absurd inside.1
-around-at_least (b ∷ d ∷ boxes) (p ∷ []) inside = absurd inside.1
-around-at_least (b ∷ d ∷ []) (p ∷ q ∷ r ∷ points) inside = absurd inside.1.1
-around-at_least (b ∷ d ∷ e ∷ boxes) (p ∷ q ∷ []) inside = absurd inside.1.1
-around-at_least (b ∷ d ∷ e ∷ []) (p ∷ q ∷ r ∷ s ∷ points) inside = absurd inside.1.1.1
-around-at_least (b ∷ d ∷ e ∷ f ∷ boxes) (p ∷ q ∷ r ∷ []) inside = absurd inside.1.1.1
+AllZip-turned : (xs ys : List ℕ) → AllZip (λ x y. y ≤ x) xs ys → AllZip (◌≤◌) ys xs
+AllZip-turned [] [] all = tt
+AllZip-turned [] (y ∷ ys) all = absurd all
+AllZip-turned (x ∷ xs) [] all = absurd all
+AllZip-turned (x ∷ xs) (y ∷ ys) all = (all.0, AllZip-turned xs ys all.1)
+
+-- the ways round of points lie between those of boxes that hold them
+around-at_most : (boxes : List Box) (points : List Vec3) → AllZip IsInside boxes points → AllZip (◌≤◌) (around distance points) (around greatest_distance boxes)
+around-at_most boxes points inside =
+    AllZip-turned _ _ (around-zip IsInside (λ most way. way ≤ most) greatest_distance distance-at_most boxes points inside)
+
+around-at_least : (boxes : List Box) (points : List Vec3) → AllZip IsInside boxes points → AllZip (◌≤◌) (around least_distance boxes) (around distance points)
+around-at_least boxes points inside = around-zip IsInside (◌≤◌) least_distance distance-at_least boxes points inside
 
 -- and are just those of single points
-pub around-at : (far : Box → Box → ℕ) (fixes : List Fix) → ((a b : Box) (p q : Vec3) → IsAt a p → IsAt b q → far a b ≡ distance p q) → around far (map fix_box fixes) ≡ around distance (points_of fixes)
-around-at far [] same = refl
-around-at far (a ∷ []) same = refl
-around-at far (a ∷ b ∷ []) same = refl
-around-at far (a ∷ b ∷ c ∷ []) same =
-    let at = fix_boxes-at (a ∷ b ∷ c ∷ []) in
-    let first = same (fix_box a) (fix_box b) a.at b.at at.0 at.1.0 in
-    let second = same (fix_box b) (fix_box c) b.at c.at at.1.0 at.1.1.0 in
-    let third = same (fix_box c) (fix_box a) c.at a.at at.1.1.0 at.0 in
-    λ i. first i ∷ second i ∷ third i ∷ []
-around-at far (a ∷ b ∷ c ∷ d ∷ fixes) same = refl
+AllZip-equal : (xs ys : List ℕ) → AllZip (λ x y. x ≡ y) xs ys → xs ≡ ys
+AllZip-equal [] [] all = refl
+AllZip-equal [] (y ∷ ys) all = absurd all
+AllZip-equal (x ∷ xs) [] all = absurd all
+AllZip-equal (x ∷ xs) (y ∷ ys) all = λ i. all.0 i ∷ AllZip-equal xs ys all.1 i
+
+around-at : (far : Box → Box → ℕ) (fixes : List Fix) → ((a b : Box) (p q : Vec3) → IsAt a p → IsAt b q → far a b ≡ distance p q) → around far (map fix_box fixes) ≡ around distance (points_of fixes)
+around-at far fixes same =
+    AllZip-equal _ _ (around-zip IsAt (λ x y. x ≡ y) far same (map fix_box fixes) (points_of fixes) (fix_boxes-at fixes))
 
 -- what the ways round can be together
 pub around-limited : (points : List Vec3) → sum (around distance points) ≤ 22381133079
