@@ -1,5 +1,8 @@
 pub mod Bounds
 pub mod Courses
+pub mod Decided
+pub mod Decisions
+pub mod Existence
 pub mod Farthest
 pub mod Finishing
 pub mod Fronts

@@ -76,7 +76,8 @@ flown-time start finish recording judged b z f from to rising le s h =
     let ended : s.crossed.y.second ≤ℤ to = finish-not_before finish recording.fixes judged b f to s.crossed.y rising s.crossed.y_is (omega arith) h.at_finish in
     omega (arith, ints)
 
-finish-judged : (finish : Finish) (fixes : List Fix) (judged : ℕ × ℕ) (f : ℕ) (time : ℤ) → IsAtFinish finish fixes judged f time → IsInRange judged f
+-- a finish is judged
+pub finish-judged : (finish : Finish) (fixes : List Fix) (judged : ℕ × ℕ) (f : ℕ) (time : ℤ) → IsAtFinish finish fixes judged f time → IsInRange judged f
 finish-judged (Ring at radius) fixes judged f time h = h.is_judged
 finish-judged (Gate line) fixes judged f time h = h.behind_judged
 
