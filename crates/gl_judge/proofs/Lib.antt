@@ -3,6 +3,7 @@ pub mod Courses
 pub mod Decided
 pub mod Decisions
 pub mod Existence
+pub mod ExpectedGoals
 pub mod Farthest
 pub mod Finishing
 pub mod Fronts

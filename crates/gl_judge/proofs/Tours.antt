@@ -145,7 +145,7 @@ finish-judged (Ring at radius) fixes judged f time there = there.is_judged.1
 finish-judged (Gate line) fixes judged f time there = there.behind_judged.1
 
 -- the last fix of a visit is judged, if the first one is
-visit-judged : (fixes : List Fix) (judged : ℕ × ℕ) (zones : List Zone) (from : ℕ) (visit : List ℕ) → IsInRange judged from → IsVisit fixes judged zones from visit → last_of from visit < judged.1
+pub visit-judged : (fixes : List Fix) (judged : ℕ × ℕ) (zones : List Zone) (from : ℕ) (visit : List ℕ) → IsInRange judged from → IsVisit fixes judged zones from visit → last_of from visit < judged.1
 visit-judged fixes judged [] from [] start v = start.1
 visit-judged fixes judged [] from (z ∷ zs) start v = absurd v
 visit-judged fixes judged (zone ∷ zones) from [] start v = absurd v
