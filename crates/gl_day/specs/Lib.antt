@@ -1,3 +1,4 @@
+pub mod Asked
 pub mod Checked
 pub mod Day
 pub mod Expected
