@@ -31,7 +31,8 @@ use Rattle.gl_app.specs.declared.refusal.Refusal.{Refusal}
 use Rattle.gl_app.specs.declared.status.Status.{Status}
 use Rattle.gl_app.specs.declared.status.Status.TheVariants as status
 use Rattle.gl_app.specs.Answer.{Answer, refused, saying}
-use Rattle.gl_app.specs.Asked.{AreAsked, AreAskedIn, AreAskedOf, AreAskedOfReading, Expected}
+use Rattle.gl_day.specs.Asked.{AreAskedOf, AreAskedOfReading, Expected}
+use Rattle.gl_app.specs.Asked.{AreAsked, AreAskedIn}
 use Rattle.gl_app.specs.Check.{IsCheck, IsDayChecked, IsProofChecked, IsSaidBehind, IsScoredFolder, checked_answer}
 use Rattle.gl_app.specs.DayFiles.{IfListed, IfPassed, IsAirspaceFor, IsAirspaceOf, IsCheckTested, IsDayOf, IsProofIn, IsProofOf, IsScoreTested, IsTaskOf, Tested}
 use Rattle.gl_app.specs.Listed.{most_proof_bytes}

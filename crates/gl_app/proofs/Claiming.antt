@@ -16,7 +16,7 @@ use Rattle.gl_judge.specs.Claimed.{rules_of_claims}
 use Rattle.gl_day.specs.Totals.{AreTotals}
 use Rattle.gl_day.proofs.Walked.{claims_for, claims_for-append, zip-push}
 use Rattle.gl_app.specs.Appending.{HasAppended, HasAppendedPart}
-use Rattle.gl_app.specs.Asked.{Expected}
+use Rattle.gl_day.specs.Asked.{Expected}
 use Rattle.gl_app.specs.Score.{ArePartlyProved}
 use Rattle.gl_app.specs.Scoring.{AreClaimed, AreClaimedPartly}
 use Rattle.gl_app.proofs.Appended.{HasAppended-none, HasAppended-then, HasAppendedPart-memory, HasAppendedPart-then}

@@ -15,7 +15,8 @@ use Rattle.gl_day.specs.Expected.{expected_of}
 use Rattle.gl_judge.specs.Claimed.{rules_of_claims}
 use Rattle.gl_day.proofs.Walked.{length-claims_for}
 use Rattle.gl_app.specs.declared.day_files.DayFiles.{DayFiles}
-use Rattle.gl_app.specs.Asked.{AreAsked, AreAskedIn, Expected}
+use Rattle.gl_day.specs.Asked.{Expected}
+use Rattle.gl_app.specs.Asked.{AreAsked, AreAskedIn}
 use Rattle.gl_app.specs.Check.{IsDayChecked, IsSaidBehind}
 use Rattle.gl_app.proofs.Flights.{asked-push}
 

@@ -36,7 +36,8 @@ use Rattle.gl_day.specs.Laws.Texts.{claim_texts-append, proof_text-parts}
 use Rattle.gl_day.proofs.Walked.{zip-length, zip-push}
 use Rattle.gl_app.specs.declared.day_files.DayFiles.{DayFiles}
 use Rattle.gl_app.specs.Appending.{HasAppended, HasAppendedPart, IsAppended}
-use Rattle.gl_app.specs.Asked.{AreAsked, AreAskedIn, AreAskedOf, AreAskedOfReading, Expected, HaveFiles, IsEntrantSeen, IsSeenAmong}
+use Rattle.gl_day.specs.Asked.{AreAskedOf, AreAskedOfReading, Expected}
+use Rattle.gl_app.specs.Asked.{AreAsked, AreAskedIn, HaveFiles, IsEntrantSeen, IsSeenAmong}
 use Rattle.gl_app.specs.DayFiles.{Sees}
 use Rattle.gl_app.specs.Score.{ArePartlyProved, IsBegun, IsScored, Scored, flights_of_all, statements_of_all, text_so_far}
 use Rattle.gl_app.specs.Scoring.{AreClaimedPartly, AreEntrantsScored, IsDayDone, IsDayStopped, IsEntrantBegun, IsEntrantScored}

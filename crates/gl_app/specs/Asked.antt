@@ -1,42 +1,14 @@
 -- Which claims a proof has to have, by what is seen of the entrants' files.
-use Rattle.std.specs.Prelude.{◌≡◌, ℕ, nat_lt, List, [], ◌∷◌, ◌++◌, length, Option, None, Some, Result, Ok, Err, Contains, MatchBool}
+use Rattle.std.specs.Prelude.{◌≡◌, ℕ, List, [], ◌∷◌, ◌++◌, Option, None, Some, Contains}
 use Rattle.gl_airspace.specs.declared.volume.Airspace.{Airspace}
 use Rattle.gl_desk.specs.Desk.{FilesByName, HasFile, IsSeenIn}
-use Rattle.gl_goal.specs.Rule.{Rule}
-use Rattle.gl_igc.specs.declared.error.IgcError.{IgcError}
-use Rattle.gl_igc.specs.declared.recording.Recording.{Recording}
-use Rattle.gl_igc.specs.Reading.{Reading, recording_of}
-use Rattle.gl_igc.specs.Recording.{reading_of}
-use Rattle.gl_judge.specs.Claims.{AreExpected}
-use Rattle.gl_proof.specs.declared.claim.ClaimKind.{ClaimKind}
 use Rattle.gl_task.specs.declared.task.Entrant.{Entrant}
 use Rattle.gl_task.specs.declared.task.Task.{Task}
 use Rattle.gl_day.specs.declared.flight.Seen.{Seen}
 use Rattle.gl_day.specs.declared.flight.Seen.TheVariants as code
-use Rattle.gl_day.specs.Expected.{expected_of}
-use Rattle.gl_day.specs.Flight.{IsFlight, IsSeen, StewardRules, most_bytes}
+use Rattle.gl_day.specs.Asked.{AreAskedOf, Expected}
+use Rattle.gl_day.specs.Flight.{IsFlight, IsSeen, StewardRules}
 use Rattle.gl_app.specs.DayFiles.{Sees}
-
--- a claim that a proof has to have: the number of an entrant, a kind and a goal
-abbrev pub Expected : Type 0
-Expected = List ℕ × ClaimKind × Rule
-
--- those of an entrant whose file reads as this, or is refused
-abbrev pub AreAskedOfReading : Task → Airspace → Entrant → Result Reading IgcError → List Expected
-    → Type 0
-AreAskedOfReading task air entrant (Ok reading) claims =
-    (recording : Recording) × (reading_of recording ≡ reading)
-    × (list : List (ClaimKind × Rule)) × AreExpected task air recording list
-    × (claims ≡ expected_of entrant.number list)
-AreAskedOfReading task air entrant (Err error) claims = claims ≡ []
-
--- those of an entrant of whose file this is seen: none without a file, and none where it is too
--- large
-abbrev pub AreAskedOf : Task → Airspace → Entrant → Option (List ℕ) → List Expected → Type 0
-AreAskedOf task air entrant None claims = claims ≡ []
-AreAskedOf task air entrant (Some bytes) claims =
-    MatchBool (nat_lt most_bytes (length bytes)) (claims ≡ [])
-    (AreAskedOfReading task air entrant (recording_of bytes (Some task.date)) claims)
 
 -- those of an entrant, by the file in a folder
 abbrev pub AreAskedIn : Option FilesByName → Task → Airspace → Entrant → List Expected → Type 0

@@ -16,7 +16,8 @@ use Rattle.gl_day.specs.Flight.{StewardRules}
 use Rattle.gl_app.specs.declared.day_files.DayFiles.{DayFiles}
 use Rattle.gl_app.specs.declared.status.Status.TheVariants as status
 use Rattle.gl_app.specs.Answer.{Answer, refused, saying}
-use Rattle.gl_app.specs.Asked.{AreAsked, Expected}
+use Rattle.gl_day.specs.Asked.{Expected}
+use Rattle.gl_app.specs.Asked.{AreAsked}
 use Rattle.gl_app.specs.DayFiles.{IfPassed, IsCheckTested, Tested}
 use Rattle.gl_app.specs.Listed.{most_proof_bytes}
 use Rattle.gl_app.specs.Score.{IsScore}

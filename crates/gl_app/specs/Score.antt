@@ -13,7 +13,8 @@ use Rattle.gl_day.specs.Flight.{IsFlight, StewardRules}
 use Rattle.gl_app.specs.declared.day_files.DayFiles.{DayFiles}
 use Rattle.gl_app.specs.declared.status.Status.TheVariants.{Done}
 use Rattle.gl_app.specs.Answer.{Answer, refused}
-use Rattle.gl_app.specs.Asked.{AreAsked, Expected}
+use Rattle.gl_day.specs.Asked.{Expected}
+use Rattle.gl_app.specs.Asked.{AreAsked}
 use Rattle.gl_app.specs.DayFiles.{IsScoreTested, Sees, Tested}
 use Rattle.gl_app.specs.Words.{DayNames}
 

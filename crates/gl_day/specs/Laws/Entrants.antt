@@ -8,9 +8,8 @@ use Rattle.gl_goal.specs.Rule.{IsGoal, Rule}
 use Rattle.gl_igc.specs.declared.error.IgcError.{IgcError}
 use Rattle.gl_igc.specs.declared.recording.Recording.{Recording}
 use Rattle.gl_igc.specs.Reading.{Reading, recording_of}
-use Rattle.gl_judge.specs.declared.outcome.Judged.{Judged}
-use Rattle.gl_judge.specs.Claims.{AreExpected}
-use Rattle.gl_judge.specs.Outcome.{IsJudged}
+use Rattle.gl_judge.proofs.Existence.{some_expected, some_judged}
+use Rattle.gl_judge.proofs.ExpectedGoals.{expected_goals}
 use Rattle.gl_proof.specs.declared.claim.ClaimKind.{ClaimKind}
 use Rattle.gl_proof.specs.Claim.{Statement}
 use Rattle.gl_sheet.specs.declared.row.Outcome.TheVariants.{NotLaunched, Refused}
@@ -23,12 +22,6 @@ use Rattle.gl_day.specs.Flight.{IsFlight, IsReadFlight, IsRefusedFlight, Steward
 use Rattle.gl_day.specs.Laws.Flights.{flight_of, goals_expected, some_statements, some_unjudged}
 use Rattle.gl_day.specs.Laws.Readings.{IsAnswered, answered}
 
--- What is known of judging: each recording is judged, and claims of goals are expected of it.
-pub record CanJudge : Type 0 where
-  pub some_judged : (task : Task) (air : Airspace) (recording : Recording) → (judged : Judged) × IsJudged task air recording judged
-  pub some_expected : (task : Task) (air : Airspace) (recording : Recording) → (claims : List (ClaimKind × Rule)) × AreExpected task air recording claims
-  pub expected_goals : (task : Task) (air : Airspace) (recording : Recording) (claims : List (ClaimKind × Rule)) → AreExpected task air recording claims → All (λ claim. IsGoal claim.1) claims
-
 -- the claims are claims of goals
 abbrev pub AreGoals : List Expected → Type 0
 AreGoals claims = All (λ claim. IsGoal claim.2) claims
@@ -36,20 +29,20 @@ AreGoals claims = All (λ claim. IsGoal claim.2) claims
 goals_none : (claims : List Expected) → claims ≡ [] → AreGoals claims
 goals_none claims none = subst AreGoals (sym none) (All-nil (λ (claim : Expected). IsGoal claim.2))
 
-goals_of_reading : CanJudge → (task : Task) (air : Airspace) (entrant : Entrant) (said : Result Reading IgcError) (claims : List Expected) → AreAskedOfReading task air entrant said claims → AreGoals claims
-goals_of_reading judging task air entrant (Ok reading) claims (recording, is, list, expected, are) =
-    subst AreGoals (sym are) (goals_expected entrant.number list (judging.expected_goals task air recording list expected))
-goals_of_reading judging task air entrant (Err error) claims none = goals_none claims none
+goals_of_reading : (task : Task) (air : Airspace) (entrant : Entrant) (said : Result Reading IgcError) (claims : List Expected) → AreAskedOfReading task air entrant said claims → AreGoals claims
+goals_of_reading task air entrant (Ok reading) claims (recording, is, list, expected, are) =
+    subst AreGoals (sym are) (goals_expected entrant.number list (expected_goals task air recording list expected))
+goals_of_reading task air entrant (Err error) claims none = goals_none claims none
 
-goals_of_bytes : CanJudge → (task : Task) (air : Airspace) (entrant : Entrant) (said : Result Reading IgcError) (claims : List Expected) (large : Bool) → MatchBool large (claims ≡ []) (AreAskedOfReading task air entrant said claims) → AreGoals claims
-goals_of_bytes judging task air entrant said claims true none = goals_none claims none
-goals_of_bytes judging task air entrant said claims false asked = goals_of_reading judging task air entrant said claims asked
+goals_of_bytes : (task : Task) (air : Airspace) (entrant : Entrant) (said : Result Reading IgcError) (claims : List Expected) (large : Bool) → MatchBool large (claims ≡ []) (AreAskedOfReading task air entrant said claims) → AreGoals claims
+goals_of_bytes task air entrant said claims true none = goals_none claims none
+goals_of_bytes task air entrant said claims false asked = goals_of_reading task air entrant said claims asked
 
 -- the claims that are asked of an entrant are claims of goals
-pub asked_goals : CanJudge → (task : Task) (air : Airspace) (entrant : Entrant) (seen : Option (List ℕ)) (claims : List Expected) → AreAskedOf task air entrant seen claims → AreGoals claims
-asked_goals judging task air entrant None claims none = goals_none claims none
-asked_goals judging task air entrant (Some bytes) claims asked =
-    goals_of_bytes judging task air entrant (recording_of bytes (Some task.date)) claims (nat_lt most_bytes (length bytes)) asked
+pub asked_goals : (task : Task) (air : Airspace) (entrant : Entrant) (seen : Option (List ℕ)) (claims : List Expected) → AreAskedOf task air entrant seen claims → AreGoals claims
+asked_goals task air entrant None claims none = goals_none claims none
+asked_goals task air entrant (Some bytes) claims asked =
+    goals_of_bytes task air entrant (recording_of bytes (Some task.date)) claims (nat_lt most_bytes (length bytes)) asked
 
 none_proved : (claims : List Expected) (statements : List Statement) → claims ≡ [] → AllZip Proves claims statements → statements ≡ []
 none_proved [] [] none proved = refl
@@ -61,50 +54,50 @@ refused_flight task entrant number claims statements none proved =
     let made = some_unjudged task entrant true (Refused number) in
     (made.0, (none_proved claims statements none proved, made.1))
 
-flight_of_reading : CanJudge → (task : Task) (air : Airspace) (stewards : List StewardRules) (entrant : Entrant) (said : Result Reading IgcError) (claims : List Expected) (statements : List Statement) → IsAnswered said → AreAskedOfReading task air entrant said claims → AllZip Proves claims statements → (flight : Flight) × IsReadFlight task air stewards entrant said statements flight
-flight_of_reading judging task air stewards entrant (Ok reading) claims statements answer (recording, is, list, expected, are) proved =
+flight_of_reading : (task : Task) (air : Airspace) (stewards : List StewardRules) (entrant : Entrant) (said : Result Reading IgcError) (claims : List Expected) (statements : List Statement) → IsAnswered said → AreAskedOfReading task air entrant said claims → AllZip Proves claims statements → (flight : Flight) × IsReadFlight task air stewards entrant said statements flight
+flight_of_reading task air stewards entrant (Ok reading) claims statements answer (recording, is, list, expected, are) proved =
     let each = subst (λ (asked : List Expected). AllZip Proves asked statements) are proved in
-    let judged = judging.some_judged task air recording in
+    let judged = some_judged task air recording in
     let made = flight_of task air stewards entrant recording list statements judged.0 expected each judged.1 in
     (made.0, (recording, is, made.1))
-flight_of_reading judging task air stewards entrant (Err error) claims statements (number, is) none proved =
+flight_of_reading task air stewards entrant (Err error) claims statements (number, is) none proved =
     let made = refused_flight task entrant number claims statements none proved in
     (made.0, (number, is, made.1))
 
-flight_of_bytes : CanJudge → (task : Task) (air : Airspace) (stewards : List StewardRules) (entrant : Entrant) (said : Result Reading IgcError) (claims : List Expected) (statements : List Statement) (large : Bool) → IsAnswered said → MatchBool large (claims ≡ []) (AreAskedOfReading task air entrant said claims) → AllZip Proves claims statements → (flight : Flight) × MatchBool large (IsRefusedFlight task entrant 7 statements flight) (IsReadFlight task air stewards entrant said statements flight)
-flight_of_bytes judging task air stewards entrant said claims statements true answer none proved =
+flight_of_bytes : (task : Task) (air : Airspace) (stewards : List StewardRules) (entrant : Entrant) (said : Result Reading IgcError) (claims : List Expected) (statements : List Statement) (large : Bool) → IsAnswered said → MatchBool large (claims ≡ []) (AreAskedOfReading task air entrant said claims) → AllZip Proves claims statements → (flight : Flight) × MatchBool large (IsRefusedFlight task entrant 7 statements flight) (IsReadFlight task air stewards entrant said statements flight)
+flight_of_bytes task air stewards entrant said claims statements true answer none proved =
     refused_flight task entrant 7 claims statements none proved
-flight_of_bytes judging task air stewards entrant said claims statements false answer asked proved =
-    flight_of_reading judging task air stewards entrant said claims statements answer asked proved
+flight_of_bytes task air stewards entrant said claims statements false answer asked proved =
+    flight_of_reading task air stewards entrant said claims statements answer asked proved
 
 -- what proves the claims that are asked of an entrant has a flight
-pub asked_flight : CanJudge → (task : Task) (air : Airspace) (stewards : List StewardRules) (entrant : Entrant) (seen : Option (List ℕ)) (claims : List Expected) (statements : List Statement) → AreAskedOf task air entrant seen claims → AllZip Proves claims statements → (flight : Flight) × IsFlight task air stewards entrant seen statements flight
-asked_flight judging task air stewards entrant None claims statements none proved =
+pub asked_flight : (task : Task) (air : Airspace) (stewards : List StewardRules) (entrant : Entrant) (seen : Option (List ℕ)) (claims : List Expected) (statements : List Statement) → AreAskedOf task air entrant seen claims → AllZip Proves claims statements → (flight : Flight) × IsFlight task air stewards entrant seen statements flight
+asked_flight task air stewards entrant None claims statements none proved =
     let made = some_unjudged task entrant false NotLaunched in
     (made.0, (none_proved claims statements none proved, made.1))
-asked_flight judging task air stewards entrant (Some bytes) claims statements asked proved =
-    flight_of_bytes judging task air stewards entrant (recording_of bytes (Some task.date)) claims statements (nat_lt most_bytes (length bytes)) (answered bytes (Some task.date)) asked proved
+asked_flight task air stewards entrant (Some bytes) claims statements asked proved =
+    flight_of_bytes task air stewards entrant (recording_of bytes (Some task.date)) claims statements (nat_lt most_bytes (length bytes)) (answered bytes (Some task.date)) asked proved
 
-asked_of_reading : CanJudge → (task : Task) (air : Airspace) (entrant : Entrant) (said : Result Reading IgcError) → IsAnswered said → (claims : List Expected) × AreAskedOfReading task air entrant said claims
-asked_of_reading judging task air entrant (Ok reading) (recording, is) =
-    let expected = judging.some_expected task air recording in
+asked_of_reading : (task : Task) (air : Airspace) (entrant : Entrant) (said : Result Reading IgcError) → IsAnswered said → (claims : List Expected) × AreAskedOfReading task air entrant said claims
+asked_of_reading task air entrant (Ok reading) (recording, is) =
+    let expected = some_expected task air recording in
     (expected_of entrant.number expected.0, (recording, is, expected.0, expected.1, refl))
-asked_of_reading judging task air entrant (Err error) answer = ([], refl)
+asked_of_reading task air entrant (Err error) answer = ([], refl)
 
-asked_of_bytes : CanJudge → (task : Task) (air : Airspace) (entrant : Entrant) (said : Result Reading IgcError) (large : Bool) → IsAnswered said → (claims : List Expected) × MatchBool large (claims ≡ []) (AreAskedOfReading task air entrant said claims)
-asked_of_bytes judging task air entrant said true answer = ([], refl)
-asked_of_bytes judging task air entrant said false answer = asked_of_reading judging task air entrant said answer
+asked_of_bytes : (task : Task) (air : Airspace) (entrant : Entrant) (said : Result Reading IgcError) (large : Bool) → IsAnswered said → (claims : List Expected) × MatchBool large (claims ≡ []) (AreAskedOfReading task air entrant said claims)
+asked_of_bytes task air entrant said true answer = ([], refl)
+asked_of_bytes task air entrant said false answer = asked_of_reading task air entrant said answer
 
 -- some claims are asked of each entrant, whatever is seen of the file
-pub some_asked : CanJudge → (task : Task) (air : Airspace) (entrant : Entrant) (seen : Option (List ℕ)) → (claims : List Expected) × AreAskedOf task air entrant seen claims
-some_asked judging task air entrant None = ([], refl)
-some_asked judging task air entrant (Some bytes) =
-    asked_of_bytes judging task air entrant (recording_of bytes (Some task.date)) (nat_lt most_bytes (length bytes)) (answered bytes (Some task.date))
+pub some_asked : (task : Task) (air : Airspace) (entrant : Entrant) (seen : Option (List ℕ)) → (claims : List Expected) × AreAskedOf task air entrant seen claims
+some_asked task air entrant None = ([], refl)
+some_asked task air entrant (Some bytes) =
+    asked_of_bytes task air entrant (recording_of bytes (Some task.date)) (nat_lt most_bytes (length bytes)) (answered bytes (Some task.date))
 
 -- each entrant has statements and a flight, whatever is seen of the file
-pub some_flight : CanJudge → (task : Task) (air : Airspace) (stewards : List StewardRules) (entrant : Entrant) (seen : Option (List ℕ)) → (statements : List Statement) × (flight : Flight) × IsFlight task air stewards entrant seen statements flight
-some_flight judging task air stewards entrant seen =
-    let asked = some_asked judging task air entrant seen in
-    let proved = some_statements asked.0 (asked_goals judging task air entrant seen asked.0 asked.1) in
-    let made = asked_flight judging task air stewards entrant seen asked.0 proved.0 asked.1 proved.1 in
+pub some_flight : (task : Task) (air : Airspace) (stewards : List StewardRules) (entrant : Entrant) (seen : Option (List ℕ)) → (statements : List Statement) × (flight : Flight) × IsFlight task air stewards entrant seen statements flight
+some_flight task air stewards entrant seen =
+    let asked = some_asked task air entrant seen in
+    let proved = some_statements asked.0 (asked_goals task air entrant seen asked.0 asked.1) in
+    let made = asked_flight task air stewards entrant seen asked.0 proved.0 asked.1 proved.1 in
     (proved.0, made.0, made.1)
