@@ -9,3 +9,4 @@ pub mod Least
 pub mod Orders
 pub mod Parts
 pub mod Shares
+pub mod SomeDay
