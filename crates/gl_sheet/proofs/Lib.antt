@@ -1,2 +1,3 @@
 pub mod OneOrder
+pub mod SomeOrder
 pub mod Standing

@@ -25,7 +25,8 @@ use Rattle.gl_sheet.specs.Columns.{fields, heading}
 use Rattle.gl_sheet.specs.Sheet.{IsSheet, line_cmp}
 use Rattle.gl_sheet.proofs.Standing.{line_cmp_total}
 
-rest_sorted : {X : Type 0} (lt : X → X → Bool) (x : X) (xs : List X) → IsSortedBy lt (x ∷ xs) → IsSortedBy lt xs
+-- what follows the first of a sorted list is sorted
+pub rest_sorted : {X : Type 0} (lt : X → X → Bool) (x : X) (xs : List X) → IsSortedBy lt (x ∷ xs) → IsSortedBy lt xs
 rest_sorted lt x xs sorted = λ k d low within.
     let same : suc k + 1 ≡ suc (k + 1) = omega arith in
     subst (λ (n : ℕ). lt (get_or (x ∷ xs) n d) (get_or xs k d) ≡ false) same (sorted (suc k) d (omega arith) (omega (arith, within)))
