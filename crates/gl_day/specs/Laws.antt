@@ -9,6 +9,7 @@ pub mod Foreign
 pub mod Ranges
 pub mod Readings
 pub mod Recordings
+pub mod Sheets
 pub mod Statements
 pub mod Texts
 pub mod Used
