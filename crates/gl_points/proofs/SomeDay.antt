@@ -1,16 +1,15 @@
 -- The performances of a day have figures, and these decide its points.
-use Rattle.std.proofs.Common.{◌≡◌, refl, ℕ, zero, suc, ◌*◌, ◌<◌, ◌≤◌, Bool, true, false, List, [], ◌∷◌, length, map, filter, get_or, cond, Option, None, Some, arith, IsTrue}
+use Rattle.std.proofs.Common.{◌≡◌, refl, ℕ, zero, suc, ◌*◌, ◌≤◌, Bool, true, false, List, [], ◌∷◌, length, map, filter, get_or, cond, Option, None, Some, arith, IsTrue}
 use Rattle.std.specs.Prelude.{All, Contains}
 use Rattle.std.proofs.Math.Nat.{le_of_mul-le-mul_left, mul-le-mul, mul-le-mul_right}
 use Rattle.std.proofs.lemmas.Bool.Decides.{nat_tests}
 use Rattle.std.proofs.lemmas.List.Elements.{All-cons, All-head, All-nil, All-tail, All-weaker, filter_passes}
 use Rattle.std.proofs.lemmas.List.Sorted.{IsPermutation-refl}
-use Rattle.gl_points.specs.declared.frac.Frac.{Frac}
 use Rattle.gl_points.specs.declared.performance.Performance.{Performance}
 use Rattle.gl_points.specs.declared.summary.Day.{Day}
 use Rattle.gl_points.specs.Day.{IsDayOf, finishers_of, launched_of, least_handicap, most_points_of_day, points_by_distance, points_by_time}
 use Rattle.gl_points.specs.Figures.{IsGreatestFigure, handicapped_distance, handicapped_speed, is_far, is_fast, is_fastest, least_number}
-use Rattle.gl_points.specs.Fraction.{Fraction, ◌÷◌, IsAtMost, is_at_most, lesser, whole}
+use Rattle.gl_points.specs.Fraction.{Fraction, IsAtMost, is_at_most, lesser, whole}
 use Rattle.gl_points.specs.Limits.{distance_limit, handicap_limit, performance_limit, point_limit, time_limit}
 use Rattle.gl_points.specs.Points.{points_earned}
 use Rattle.gl_points.proofs.AnyOrder.{same_in_any_order}

@@ -1,17 +1,15 @@
 -- The flights of a task have one sheet.
 use Rattle.std.proofs.Common.{◌≡◌, ◌∙◌, refl, sym, ap, subst, ℕ, ◌-◌, ◌≤◌, List, [], ◌∷◌, length, map, arith}
-use Rattle.std.specs.Prelude.{All, Bool, Contains, IsTrue}
+use Rattle.std.specs.Prelude.{All, Contains, IsTrue}
 use Rattle.std.proofs.Props.{props}
 use Rattle.std.proofs.lemmas.List.{length-map}
 use Rattle.std.proofs.lemmas.List.Elements.{All-contains_itself, All-head, All-tail, All-weaker}
 use mathlib.Core.HLevel.{is_prop→PathP}
 use Rattle.gl_points.specs.declared.performance.Performance.{Performance}
 use Rattle.gl_points.specs.declared.summary.Day.{Day}
-use Rattle.gl_points.specs.Day.{IsDayOf}
 use Rattle.gl_points.specs.Limits.{distance_limit, handicap_limit, performance_limit, time_limit}
 use Rattle.gl_points.specs.Points.{points_earned}
 use Rattle.gl_points.proofs.SomeDay.{points_same, some_day}
-use Rattle.gl_sheet.specs.declared.row.Outcome.{Outcome}
 use Rattle.gl_sheet.specs.declared.row.Row.{Row}
 use Rattle.gl_sheet.specs.Sheet.{IsSheet}
 use Rattle.gl_sheet.proofs.OneOrder.{one_text}
