@@ -137,6 +137,6 @@ unread_right P Q x (Ok answer) follows right =
 unread_right P Q x (Err stop) follows right = tt
 
 -- a run that is stopped ends so
-pub stopped_ends : (Right : Answer → Type 0) (Begun : List ℕ → Type 0) (target : Option (List ℕ)) (stop : DeskError) (status : Status) (x z : Told) → status ≡ status_of stop → Stops Right Begun target x z → Ends Right Begun target status x z
-stopped_ends Right Begun target Failed status x z is stops = subst (λ (s : Status). Ends Right Begun target s x z) (sym is) stops
-stopped_ends Right Begun target Memory status x z is stops = subst (λ (s : Status). Ends Right Begun target s x z) (sym is) stops
+pub stopped_ends : (Right : Answer → Type 0) (target : Option (List ℕ)) (stop : DeskError) (status : Status) (x z : Told) → status ≡ status_of stop → Stops Right target x z → Ends Right target status x z
+stopped_ends Right target Failed status x z is stops = subst (λ (s : Status). Ends Right target s x z) (sym is) stops
+stopped_ends Right target Memory status x z is stops = subst (λ (s : Status). Ends Right target s x z) (sym is) stops

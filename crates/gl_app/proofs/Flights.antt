@@ -45,7 +45,7 @@ use Rattle.gl_app.proofs.Appended.{HasAppended-none, HasAppended-reads, HasAppen
 use Rattle.gl_app.proofs.DayTests.{has_file, not_listed}
 
 -- the claims of a list of entrants, and of what was proved of them
-zip-append : {A B : Type 0} (R : A → B → Type 0) (a c : List A) (b d : List B) → AllZip R a b → AllZip R c d → AllZip R (a ++ c) (b ++ d)
+pub zip-append : {A B : Type 0} (R : A → B → Type 0) (a c : List A) (b d : List B) → AllZip R a b → AllZip R c d → AllZip R (a ++ c) (b ++ d)
 zip-append R [] c [] d one two = two
 zip-append R [] c (y ∷ b) d one two = absurd one
 zip-append R (x ∷ a) c [] d one two = absurd one
@@ -436,7 +436,7 @@ day_memory day stewards proof x y flights so_far =
       appended = HasAppendedPart-memory proof text x y so_far.appended;
     }
 
-length-flights : (scored : List Scored) → length (flights_of_all scored) ≡ length scored
+pub length-flights : (scored : List Scored) → length (flights_of_all scored) ≡ length scored
 length-flights [] = refl
 length-flights (s ∷ scored) = ap suc (length-flights scored)
 

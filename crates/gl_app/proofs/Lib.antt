@@ -2,6 +2,7 @@ pub mod Accepting
 pub mod AnswerLines
 pub mod Appended
 pub mod Compared
+pub mod Completing
 pub mod Claiming
 pub mod Commanded
 pub mod DayLines

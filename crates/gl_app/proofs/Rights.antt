@@ -163,11 +163,11 @@ appended_then (Some file) text x y z written folder outputs = (
 )
 
 -- the answer was said, once its text was appended
-pub ends_said : (folder : Option FilesByName) (stewards : List StewardRules) (command : Option Command) (Begun : List ℕ → Type 0) (target : Option (List ℕ)) (answer : Answer) (x y z : Told) → IsRight folder stewards command answer → HasGiven target answer.appended x y → z.said ≡ followed_by y.said answer.said → z.folder ≡ y.folder → z.outputs ≡ y.outputs → Ends (IsRight folder stewards command) Begun target answer.status x z
-ends_said folder stewards command Begun target answer x y z right given said folder_same outputs_same =
+pub ends_said : (folder : Option FilesByName) (stewards : List StewardRules) (command : Option Command) (target : Option (List ℕ)) (answer : Answer) (x y z : Told) → IsRight folder stewards command answer → HasGiven target answer.appended x y → z.said ≡ followed_by y.said answer.said → z.folder ≡ y.folder → z.outputs ≡ y.outputs → Ends (IsRight folder stewards command) target answer.status x z
+ends_said folder stewards command target answer x y z right given said folder_same outputs_same =
     let written = given.written in
     let Right : Answer → Type 0 = IsRight folder stewards command in
-    subst (λ (stop : _). MatchOption stop ((a : Answer) × Right a × Gives target a answer.status x z) (λ _. Stops Right Begun target x z))
+    subst (λ (stop : _). MatchOption stop ((a : Answer) × Right a × Gives target a answer.status x z) (λ _. Stops Right target x z))
     (sym (right_goes_on folder stewards command answer right)) (
       answer,
       right,
@@ -180,10 +180,10 @@ ends_said folder stewards command Begun target answer x y z right given said fol
     )
 
 -- a first part of it was said
-pub stops_saying : (Right : Answer → Type 0) (Begun : List ℕ → Type 0) (target : Option (List ℕ)) (answer : Answer) (n : ℕ) (x y z : Told) → Right answer → HasGiven target answer.appended x y → z.said ≡ followed_by y.said (take n answer.said) → z.folder ≡ y.folder → z.outputs ≡ y.outputs → Stops Right Begun target x z
-stops_saying Right Begun target answer n x y z right given said folder_same outputs_same =
+pub stops_saying : (Right : Answer → Type 0) (target : Option (List ℕ)) (answer : Answer) (n : ℕ) (x y z : Told) → Right answer → HasGiven target answer.appended x y → z.said ≡ followed_by y.said (take n answer.said) → z.folder ≡ y.folder → z.outputs ≡ y.outputs → Stops Right target x z
+stops_saying Right target answer n x y z right given said folder_same outputs_same =
     let written = given.written in
-    inr (inr (
+    inr (
       answer,
       right,
       record {
@@ -194,4 +194,4 @@ stops_saying Right Begun target answer n x y z right given said folder_same outp
             (subst (λ (text : List ℕ). IsAppended target text x y) (sym (take-length answer.appended)) written.appended) folder_same outputs_same;
         in_order = inr (take-length answer.appended);
       },
-    ))
+    )

@@ -34,7 +34,8 @@ abbrev pub IsRight : Option FilesByName → List StewardRules → Option Command
 IsRight folder stewards None answer = answer ≡ saying Words usage_line
 IsRight folder stewards (Some command) answer = IsRightFor folder stewards command answer
 
--- What a command appends that is stopped on its way: a first part of the text of a right answer.
+-- What a command has appended that is stopped on its way, by the part of the day that it went over.
+-- It is a first part of the text of a right answer.
 abbrev pub IsBegunFor : Option FilesByName → Option Command → List ℕ → Type 0
 IsBegunFor folder None text = ⊥
 IsBegunFor folder (Some (Free file)) text = ⊥
@@ -110,19 +111,18 @@ pub record IsStopped (Begun : List ℕ → Type 0) (target : Option (List ℕ)) 
   pub gave : GivesNothing before after ⊎ GivesBegun Begun target before after
   pub faults : CountsFaults (Some stop) before.faults after.faults
 
--- A stopped run gave nothing, or what a stopped command leaves, or a first part of a right answer.
-abbrev pub Stops : (Answer → Type 0) → (List ℕ → Type 0) → Option (List ℕ) → Told → Told → Type 0
-Stops Right Begun target before after =
+-- A stopped run gave nothing, or a first part of a right answer.
+abbrev pub Stops : (Answer → Type 0) → Option (List ℕ) → Told → Told → Type 0
+Stops Right target before after =
     GivesNothing before after
-    ⊎ (GivesBegun Begun target before after
-    ⊎ ((answer : Answer) × Right answer × GivesPart target answer before after))
+    ⊎ ((answer : Answer) × Right answer × GivesPart target answer before after)
 
 -- How a run ends, by its status: it gave a right answer, or it was stopped.
-abbrev pub Ends : (Answer → Type 0) → (List ℕ → Type 0) → Option (List ℕ) → Status → Told → Told → Type 0
-Ends Right Begun target status before after =
+abbrev pub Ends : (Answer → Type 0) → Option (List ℕ) → Status → Told → Told → Type 0
+Ends Right target status before after =
     MatchOption (stop_at status)
     ((answer : Answer) × Right answer × Gives target answer status before after)
-    (λ _. Stops Right Begun target before after)
+    (λ _. Stops Right target before after)
 
 -- one line was said
 abbrev pub SaidLine : Option (List ℕ) → Option (List ℕ) → Type 0

@@ -93,7 +93,6 @@ pub fn run_single<D: Desk>(
     ensures right { Ends (IsRight (D.told desk.old).folder
         (map (λ s. steward_rules (opening s) (fed s) (owed s)) stewards.old.items)
         (command_of words.now))
-        (IsBegunFor (D.told desk.old).folder (command_of words.now))
         (target_of (command_of words.now)) result (D.told desk.old) (D.told desk.new) }
 
     // In a folder whose files pass every test, a run that isn't stopped has a result.

@@ -6,6 +6,7 @@ use Rattle.gl_app.specs.Words.{command_of}
 use Rattle.gl_app.proofs.Accepting.{right_accepted}
 use Rattle.gl_app.proofs.AnswerLines.{if_none, said_line}
 use Rattle.gl_app.proofs.Commanded.{stopped_ends}
+use Rattle.gl_app.proofs.Completing.{stopped_right}
 use Rattle.gl_app.proofs.Rights.{ends_said, right_passes, right_words, stops_saying}
 use Rattle.gl_app.proofs.run.run_single.Goals as goal
 
@@ -14,7 +15,7 @@ returns-in-Ok-say-clause-right g c =
     let x = g.D.Desk.told c.args.desk.now in
     let y = g.D.Desk.told c.answer_to_words.new.desk in
     let right = c.in-Ok.ensures.right in
-    ends_said x.folder _ (command_of c.args.words.now) _ _ (answer_with c.in-Ok.answer right.0) x y (g.D.Desk.told c.say.new.self) right.1 right.2
+    ends_said x.folder _ (command_of c.args.words.now) _ (answer_with c.in-Ok.answer right.0) x y (g.D.Desk.told c.say.new.self) right.1 right.2
     (c.in-Ok-say.ensures.said ∙ ap (followed_by y.said) c.deref.ensures.value) c.in-Ok-say.ensures.same_folder c.in-Ok-say.ensures.same_outputs
 
 pub returns-in-Ok-say-clause-complete : goal.returns-in-Ok-say-clause-complete
@@ -43,10 +44,17 @@ returns-clause-right g c =
     let right = c.in-Ok.ensures.right in
     let part = c.in-Err-say.ensures.prefix in
     let said = subst (λ (l : List ℕ). z.said ≡ followed_by y.said (take part.0 l)) c.deref.ensures.value part.1 in
-    stopped_ends _ _ _ c.in-Err-say.stop c.from-in-Err-say.result x z c.from-in-Err-say.ensures
-    (stops_saying _ _ _ (answer_with c.in-Ok.answer right.0) part.0 x y z right.1 right.2 said c.in-Err-say.ensures.same_folder c.in-Err-say.ensures.same_outputs)
+    stopped_ends _ _ c.in-Err-say.stop c.from-in-Err-say.result x z c.from-in-Err-say.ensures
+    (stops_saying _ _ (answer_with c.in-Ok.answer right.0) part.0 x y z right.1 right.2 said c.in-Err-say.ensures.same_folder c.in-Err-say.ensures.same_outputs)
 
 pub returns-in-Ok-say-clause-accepted : goal.returns-in-Ok-say-clause-accepted
 returns-in-Ok-say-clause-accepted g c checks =
     let right = c.in-Ok.ensures.right in
     if_none (stop_at c.in-Ok.answer.status) (right_accepted (g.D.Desk.told c.args.desk.now).folder _ (command_of c.args.words.now) (answer_with c.in-Ok.answer right.0) checks right.1)
+
+pub returns-in-Err-clause-right : goal.returns-in-Err-clause-right
+returns-in-Err-clause-right g c =
+    let x = g.D.Desk.told c.args.desk.now in
+    let y = g.D.Desk.told c.answer_to_words.new.desk in
+    stopped_ends _ _ c.in-Err.stop c.from-in-Err.result x y c.from-in-Err.ensures
+    (stopped_right x.folder _ (command_of c.args.words.now) _ x y c.in-Err.stop c.in-Err.ensures.stopped)

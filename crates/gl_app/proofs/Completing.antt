@@ -1,0 +1,215 @@
+-- What a stopped `score` has begun can be completed: it is a first part of a right answer.
+use Rattle.std.proofs.Common.{◌≡◌, ◌∙◌, sym, ap, subst, refl, ℕ, zero, suc, ◌⊎◌, inl, inr, List, [], ◌∷◌, ◌++◌, length, take, Option, None, Some, Ok, append_assoc, append-nil}
+use Rattle.std.specs.Prelude.{All}
+use Rattle.std.specs.List.{AllZip, flat_map}
+use Rattle.std.proofs.lemmas.List.Concat.{flat_map-append}
+use Rattle.std.proofs.lemmas.List.Elements.{All-append, All-nil}
+use Rattle.gl_airspace.specs.declared.volume.Airspace.{Airspace}
+use Rattle.gl_desk.specs.Desk.{FilesByName, IsSeenIn, Told, followed_by}
+use Rattle.gl_desk.specs.declared.error.DeskError.{DeskError}
+use Rattle.gl_proof.specs.Claim.{Statement, claim_text}
+use Rattle.gl_proof.specs.Line.{EndLine, HeadingLine, ended}
+use Rattle.gl_proof.specs.Text.{proof_text}
+use Rattle.gl_task.specs.declared.task.Entrant.{Entrant}
+use Rattle.gl_task.specs.declared.task.Task.{Task}
+use Rattle.gl_day.specs.Asked.{Expected}
+use Rattle.gl_day.specs.Expected.{Proves}
+use Rattle.gl_day.specs.Flight.{StewardRules}
+use Rattle.gl_day.specs.Laws.Entrants.{AreGoals, asked_flight, asked_goals, some_flight}
+use Rattle.gl_day.specs.Laws.Flights.{completed}
+use Rattle.gl_day.specs.Laws.Sheets.{some_sheet}
+use Rattle.gl_day.specs.Laws.Texts.{claim_texts-append, proof_text-parts}
+use Rattle.gl_day.proofs.Walked.{zip-length}
+use Rattle.gl_app.specs.declared.day_files.DayFiles.{DayFiles}
+use Rattle.gl_app.specs.declared.status.Status.TheVariants.{Done}
+use Rattle.gl_app.specs.Answer.{Answer}
+use Rattle.gl_app.specs.Appending.{IsAppended}
+use Rattle.gl_app.specs.Asked.{AreAsked}
+use Rattle.gl_app.specs.Run.{GivesBegun, IsBegunFor, IsRight, IsStopped, Stops}
+use Rattle.gl_app.specs.Score.{IsBegun, IsDayScored, IsScore, IsScoreBegun, IsScored, Scored, flights_of_all, statements_of_all, text_so_far}
+use Rattle.gl_app.specs.Words.{Check, Command, DayNames, Demo, Free, Score, Triangle}
+use Rattle.gl_app.proofs.Flights.{all_texts, length-flights, zip-append}
+
+-- what is seen of a file, where the folder may be told or not
+seen_some : (folder : Option FilesByName) (file : List ℕ) → (seen : Option (List ℕ)) × IsSeenIn folder file seen
+seen_some None file = (None, tt)
+seen_some (Some files) file = (files file, refl)
+
+-- what proves the claims of two parts is what proves those of the first, and what proves those of
+-- the second
+record AreParts (front back : List Expected) (statements : List Statement) : Type 0 where
+  first : List Statement
+  second : List Statement
+  are : first ++ second ≡ statements
+  of_front : AllZip Proves front first
+  of_back : AllZip Proves back second
+
+parts : (front back : List Expected) (statements : List Statement) → AllZip Proves (front ++ back) statements → AreParts front back statements
+parts [] back statements each = record { first = []; second = statements; are = refl; of_front = tt; of_back = each }
+parts (claim ∷ front) back [] each = absurd each
+parts (claim ∷ front) back (s ∷ statements) each =
+    let rest = parts front back statements each.1 in
+    record {
+      first = s ∷ rest.first;
+      second = rest.second;
+      are = ap (λ (l : List Statement). s ∷ l) rest.are;
+      of_front = (each.0, rest.of_front);
+      of_back = rest.of_back;
+    }
+
+nothing : (statements : List Statement) → AllZip Proves [] statements → statements ≡ []
+nothing [] each = refl
+nothing (s ∷ statements) each = absurd each
+
+-- entrants have flights with these statements
+record HaveFlights (folder : Option FilesByName) (day : DayFiles) (stewards : List StewardRules) (entrants : List Entrant) (statements : List Statement) : Type 0 where
+  scored : List Scored
+  each : AllZip (IsScored folder day stewards) entrants scored
+  are : statements_of_all scored ≡ statements
+
+flights_with : (folder : Option FilesByName) (day : DayFiles) (stewards : List StewardRules) (entrants : List Entrant) (expected : List Expected) (statements : List Statement) → AreAsked folder day.task day.airspace entrants expected → AllZip Proves expected statements → HaveFlights folder day stewards entrants statements
+flights_with folder day stewards [] expected statements none each =
+    record { scored = []; each = tt; are = sym (nothing statements (subst (λ (claims : List Expected). AllZip Proves claims statements) none each)) }
+flights_with folder day stewards (entrant ∷ entrants) expected statements (first, rest, (seen, there, asked), others, are) each =
+    let shares = parts first rest statements (subst (λ (claims : List Expected). AllZip Proves claims statements) are each) in
+    let made = asked_flight day.task day.airspace stewards entrant seen first shares.first asked shares.of_front in
+    let back = flights_with folder day stewards entrants rest shares.second others shares.of_back in
+    let scored : Scored = record { statements = shares.first; flight = made.0 } in
+    record {
+      scored = scored ∷ back.scored;
+      each = ((seen, there, made.1), back.each);
+      are = ap (λ (l : List Statement). shares.first ++ l) back.are ∙ shares.are;
+    }
+
+-- entrants whose files weren't read have flights too
+some_flights : (folder : Option FilesByName) (day : DayFiles) (stewards : List StewardRules) (entrants : List Entrant) → (scored : List Scored) × AllZip (IsScored folder day stewards) entrants scored
+some_flights folder day stewards [] = ([], tt)
+some_flights folder day stewards (entrant ∷ entrants) =
+    let seen = seen_some folder entrant.file in
+    let made = some_flight day.task day.airspace stewards entrant seen.0 in
+    let rest = some_flights folder day stewards entrants in
+    let scored : Scored = record { statements = made.0; flight = made.1 } in
+    (scored ∷ rest.0, ((seen.0, seen.1, made.2), rest.1))
+
+-- what is asked of entrants are claims of goals
+all_goals : (folder : Option FilesByName) (task : Task) (air : Airspace) (entrants : List Entrant) (expected : List Expected) → AreAsked folder task air entrants expected → AreGoals expected
+all_goals folder task air [] expected none = subst AreGoals (sym none) (All-nil _)
+all_goals folder task air (entrant ∷ entrants) expected (first, rest, (seen, there, asked), others, are) =
+    subst AreGoals (sym are) (All-append _ first rest (asked_goals task air entrant seen first asked) (all_goals folder task air entrants rest others))
+
+-- a first part of a text is one of the text with more behind it
+part_of_longer : (count : ℕ) (text more : List ℕ) → (n : ℕ) × (take count text ≡ take n (text ++ more))
+part_of_longer zero text more = (0, refl)
+part_of_longer (suc count) [] more = (0, refl)
+part_of_longer (suc count) (byte ∷ text) more =
+    let rest = part_of_longer count text more in
+    (suc rest.0, ap (λ (l : List ℕ). byte ∷ l) rest.1)
+
+-- the claims of a proof stand in front of what else it has
+proof_text-front : (front back : List Statement) → proof_text (front ++ back) ≡ text_so_far front ++ (flat_map claim_text back ++ ended EndLine)
+proof_text-front front back =
+    proof_text-parts (front ++ back)
+    ∙ ap (λ (l : List ℕ). ended HeadingLine ++ (l ++ ended EndLine)) (claim_texts-append front back)
+    ∙ ap (λ (l : List ℕ). ended HeadingLine ++ l) (append_assoc (flat_map claim_text front) (flat_map claim_text back) (ended EndLine))
+    ∙ sym (append_assoc (ended HeadingLine) (flat_map claim_text front) (flat_map claim_text back ++ ended EndLine))
+
+-- an answer of a day, of which a text is a first part
+record IsPartOfDay (folder : Option FilesByName) (day : DayFiles) (stewards : List StewardRules) (text : List ℕ) : Type 0 where
+  answer : Answer
+  right : IsDayScored folder day stewards answer
+  count : ℕ
+  is : text ≡ take count answer.appended
+
+-- flights of all entrants are an answer
+day_of : (folder : Option FilesByName) (day : DayFiles) (stewards : List StewardRules) (scored : List Scored) (text : List ℕ) (count : ℕ) → AllZip (IsScored folder day stewards) day.task.entrants scored → text ≡ take count (proof_text (statements_of_all scored)) → IsPartOfDay folder day stewards text
+day_of folder day stewards scored text count each is =
+    let sheet = some_sheet day.task (flights_of_all scored) (length-flights scored ∙ sym (zip-length (IsScored folder day stewards) day.task.entrants scored each)) in
+    record {
+      answer = record { status = Done; said = sheet.0; appended = proof_text (statements_of_all scored) };
+      right = record {
+        scored = scored;
+        each = each;
+        ended = refl;
+        appended = record { each = all_texts folder day stewards day.task.entrants scored each; is = refl };
+        said = sheet.1;
+      };
+      count = count;
+      is = is;
+    }
+
+-- where the claims of the first entrants are begun
+claims_begun : (folder : Option FilesByName) (day : DayFiles) (stewards : List StewardRules) (text : List ℕ) → (begun : IsBegun folder day text) → text ≡ take begun.count (text_so_far begun.statements) → IsPartOfDay folder day stewards text
+claims_begun folder day stewards text begun is =
+    let statements = begun.statements in
+    let goals = all_goals folder day.task day.airspace begun.entrants begun.expected begun.asked in
+    let more = completed begun.expected begun.partly.proved begun.partly.open_claims statements goals begun.partly.parts begun.partly.each in
+    let front = flights_with folder day stewards begun.entrants begun.expected (statements ++ more.0) begun.asked more.1 in
+    let back = some_flights folder day stewards begun.others in
+    let scored = front.scored ++ back.0 in
+    let each = zip-append (IsScored folder day stewards) begun.entrants begun.others front.scored back.0 front.each back.1 in
+    let all : statements_of_all scored ≡ statements ++ (more.0 ++ statements_of_all back.0) =
+    flat_map-append (λ (s : Scored). s.statements) front.scored back.0 ∙ ap (λ (l : List Statement). l ++ statements_of_all back.0) front.are ∙ append_assoc statements more.0 (statements_of_all back.0) in
+    let part = part_of_longer begun.count (text_so_far statements) (flat_map claim_text (more.0 ++ statements_of_all back.0) ++ ended EndLine) in
+    day_of folder day stewards scored text part.0
+    (subst (λ (l : List Entrant). AllZip (IsScored folder day stewards) l scored) (sym begun.are) each)
+    (is ∙ part.1 ∙ ap (take part.0) (sym (ap proof_text all ∙ proof_text-front statements (more.0 ++ statements_of_all back.0))))
+
+-- where all claims are proved and the end is begun
+end_begun : (folder : Option FilesByName) (day : DayFiles) (stewards : List StewardRules) (text : List ℕ) → (begun : IsBegun folder day text) → begun.others ≡ [] → AllZip Proves begun.expected begun.statements → text ≡ take begun.count (proof_text begun.statements) → IsPartOfDay folder day stewards text
+end_begun folder day stewards text begun none proved is =
+    let front = flights_with folder day stewards begun.entrants begun.expected begun.statements begun.asked proved in
+    let all : begun.entrants ≡ day.task.entrants = sym (begun.are ∙ ap (λ (l : List Entrant). begun.entrants ++ l) none ∙ append-nil begun.entrants) in
+    day_of folder day stewards front.scored text begun.count
+    (subst (λ (l : List Entrant). AllZip (IsScored folder day stewards) l front.scored) all front.each)
+    (is ∙ ap (λ (l : List Statement). take begun.count (proof_text l)) (sym front.are))
+
+begun_either : (folder : Option FilesByName) (day : DayFiles) (stewards : List StewardRules) (text : List ℕ) (begun : IsBegun folder day text) → (text ≡ take begun.count (text_so_far begun.statements)) ⊎ ((begun.others ≡ []) × AllZip Proves begun.expected begun.statements × (text ≡ take begun.count (proof_text begun.statements))) → IsPartOfDay folder day stewards text
+begun_either folder day stewards text begun (inl is) = claims_begun folder day stewards text begun is
+begun_either folder day stewards text begun (inr (none, proved, is)) = end_begun folder day stewards text begun none proved is
+
+-- a right answer for a command, of which a text is a first part
+record IsPartFor (folder : Option FilesByName) (stewards : List StewardRules) (command : Option Command) (text : List ℕ) : Type 0 where
+  answer : Answer
+  right : IsRight folder stewards command answer
+  count : ℕ
+  is : text ≡ take count answer.appended
+
+score_part : (folder : Option FilesByName) (stewards : List StewardRules) (names : DayNames) (text : List ℕ) → IsScoreBegun folder names text → IsPartFor folder stewards (Some (Score names)) text
+score_part folder stewards names text (day, tested, begun) =
+    let part = begun_either folder day stewards text begun begun.part in
+    record { answer = part.answer; right = (Ok day, tested, part.right); count = part.count; is = part.is }
+
+-- what a command has begun is a first part of a right answer
+begun_part_for : (folder : Option FilesByName) (stewards : List StewardRules) (command : Option Command) (text : List ℕ) → IsBegunFor folder command text → IsPartFor folder stewards command text
+begun_part_for folder stewards None text begun = absurd begun
+begun_part_for folder stewards (Some (Free file)) text begun = absurd begun
+begun_part_for folder stewards (Some (Triangle file)) text begun = absurd begun
+begun_part_for folder stewards (Some (Score names)) text begun = score_part folder stewards names text begun
+begun_part_for folder stewards (Some (Check names)) text begun = absurd begun
+begun_part_for folder stewards (Some (Demo number)) text begun = absurd begun
+
+said_none : (said : Option (List ℕ)) → said ≡ followed_by said []
+said_none None = refl
+said_none (Some text) = ap Some (sym (append-nil text))
+
+given_part : (folder : Option FilesByName) (stewards : List StewardRules) (command : Option Command) (target : Option (List ℕ)) (x z : Told) → GivesBegun (IsBegunFor folder command) target x z → Stops (IsRight folder stewards command) target x z
+given_part folder stewards command target x z gave =
+    let part = begun_part_for folder stewards command gave.text gave.begun in
+    inr (
+      part.answer,
+      part.right,
+      record {
+        appended_bytes = part.count;
+        said_bytes = 0;
+        said = gave.said ∙ said_none x.said;
+        appended = subst (λ (text : List ℕ). IsAppended target text x z) part.is gave.appended;
+        in_order = inl refl;
+      },
+    )
+
+-- a command that is stopped before its answer gave nothing, or a first part of a right answer
+pub stopped_right : (folder : Option FilesByName) (stewards : List StewardRules) (command : Option Command) (target : Option (List ℕ)) (x z : Told) (stop : DeskError) → IsStopped (IsBegunFor folder command) target x z stop → Stops (IsRight folder stewards command) target x z
+stopped_right folder stewards command target x z stop stopped = elim stopped.gave [
+  | inl none ↦ inl none
+  | inr begun ↦ given_part folder stewards command target x z begun
+]
