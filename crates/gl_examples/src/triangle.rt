@@ -1,6 +1,6 @@
 ghost use Rattle.std.specs.Prelude.{◌≡◌, length};
 
-use crate::setting::{Ended, ORIGIN, recording, run};
+use crate::setting::{Ended, NORTH, ORIGIN, recording, run};
 use gl_app::Status;
 use gl_goal::{TriangleGoal, fair};
 use gl_igc::{Fix, read_igc};
@@ -77,6 +77,45 @@ fn a_flight_that_stays_at_one_place(rt: HostRuntime) -> Result<(), Fail> {
         Status::Done,
         NO_FLIGHT,
     )
+}
+
+/// A degree east of the origin.
+const EAST: &str = "0000000N00100000E";
+
+/// A flight begins half a degree east of the origin and ends 998.89 m from there, or 1,000.74 m. In
+/// between it goes round the same three fixes, to none of which it comes back.
+#[test]
+fn a_flight_closes_by_fixes_outside_its_triangle(rt: HostRuntime) -> Result<(), Fail> {
+    let cases = [
+        ("0000000N00030539E", "TRIANGLE 379639.21 m\nFIXES 1 2 3\n"),
+        ("0000000N00030540E", NO_FLIGHT),
+    ];
+    for (end, text) in cases {
+        let places = [
+            ("0000000N00030000E", "01000"),
+            (ORIGIN, "01000"),
+            (EAST, "01000"),
+            (NORTH, "01000"),
+            (end, "01000"),
+        ];
+        let bytes = recording(rt.alloc(), &places)?;
+        expect(&rt, rt.alloc(), "triangle A.IGC", bytes, Status::Done, text)?;
+    }
+    Ok(())
+}
+
+/// Legs of 555.97 m, 786.26 m and 555.97 m; a fourth fix lies between the three.
+#[test]
+fn a_flight_on_which_all_fixes_close_with_all(rt: HostRuntime) -> Result<(), Fail> {
+    let places = [
+        (ORIGIN, "01000"),
+        ("0000000N00000300E", "01000"),
+        ("0000300N00000000E", "01000"),
+        ("0000100N00000100E", "01000"),
+    ];
+    let bytes = recording(rt.alloc(), &places)?;
+    let text = "TRIANGLE 1898.20 m\nFIXES 0 1 2\n";
+    expect(&rt, rt.alloc(), "triangle A.IGC", bytes, Status::Done, text)
 }
 
 /// A line of words, and what it is answered over a recording whose fixes have no valid position.
