@@ -1,8 +1,9 @@
--- Which fixes of a list are near a point, and the last of them in a span.
+-- Which fixes of a list are near a point or a box, and the last of them in a span.
 use Rattle.std.specs.Prelude.{◌≡◌, ℕ, ◌≤◌, ◌<◌, max, min, List, Some, slice_get}
 use Rattle.gl_sphere.specs.declared.place.Vec3.{Vec3}
 use Rattle.gl_sphere.specs.Distance.{squared_chord, written_distance}
 use Rattle.gl_igc.specs.declared.fix.Fix.{Fix}
+use Rattle.gl_hull.specs.Box.{Box, IsInside}
 
 -- the fix at a place of a list is at most so many centimetres from a point, along the sphere
 pub record IsNear (fixes : List Fix) (point : Vec3) (limit place : ℕ) : Type 0 where
@@ -29,3 +30,21 @@ pub record IsLastNear (fixes : List Fix) (point : Vec3) (limit : ℕ) (span : �
   pub within : IsPlaceOf span place
   pub near : IsNear fixes point limit place
   pub last : (later : ℕ) → place < later → later ≤ span.1 → ¬ IsNear fixes point limit later
+
+-- the fix at a place of a list is at most so many centimetres from some point of a box
+pub record IsNearBox (fixes : List Fix) (box : Box) (limit place : ℕ) : Type 0 where
+  pub point : Vec3
+  pub inside : IsInside box point
+  pub near : IsNear fixes point limit place
+
+-- no fix of a span is near the box
+abbrev pub IsNoneNearBox : List Fix → Box → ℕ → ℕ × ℕ → Type 0
+IsNoneNearBox fixes box limit span =
+    (place : ℕ) → IsPlaceOf span place → ¬ IsNearBox fixes box limit place
+
+-- a place of a span has a fix near the box, and no later place of the span has one
+pub record IsLastNearBox (fixes : List Fix) (box : Box) (limit : ℕ) (span : ℕ × ℕ) (place : ℕ)
+    : Type 0 where
+  pub within : IsPlaceOf span place
+  pub near : IsNearBox fixes box limit place
+  pub last : (later : ℕ) → place < later → later ≤ span.1 → ¬ IsNearBox fixes box limit later

@@ -1,8 +1,9 @@
 ghost use Rattle.std.specs.Prelude.{◌≡◌, ◌<◌, ◌≤◌, ◌+◌, ◌*◌, length, nat_le, MatchOption};
 ghost use Rattle.gl_box.specs.Cell.{ends};
-ghost use Rattle.gl_hull.specs.Box.{fixes_in, hull_of, point_box};
-ghost use Rattle.gl_hull.specs.Chords.{least_chord};
-ghost use Rattle.gl_hull.specs.Near.{IsLastNear, IsNoneNear, both};
+ghost use Rattle.gl_hull.specs.Box.{fixes_in, hull_of};
+ghost use Rattle.gl_hull.specs.Chords.{IsChord, least_chord};
+ghost use Rattle.gl_hull.specs.Hull.{box_of};
+ghost use Rattle.gl_hull.specs.Near.{IsLastNear, IsLastNearBox, IsNoneNear, IsNoneNearBox, both};
 
 use crate::chords::min_sq;
 use crate::hull::Hull;
@@ -30,21 +31,33 @@ impl Hulls {
             (IsNoneNear self.now point limit (ends span))
             (IsLastNear self.now point limit (ends span)) }
     {
-        self.last_near_in(self.whole(), span, point, limit)
+        let from = Hull::point(point);
+        self.last_near_in(self.whole(), span, &from, limit)
+    }
+
+    /// The last place of a span whose fix is at most `limit` centimetres from some point of a hull,
+    /// if there is one. Takes no memory.
+    pub fn last_near_hull(&self, span: Span, hull: &Hull, limit: u64) -> Option<u32>
+        requires { span.hi < length self.now }
+        ensures { MatchOption result
+            (IsNoneNearBox self.now (box_of hull.now) limit (ends span))
+            (IsLastNearBox self.now (box_of hull.now) limit (ends span)) }
+    {
+        self.last_near_in(self.whole(), span, hull, limit)
     }
 
     /// The last such place that lies in both of two spans. The first of them is halved, again and
-    /// again, and what is too far from the point, or outside the second, is passed over.
-    fn last_near_in(&self, node: Span, span: Span, point: Vec3, limit: u64) -> Option<u32>
+    /// again, and what is too far from the hull, or outside the second, is passed over.
+    fn last_near_in(&self, node: Span, span: Span, from: &Hull, limit: u64) -> Option<u32>
         requires { node.hi < length self.now }
         ensures { MatchOption result
-            (IsNoneNear self.now point limit (both (ends node) (ends span)))
-            (IsLastNear self.now point limit (both (ends node) (ends span))) }
+            (IsNoneNearBox self.now (box_of from.now) limit (both (ends node) (ends span)))
+            (IsLastNearBox self.now (box_of from.now) limit (both (ends node) (ends span))) }
     {
         if node.hi < span.lo || span.hi < node.lo {
             return None;
         }
-        let square = self.least_square(point, node);
+        let square = self.least_square(from, node);
         if is_longer(square, limit) {
             return None;
         }
@@ -64,24 +77,24 @@ impl Hulls {
             lo: middle + 1,
             hi: node.hi,
         };
-        match self.last_near_in(upper, span, point, limit) {
+        match self.last_near_in(upper, span, from, limit) {
             Some(place) => Some(place),
-            None => self.last_near_in(lower, span, point, limit),
+            None => self.last_near_in(lower, span, from, limit),
         }
     }
 
-    /// The square of the least chord from a point to the hull of a span, in square centimetres.
+    /// The square of the least chord from a hull to the hull of a span, in square centimetres.
     #[inline]
-    fn least_square(&self, point: Vec3, span: Span) -> u64
+    fn least_square(&self, from: &Hull, span: Span) -> u64
         requires { span.hi < length self.now }
         ensures value { result
-            ≡ least_chord (point_box point) (hull_of (fixes_in self.now (ends span))) }
+            ≡ least_chord (box_of from.now) (hull_of (fixes_in self.now (ends span))) }
         ensures bound { result ≤ GREATEST_SQUARE }
+        ensures reached { IsChord (box_of from.now) (hull_of (fixes_in self.now (ends span))) result }
     {
-        let from = Hull::point(point);
         match self.kept(span) {
-            Some(hull) => min_sq(&from, hull),
-            None => min_sq(&from, &self.hull(span)),
+            Some(hull) => min_sq(from, hull),
+            None => min_sq(from, &self.hull(span)),
         }
     }
 }

@@ -155,3 +155,37 @@ fn last_fixes_near_a_point(rt: HostRuntime) -> Result<(), Fail> {
     }
     Ok(())
 }
+
+/// Asserts the last fix from the first to this one that is near the hull of two others.
+fn last_near_two(rt: &impl Abort, hulls: &Hulls, hi: u32, limit: u64, last: Option<u32>) {
+    assert!(rt; (hi as usize) < hulls.len());
+    let of_two = hulls.hull(Span {
+        lo: 0,
+        hi: hi.min(1),
+    });
+    let near = hulls.last_near_hull(Span { lo: 0, hi }, &of_two, limit);
+    assert_eq!(rt; near, last);
+}
+
+#[test]
+fn last_fixes_near_a_hull(rt: HostRuntime) -> Result<(), Fail> {
+    let fixes = [
+        fix_at(0, ORIGIN, 0),
+        fix_at(10, EAST, 0),
+        fix_at(20, EAST, 0),
+        fix_at(30, NORTH, 0),
+    ];
+    let hulls = Hulls::new(rt.alloc(), &fixes, &[0, 1, 2, 3])?;
+    // The fix to the north is a degree's sine from the hull: a chord of 11,118,928 centimetres, the
+    // arc over which is 141 longer.
+    let cases = [
+        (3, 0, Some(2)),
+        (1, 0, Some(1)),
+        (3, 11_119_000, Some(2)),
+        (3, 11_119_100, Some(3)),
+    ];
+    for (hi, limit, last) in cases {
+        last_near_two(&rt, &hulls, hi, limit, last);
+    }
+    Ok(())
+}

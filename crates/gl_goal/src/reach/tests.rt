@@ -50,3 +50,47 @@ fn reaches_of_five_fixes(rt: HostRuntime) -> Result<(), Fail> {
     }
     Ok(())
 }
+
+// A fix on the equator, so many degrees east of the origin.
+fn east(degrees: u8) -> Fix {
+    let lon = i32::from(degrees.min(60)) * 6_000_000;
+    fix_at(0, Grid { lat: 0, lon })
+}
+
+#[test]
+fn reaches_over_two_stretches(rt: HostRuntime) -> Result<(), Fail> {
+    let alloc = rt.alloc();
+    let fixes = [
+        east(0),
+        east(1),
+        east(2),
+        east(3),
+        east(4),
+        east(5),
+        east(6),
+        east(7),
+        east(8),
+        east(9),
+        east(10),
+        east(11),
+        east(12),
+        east(13),
+        east(14),
+        east(15),
+        east(16),
+        east(17),
+        east(5),
+        east(17),
+    ];
+    let numbers = [
+        0, 1, 2, 3, 4, 5, 6, 7, 8, 9, 10, 11, 12, 13, 14, 15, 16, 17, 18, 19,
+    ];
+    let hulls = Hulls::new(alloc, &fixes, &numbers)?;
+    // The flight comes back to the fixes at 5 and 17.
+    let expected = [
+        0, 1, 2, 3, 4, 18, 18, 18, 18, 18, 18, 18, 18, 18, 18, 18, 18, 19, 19, 19,
+    ];
+    let reaches = reaches(alloc, &hulls, 0)?;
+    assert_eq!(rt; reaches.as_slice(), expected.as_slice());
+    Ok(())
+}
