@@ -1,4 +1,4 @@
-use Rattle.std.proofs.Common.{◌-◌, ◌∙◌, ap, max, sym, subst, ℕ, arith}
+use Rattle.std.proofs.Common.{◌∙◌, ap, max, sym, subst, ℕ, arith}
 use Rattle.gl_goal.specs.Reach.{IsReach}
 use Rattle.gl_goal.proofs.Closing.{least-reach, reach-found, reach-least}
 use Rattle.gl_goal.proofs.reach.reach_from.Goals as goal
