@@ -14,6 +14,9 @@ pub mod Flights
 pub mod Bests
 pub mod LineTexts
 pub mod NoTask
+pub mod OneAnswer
+pub mod OneDay
+pub mod OneFlight
 pub mod Readings
 pub mod Pieces
 pub mod Rights

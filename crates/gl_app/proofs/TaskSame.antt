@@ -31,7 +31,7 @@ use Rattle.gl_task.specs.Reading.{IsReadFrom}
 use Rattle.gl_app.proofs.Readings.{document_same}
 
 -- what a key says is one thing
-one : {X : Type 0} (o : Option X) (a b : X) → o ≡ Some a → o ≡ Some b → a ≡ b
+pub one : {X : Type 0} (o : Option X) (a b : X) → o ≡ Some a → o ≡ Some b → a ≡ b
 one o a b is_a is_b = cc
 
 -- a key that isn't there says nothing

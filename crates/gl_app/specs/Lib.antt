@@ -21,6 +21,7 @@ pub mod Check
 pub mod Score
 pub mod Scoring
 pub mod Shelf
+pub mod Laws
 pub mod Lines
 pub mod Listed
 pub use Rattle.gl_desk.specs.Desk

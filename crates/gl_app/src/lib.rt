@@ -14,6 +14,7 @@ mod day_number;
 mod demo;
 mod free;
 mod halt;
+mod laws;
 mod line;
 mod listed;
 mod of_file;
@@ -28,6 +29,7 @@ mod status;
 mod texts;
 mod triangle;
 
+pub use laws::one_answer;
 pub use program::run_program;
 pub use run::run_single;
 pub use status::Status;
