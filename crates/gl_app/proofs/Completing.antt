@@ -7,6 +7,7 @@ use Rattle.std.proofs.lemmas.List.Elements.{All-append, All-nil}
 use Rattle.gl_airspace.specs.declared.volume.Airspace.{Airspace}
 use Rattle.gl_desk.specs.Desk.{FilesByName, IsSeenIn, Told, followed_by}
 use Rattle.gl_desk.specs.declared.error.DeskError.{DeskError}
+use Rattle.gl_goal.specs.Rule.{IsGoal}
 use Rattle.gl_proof.specs.Claim.{Statement, claim_text}
 use Rattle.gl_proof.specs.Line.{EndLine, HeadingLine, ended}
 use Rattle.gl_proof.specs.Text.{proof_text}
@@ -93,9 +94,9 @@ some_flights folder day stewards (entrant ∷ entrants) =
 
 -- what is asked of entrants are claims of goals
 all_goals : (folder : Option FilesByName) (task : Task) (air : Airspace) (entrants : List Entrant) (expected : List Expected) → AreAsked folder task air entrants expected → AreGoals expected
-all_goals folder task air [] expected none = subst AreGoals (sym none) (All-nil _)
+all_goals folder task air [] expected none = subst AreGoals (sym none) (All-nil (λ (claim : Expected). IsGoal claim.2))
 all_goals folder task air (entrant ∷ entrants) expected (first, rest, (seen, there, asked), others, are) =
-    subst AreGoals (sym are) (All-append _ first rest (asked_goals task air entrant seen first asked) (all_goals folder task air entrants rest others))
+    subst AreGoals (sym are) (All-append (λ (claim : Expected). IsGoal claim.2) first rest (asked_goals task air entrant seen first asked) (all_goals folder task air entrants rest others))
 
 -- a first part of a text is one of the text with more behind it
 part_of_longer : (count : ℕ) (text more : List ℕ) → (n : ℕ) × (take count text ≡ take n (text ++ more))

@@ -56,5 +56,5 @@ pub returns-in-Err-clause-right : goal.returns-in-Err-clause-right
 returns-in-Err-clause-right g c =
     let x = g.D.Desk.told c.args.desk.now in
     let y = g.D.Desk.told c.answer_to_words.new.desk in
-    stopped_ends _ _ c.in-Err.stop c.from-in-Err.result x y c.from-in-Err.ensures
+    stopped_ends _ _ c.in-Err.stop c.from.result x y c.from.ensures
     (stopped_right x.folder _ (command_of c.args.words.now) _ x y c.in-Err.stop c.in-Err.ensures.stopped)
