@@ -30,7 +30,7 @@ use Rattle.gl_app.specs.declared.status.Status.TheVariants.{Done}
 use Rattle.gl_app.specs.Answer.{Answer, refused}
 use Rattle.gl_app.specs.Check.{IsCheck, IsProofChecked, checked_answer, not_proved_line}
 use Rattle.gl_app.specs.DayFiles.{IfListed, IfPassed, IsAirspaceFor, IsAirspaceIn, IsAirspaceOf, IsCheckTested, IsDayOf, IsProofIn, IsProofOf, IsRefusedFor, IsScoreTested, IsTaskIn, IsTaskOf, Tested, airspace_cause, proof_cause, task_cause}
-use Rattle.gl_app.specs.Demo.{IsDemo, demo_names}
+use Rattle.gl_app.specs.Demo.{IsDemo}
 use Rattle.gl_app.specs.Listed.{most_proof_bytes}
 use Rattle.gl_app.specs.Refusals.{file_refusal}
 use Rattle.gl_app.specs.Score.{IsScore}
@@ -172,7 +172,4 @@ check_line folder names answer named (Err refusal, found, same) unless =
 
 -- an answer of `demo`
 pub demo_line : (stewards : List StewardRules) (number : ℕ) (answer : Answer) → IsDemo stewards number answer → answer.status ≢ Done → IsLine answer.said
-demo_line stewards number answer (folder, has, Ok day, tested, announced) unless = absurd (unless (ap (λ (a : Answer). a.status) announced.says))
-demo_line stewards number answer (folder, has, Err refusal, tested, same) unless =
-    let named : AreUnbroken demo_names = record { task = refl; proof = refl } in
-    said_by answer refusal.file refusal.cause same (score_tested (Some folder) demo_names (Err refusal) named tested)
+demo_line stewards number answer (folder, has, day, tested, announced) unless = absurd (unless (ap (λ (a : Answer). a.status) announced.says))

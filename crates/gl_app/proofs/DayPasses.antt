@@ -174,7 +174,7 @@ pub new_ok : (seen : Option (List ℕ)) (P Q : Type 0) → MatchOption seen P (�
 new_ok None P Q is never = (refl, is)
 new_ok (Some bytes) P Q is never = absurd (never is)
 
-new_then : (seen : Option (List ℕ)) (P Q : Type 0) → seen ≡ None → MatchOption seen P (λ _. Q) → P
+pub new_then : (seen : Option (List ℕ)) (P Q : Type 0) → seen ≡ None → MatchOption seen P (λ _. Q) → P
 new_then None P Q none is = is
 new_then (Some bytes) P Q none is = absurd (cc)
 

@@ -1,8 +1,8 @@
 -- What `demo` announces.
-use Rattle.std.proofs.Common.{◌≡◌, ◌≢◌, ◌∙◌, sym, ap, subst, refl, ℕ, ◌<◌, ◌≤◌, ◌⊎◌, inl, inr, Bool, true, false, List, [], ◌∷◌, ◌++◌, map, length, Option, None, Some, Ok, Err, arith}
+use Rattle.std.proofs.Common.{◌≡◌, ◌∙◌, sym, ap, subst, refl, ℕ, ◌≤◌, inl, inr, Bool, false, List, [], ◌++◌, length, Option, None, Some, Ok, Err, arith}
 use Rattle.std.proofs.lemmas.Bool.{ltb-false}
 use Rattle.std.specs.Option.{unwrap_or}
-use Rattle.std.specs.Prelude.{All, Any, IfSome, IsSome, Vec, nat_lt}
+use Rattle.std.specs.Prelude.{IfSome, Vec, nat_lt}
 use Rattle.std.specs.declared.alloc.Global.{Global}
 use Rattle.std.proofs.lemmas.List.{get_or-map, length-map}
 use Rattle.std.proofs.lemmas.List.Elements.{All-map}
@@ -12,19 +12,16 @@ use Rattle.gl_desk.specs.MemDesk.{HoldsFiles}
 use Rattle.gl_proof.specs.Claim.{Statement}
 use Rattle.gl_proof.specs.Text.{IsTextOf, proof_text}
 use Rattle.gl_day.specs.Flight.{StewardRules}
-use Rattle.gl_app.specs.declared.answer.Answer as code
-use Rattle.gl_app.specs.declared.shelf.Shelf.{Shelf}
-use Rattle.gl_app.specs.declared.status.Status.{Status}
 use Rattle.gl_app.specs.declared.status.Status.TheVariants as status
-use Rattle.gl_app.specs.Answer.{Answer, answer_of, answer_with, refused, saying}
+use Rattle.gl_app.specs.Answer.{Answer, saying}
 use Rattle.gl_app.specs.Appending.{HasGiven}
 use Rattle.gl_app.specs.Check.{IsScoredFolder}
 use Rattle.gl_app.specs.Demo.{HasJust, IsCountOf, IsDemo, claims_line, demo_names}
 use Rattle.gl_app.specs.Listed.{most_proof_bytes}
 use Rattle.gl_app.specs.Score.{IsScore}
-use Rattle.gl_app.specs.Shelf.{folder_on, told_on}
 use Rattle.gl_app.specs.Words.{DayNames}
 use Rattle.gl_app.proofs.Accepting.{score_ended}
+use Rattle.gl_app.proofs.DemoTask.{demo_not_refused}
 
 -- a file as contracts see it
 abbrev plain : List ℕ × Vec ℕ Global → List ℕ × List ℕ
@@ -46,27 +43,25 @@ pub record ScoredThere (stewards : List StewardRules) (number : ℕ) (folder : F
   pub names_are : names ≡ demo_names
   pub is : IsScore (Some folder) stewards names answer
 
--- the refusal of `score` is that of `demo`
-refused_so : (folder : FilesByName) (stewards : List StewardRules) (number : ℕ) (scored : code.Answer) (text : List ℕ) → HasJust (generated_files number) folder → IsScore (Some folder) stewards demo_names (answer_with scored text) → scored.status ≢ status.Done → IsDemo stewards number (answer_of scored)
-refused_so folder stewards number scored text has (Ok day, tested, is) differs = absurd (differs is.ended)
-refused_so folder stewards number scored text has (Err refusal, tested, same) differs =
-    (folder, has, Err refusal, tested, λ i. record { status = (same i).status; said = (same i).said; appended = [] })
+done_so : (folder : FilesByName) (stewards : List StewardRules) (number : ℕ) (scored : Answer) → HasJust (generated_files number) folder → IsScore (Some folder) stewards demo_names scored → scored.status ≡ status.Done
+done_so folder stewards number scored has (Ok day, tested, is) = is.ended
+done_so folder stewards number scored has (Err refusal, tested, same) = absurd (demo_not_refused number folder refusal has tested)
 
-pub demo_refused : (stewards : List StewardRules) (number : ℕ) (folder : FilesByName) (names : DayNames) (scored : code.Answer) (text : List ℕ) → ScoredThere stewards number folder names (answer_with scored text) → scored.status ≢ status.Done → IsDemo stewards number (answer_of scored)
-demo_refused stewards number folder names scored text there differs =
-    refused_so folder stewards number scored text there.has (subst (λ (n : DayNames). IsScore (Some folder) stewards n (answer_with scored text)) there.names_are there.is) differs
+-- a `score` that was asked so ended with a sheet
+pub demo_done : (stewards : List StewardRules) (number : ℕ) (folder : FilesByName) (names : DayNames) (scored : Answer) → ScoredThere stewards number folder names scored → scored.status ≡ status.Done
+demo_done stewards number folder names scored there =
+    done_so folder stewards number scored there.has (subst (λ (n : DayNames). IsScore (Some folder) stewards n scored) there.names_are there.is)
 
 -- and its sheet is announced with the count of claims
-announced_so : (folder : FilesByName) (stewards : List StewardRules) (number : ℕ) (scored answer : Answer) (claims : ℕ) → HasJust (generated_files number) folder → IsScore (Some folder) stewards demo_names scored → scored.status ≡ status.Done → IsCountOf scored.appended claims → answer ≡ saying status.Done (scored.said ++ claims_line claims) → IsDemo stewards number answer
-announced_so folder stewards number scored answer claims has (Ok day, tested, is) done counted says =
-    (folder, has, Ok day, tested, record { scored = scored; is = is; claims = claims; counted = counted; says = says })
-announced_so folder stewards number scored answer claims has (Err refusal, tested, same) done counted says =
-    let e : ◌≡◌ {A = Status} status.Refused status.Done = sym (ap (λ (a : Answer). a.status) same) ∙ done in
-    absurd (cc)
+announced_so : (folder : FilesByName) (stewards : List StewardRules) (number : ℕ) (scored answer : Answer) (claims : ℕ) → HasJust (generated_files number) folder → IsScore (Some folder) stewards demo_names scored → IsCountOf scored.appended claims → answer ≡ saying status.Done (scored.said ++ claims_line claims) → IsDemo stewards number answer
+announced_so folder stewards number scored answer claims has (Ok day, tested, is) counted says =
+    (folder, has, day, tested, record { scored = scored; is = is; claims = claims; counted = counted; says = says })
+announced_so folder stewards number scored answer claims has (Err refusal, tested, same) counted says =
+    absurd (demo_not_refused number folder refusal has tested)
 
-pub demo_announced : (stewards : List StewardRules) (number : ℕ) (folder : FilesByName) (names : DayNames) (scored answer : Answer) (claims : ℕ) → ScoredThere stewards number folder names scored → scored.status ≡ status.Done → IsCountOf scored.appended claims → answer ≡ saying status.Done (scored.said ++ claims_line claims) → IsDemo stewards number answer
-demo_announced stewards number folder names scored answer claims there done counted says =
-    announced_so folder stewards number scored answer claims there.has (subst (λ (n : DayNames). IsScore (Some folder) stewards n scored) there.names_are there.is) done counted says
+pub demo_announced : (stewards : List StewardRules) (number : ℕ) (folder : FilesByName) (names : DayNames) (scored answer : Answer) (claims : ℕ) → ScoredThere stewards number folder names scored → IsCountOf scored.appended claims → answer ≡ saying status.Done (scored.said ++ claims_line claims) → IsDemo stewards number answer
+demo_announced stewards number folder names scored answer claims there counted says =
+    announced_so folder stewards number scored answer claims there.has (subst (λ (n : DayNames). IsScore (Some folder) stewards n scored) there.names_are there.is) counted says
 
 grown_new : (there : Option (List ℕ)) (text : List ℕ) (after : Option (List ℕ)) → there ≡ None → ◌≡◌ {A = Option (Option (List ℕ))} (Some after) (grown_by (Some there) text) → after ≡ Some text
 grown_new None text after new grows = ap (λ (o : Option (Option (List ℕ))). unwrap_or o None) grows

@@ -9,6 +9,7 @@ pub mod DayLines
 pub mod DayPasses
 pub mod DayNumbers
 pub mod DayTests
+pub mod DemoTask
 pub mod Demos
 pub mod Flights
 pub mod Bests

@@ -26,20 +26,24 @@ document_same text a b is_a is_b =
 passed_or_failed : (file : Members) (wrong : TaskError) → first_failed (tests file) ≡ None → first_failed (tests file) ≡ Some wrong → ⊥
 passed_or_failed file wrong passes fails = let no : ◌≡◌ {A = Test} None (Some wrong) = sym passes ∙ fails in cc
 
-task_fails : (text : List ℕ) (read : Task) (wrong : TaskError) → IsReadFrom text read → FailsFirst text wrong → ⊥
-task_fails text read wrong reads fails =
+table_fails : (text : List ℕ) (file : Members) (wrong : TaskError) → IsDocument text file → first_failed (tests file) ≡ None → FailsFirst text wrong → ⊥
+table_fails text file wrong document passes fails =
     passed_or_failed fails.file wrong
-    (subst (λ (file : Members). first_failed (tests file) ≡ None) (document_same text reads.file fails.file reads.document fails.document) reads.passes)
+    (subst (λ (other : Members). first_failed (tests other) ≡ None) (document_same text file fails.file document fails.document) passes)
     fails.first
 
--- a text that gives a task is refused for want of memory alone
+-- a text whose table passes all tests is refused for want of memory alone
+pub table_refused : (text : List ℕ) (file : Members) (error : TaskError) → IsDocument text file → first_failed (tests file) ≡ None → IsRefusalOf text error → error ≡ task.Memory
+table_refused text file task.Toml document passes refused = absurd (refused file document)
+table_refused text file (task.Missing key) document passes refused = absurd (table_fails text file (task.Missing key) document passes refused)
+table_refused text file (task.Value key) document passes refused = absurd (table_fails text file (task.Value key) document passes refused)
+table_refused text file (task.Twice key) document passes refused = absurd (table_fails text file (task.Twice key) document passes refused)
+table_refused text file (task.TooMany key) document passes refused = absurd (table_fails text file (task.TooMany key) document passes refused)
+table_refused text file task.Memory document passes refused = refl
+
+-- so is a text that gives a task
 pub task_refused : (text : List ℕ) (read : Task) (error : TaskError) → IsReadFrom text read → IsRefusalOf text error → error ≡ task.Memory
-task_refused text read task.Toml reads refused = absurd (refused reads.file reads.document)
-task_refused text read (task.Missing key) reads refused = absurd (task_fails text read (task.Missing key) reads refused)
-task_refused text read (task.Value key) reads refused = absurd (task_fails text read (task.Value key) reads refused)
-task_refused text read (task.Twice key) reads refused = absurd (task_fails text read (task.Twice key) reads refused)
-task_refused text read (task.TooMany key) reads refused = absurd (task_fails text read (task.TooMany key) reads refused)
-task_refused text read task.Memory reads refused = refl
+task_refused text read error reads refused = table_refused text reads.file error reads.document reads.passes refused
 
 -- the tasks of a text name one airspace file
 pub task_airspace_same : (text : List ℕ) (a b : Task) → IsReadFrom text a → IsReadFrom text b → a.airspace ≡ b.airspace

@@ -18,7 +18,7 @@ use Rattle.gl_app.specs.declared.status.Status.TheVariants.{Done, Words, Refused
 use Rattle.gl_app.specs.Answer.{Answer, refused}
 use Rattle.gl_app.specs.Appending.{HasGiven, IsAppended}
 use Rattle.gl_app.specs.Check.{IsCheck, IsProofChecked, PassesCheck, checked_answer}
-use Rattle.gl_app.specs.Demo.{IsDemo, PassesDemo}
+use Rattle.gl_app.specs.Demo.{IsDemo}
 use Rattle.gl_app.specs.Free.{IsFreeText}
 use Rattle.gl_app.specs.OfFile.{IsOfFile, IsOfText, PassesAsRecording}
 use Rattle.gl_app.specs.Triangle.{IsTriangleText}
@@ -68,16 +68,15 @@ check_result : (folder : Option FilesByName) (names : DayNames) (answer : Answer
 check_result folder names answer (Ok said, found, same) = some_result answer.status (checked_result said answer same)
 check_result folder names answer (Err refusal, found, same) = refuses answer refusal.file refusal.cause same
 
-demo_result : (stewards : List StewardRules) (number : ℕ) (answer : Answer) → IsDemo stewards number answer → IsResult answer.status
-demo_result stewards number answer (folder, has, Ok day, tested, announced) = inl (ap (λ (a : Answer). a.status) announced.says)
-demo_result stewards number answer (folder, has, Err refusal, tested, same) = refuses answer refusal.file refusal.cause same
+demo_done : (stewards : List StewardRules) (number : ℕ) (answer : Answer) → IsDemo stewards number answer → answer.status ≡ Done
+demo_done stewards number answer (folder, has, day, tested, announced) = ap (λ (a : Answer). a.status) announced.says
 
 command_result : (folder : Option FilesByName) (stewards : List StewardRules) (command : Command) (answer : Answer) → IsRightFor folder stewards command answer → IsResult answer.status
 command_result folder stewards (Free file) answer right = of_file_result IsFreeText file right.0 answer right.2
 command_result folder stewards (Triangle file) answer right = of_file_result IsTriangleText file right.0 answer right.2
 command_result folder stewards (Score names) answer right = score_result folder stewards names answer right
 command_result folder stewards (Check names) answer right = check_result folder names answer right
-command_result folder stewards (Demo number) answer right = demo_result stewards number answer right
+command_result folder stewards (Demo number) answer right = inl (demo_done stewards number answer right)
 
 result_goes_on : (status : Status) → IsResult status → stop_at status ≡ None
 result_goes_on status (inl same) = ap stop_at same
@@ -129,18 +128,12 @@ of_file_passes IsText file None answer passes right = absurd passes
 of_file_passes IsText file (Some bytes) answer passes right =
     of_bytes_passes IsText (nat_lt most_bytes (length bytes)) file (recording_of bytes None) answer (le-ltb most_bytes (length bytes) passes.0) passes.1 right
 
-demo_passes : (stewards : List StewardRules) (number : ℕ) (answer : Answer) → PassesDemo number → IsDemo stewards number answer → answer.status ≢ Refused
-demo_passes stewards number answer passes (folder, has, Ok day, tested, announced) = done_no_refusal answer.status (inl (ap (λ (a : Answer). a.status) announced.says))
-demo_passes stewards number answer passes (folder, has, Err refusal, tested, same) =
-    let passed = passes folder has in
-    absurd (score_not_refused folder _ passed.0 refusal passed.1 tested)
-
 command_passes : (files : FilesByName) (stewards : List StewardRules) (command : Command) (answer : Answer) → PassTests (Some files) (Some command) → IsRightFor (Some files) stewards command answer → answer.status ≢ Refused
 command_passes files stewards (Free file) answer passes (seen, there, right) = of_file_passes IsFreeText file seen answer (subst PassesAsRecording there passes) right
 command_passes files stewards (Triangle file) answer passes (seen, there, right) = of_file_passes IsTriangleText file seen answer (subst PassesAsRecording there passes) right
 command_passes files stewards (Score names) answer passes right = score_passes files stewards names answer passes right
 command_passes files stewards (Check names) answer passes right = check_passes files names answer passes right
-command_passes files stewards (Demo number) answer passes right = demo_passes stewards number answer passes right
+command_passes files stewards (Demo number) answer passes right = done_no_refusal answer.status (inl (demo_done stewards number answer right))
 
 -- files that pass the tests of a command give a result
 pub right_passes : (folder : Option FilesByName) (stewards : List StewardRules) (command : Option Command) (answer : Answer) → PassTests folder command → IsRight folder stewards command answer → (answer.status ≢ Words) × (answer.status ≢ Refused)

@@ -1,5 +1,5 @@
 -- The right answer of `demo`.
-use Rattle.std.specs.Prelude.{◌≡◌, ℕ, List, [], ◌∷◌, ◌++◌, length, Some, IsSome, All, Any, MatchResult, codes}
+use Rattle.std.specs.Prelude.{◌≡◌, ℕ, List, [], ◌∷◌, ◌++◌, length, Some, Ok, IsSome, All, Any, codes}
 use Rattle.std.specs.Fmt.{decimal}
 use Rattle.gl_demo.specs.Day.{generated_files}
 use Rattle.gl_demo.specs.Task.{task_file_name}
@@ -9,9 +9,9 @@ use Rattle.gl_proof.specs.Text.{IsTextOf}
 use Rattle.gl_day.specs.Flight.{StewardRules}
 use Rattle.gl_app.specs.declared.day_files.DayFiles.{DayFiles}
 use Rattle.gl_app.specs.declared.status.Status.TheVariants.{Done}
-use Rattle.gl_app.specs.Answer.{Answer, refused, saying}
-use Rattle.gl_app.specs.DayFiles.{IsScoreTested, Tested}
-use Rattle.gl_app.specs.Score.{IsDayScored, PassesScore}
+use Rattle.gl_app.specs.Answer.{Answer, saying}
+use Rattle.gl_app.specs.DayFiles.{IsScoreTested}
+use Rattle.gl_app.specs.Score.{IsDayScored}
 use Rattle.gl_app.specs.Words.{DayNames}
 
 -- the folder has these files, and no other
@@ -42,17 +42,10 @@ pub record IsDayAnnounced (folder : FilesByName) (day : DayFiles) (stewards : Li
   pub counted : IsCountOf scored.appended claims
   pub says : answer ≡ saying Done (scored.said ++ claims_line claims)
 
--- The answer of `demo`: what it announces of the day in the folder of the generated files, where
--- they pass the tests of `score`, or the first refusal.
+-- The answer of `demo`: what it announces of the day in the folder of the generated files. They
+-- always pass the tests of `score`.
 abbrev pub IsDemo : List StewardRules → ℕ → Answer → Type 0
 IsDemo stewards number answer =
     (folder : FilesByName) × HasJust (generated_files number) folder
-    × (tested : Tested DayFiles) × IsScoreTested (Some folder) demo_names tested
-    × MatchResult tested (λ day. IsDayAnnounced folder day stewards answer)
-    (λ refusal. answer ≡ refused refusal.file refusal.cause)
-
--- whatever folder has just the generated files passes the tests of `score`
-abbrev pub PassesDemo : ℕ → Type 0
-PassesDemo number =
-    (folder : FilesByName) → HasJust (generated_files number) folder
-    → PassesScore folder demo_names
+    × (day : DayFiles) × IsScoreTested (Some folder) demo_names (Ok day)
+    × IsDayAnnounced folder day stewards answer

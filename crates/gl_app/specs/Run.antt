@@ -1,5 +1,5 @@
 -- The right answer of a run, and how a run ends.
-use Rattle.std.specs.Prelude.{◌≡◌, ℕ, List, [], Option, None, Some, take, ◌⊎◌, MatchOption}
+use Rattle.std.specs.Prelude.{◌≡◌, ℕ, List, [], Option, None, Some, take, ◌⊎◌, MatchOption, ⊤}
 use Rattle.gl_desk.specs.Answers.{CountsFaults}
 use Rattle.gl_desk.specs.Desk.{FilesByName, Told, IsSeenIn, followed_by}
 use Rattle.gl_desk.specs.declared.error.DeskError.{DeskError}
@@ -9,7 +9,7 @@ use Rattle.gl_app.specs.declared.status.Status.TheVariants.{Words}
 use Rattle.gl_app.specs.Answer.{Answer, saying}
 use Rattle.gl_app.specs.Appending.{IsAppended}
 use Rattle.gl_app.specs.Check.{IsCheck, IsScoredFolder, PassesCheck}
-use Rattle.gl_app.specs.Demo.{IsDemo, PassesDemo}
+use Rattle.gl_app.specs.Demo.{IsDemo}
 use Rattle.gl_app.specs.Statuses.{stop_at}
 use Rattle.gl_app.specs.Score.{IsScore, IsScoreBegun, PassesScore}
 use Rattle.gl_app.specs.Words.{Check, Command, Demo, Free, Score, Triangle}
@@ -44,8 +44,8 @@ IsBegunFor folder (Some (Score names)) text = IsScoreBegun folder names text
 IsBegunFor folder (Some (Check names)) text = ⊥
 IsBegunFor folder (Some (Demo number)) text = ⊥
 
--- The desk tells its folder, and its files pass every test of the command. A further command has
--- its case here.
+-- The desk tells its folder, and its files pass every test of the command. A generated day always
+-- passes its tests, whatever the folder has. A further command has its case here.
 abbrev pub PassTests : Option FilesByName → Option Command → Type 0
 PassTests None command = ⊥
 PassTests (Some files) None = ⊥
@@ -53,7 +53,7 @@ PassTests (Some files) (Some (Free file)) = PassesAsRecording (files file)
 PassTests (Some files) (Some (Triangle file)) = PassesAsRecording (files file)
 PassTests (Some files) (Some (Score names)) = PassesScore files names
 PassTests (Some files) (Some (Check names)) = PassesCheck files names
-PassTests (Some files) (Some (Demo number)) = PassesDemo number
+PassTests (Some files) (Some (Demo number)) = ⊤
 
 -- The command checks the proof that `score` wrote, in the folder of its day.
 abbrev pub ChecksScored : Option FilesByName → Option Command → Type 0

@@ -88,7 +88,7 @@ pub fn demo(
     };
     let scored = score(alloc, &mut shelf, names, stewards)?;
     let Status::Done = scored.status else {
-        return Ok(scored);
+        unreachable!()
     };
     if is_too_large(&shelf, &proof) {
         return Err(DeskError::Memory);

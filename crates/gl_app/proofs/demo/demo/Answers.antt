@@ -1,10 +1,10 @@
-use Rattle.std.proofs.Common.{◌≡◌, [], refl, subst}
+use Rattle.std.proofs.Common.{[], refl, subst}
 use Rattle.gl_app.specs.declared.status.Status.TheVariants.{Done}
 use Rattle.gl_app.specs.Answer.{answer_with}
 use Rattle.gl_app.specs.Demo.{HasJust, IsCountOf}
 use Rattle.gl_app.specs.Shelf.{folder_on, told_on}
 use Rattle.gl_app.specs.Words.{DayNames}
-use Rattle.gl_app.proofs.Demos.{ScoredThere, demo_announced, demo_refused, just_files, scored_folder, small_of}
+use Rattle.gl_app.proofs.Demos.{demo_announced, demo_done, just_files, scored_folder, small_of}
 use Rattle.gl_app.proofs.demo.demo.Goals as goal
 
 pub returns-clause-right : goal.returns-clause-right
@@ -20,15 +20,14 @@ returns-clause-right g c =
     (λ bytes there. small_of c.is_too_large.result (folder_on behind names.proof) bytes c.if-is_too_large.false c.is_too_large.ensures there) in
     demo_announced _ c.args.day.number folder names answer _ c.in_ok-claims.claims
     (record { has = has; names_are = λ i. record { task = c.in_ok-task.ensures i; proof = c.in_ok-proof.ensures i }; is = right.1 })
-    c.in-Done.is
     (subst (λ text. IsCountOf text c.in_ok-claims.claims) scored.1 (c.in_ok-claims.ensures.counted scored.0))
     (λ i. record { status = Done; said = c.in_ok-push_claims.ensures i; appended = [] })
 
-pub returns-in_default-clause-right : goal.returns-in_default-clause-right
-returns-in_default-clause-right g c =
+pub unreachable-requires : goal.unreachable-requires
+unreachable-requires g c =
     let folder = folder_on c.in_ok-shelf.shelf in
     let right = c.in_ok-scored.ensures.right in
     let has = subst (λ files. HasJust files folder) c.in_ok-generated_day.ensures.files (just_files c.in_ok-generated_day.field-0.items folder c.in_ok-shelf.ensures.files) in
-    demo_refused _ c.args.day.number folder (record { task = c.in_ok-task.task; proof = c.in_ok-proof.proof }) c.in_ok-scored.scored right.0
-    (record { has = has; names_are = λ i. record { task = c.in_ok-task.ensures i; proof = c.in_ok-proof.ensures i }; is = right.1 })
     c.in_default.not-Done
+    (demo_done _ c.args.day.number folder (record { task = c.in_ok-task.task; proof = c.in_ok-proof.proof }) (answer_with c.in_ok-scored.scored right.0)
+    (record { has = has; names_are = λ i. record { task = c.in_ok-task.ensures i; proof = c.in_ok-proof.ensures i }; is = right.1 }))

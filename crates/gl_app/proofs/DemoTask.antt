@@ -1,0 +1,138 @@
+-- The files of a generated day pass the tests of `score`.
+use Rattle.std.proofs.Common.{◌≡◌, ◌∙◌, refl, sym, ap, subst, arith, ℕ, true, false, List, length, map, Option, None, Some, Ok, Err, codes}
+use Rattle.std.proofs.lemmas.List.Elements.{All-cons, All-map}
+use Rattle.std.proofs.lemmas.Str.{IsUtf8-from_is_utf8}
+use Rattle.std.specs.Char.{encode_utf8}
+use Rattle.std.specs.List.{range_with_len}
+use Rattle.std.specs.Prelude.{All, Any, is_some, nat_lt, slice_index, unwrap_or}
+use Rattle.std.specs.Str.{chars, is_utf8}
+use Rattle.toml.proofs.OnLiterals.{toml_on_literals}
+use Rattle.toml.specs.Data.{Members, no_members}
+use Rattle.toml.specs.Parse.{parse_document}
+use Rattle.gl_airspace.specs.declared.volume.Airspace.{Airspace}
+use Rattle.gl_day.specs.Flight.{most_bytes}
+use Rattle.gl_demo.specs.Day.{entrant_file, generated_files}
+use Rattle.gl_demo.specs.Recording.{recording_name}
+use Rattle.gl_demo.specs.Task.{task_file_name, task_text}
+use Rattle.gl_desk.specs.Desk.{FilesByName}
+use Rattle.gl_igc.specs.Dates.{day_number, is_in_calendar}
+use Rattle.gl_sphere.specs.Components.{written_x, written_y, written_z}
+use Rattle.gl_sphere.specs.Place.{written_vector}
+use Rattle.gl_sphere.specs.PlaceText.{angle_of, latitude_of, longitude_of, place_of_text, signed_by}
+use Rattle.gl_sphere.specs.Product.{product, scaled, with_sign_of}
+use Rattle.gl_sphere.specs.Sine.{half_turn_sine, quarter_sine, radians, sine_sum, sine_term, written_cosine, written_sine}
+use Rattle.gl_task.specs.Keys.{first_failed, said}
+use Rattle.gl_task.specs.Places.{grid_at, grid_of_text, is_same_vector, other_point}
+use Rattle.gl_task.specs.Reading.{IsDocument, IsReadFrom}
+use Rattle.gl_task.specs.Tests.{course_tests, day_tests, entrant_tests, entrants_tests, finish_tests, head_tests, lists_tests, numbered_tests, part_tests, people_tests, plan_tests, rules_tests, start_tests, tests, way_tests, word_tests, zone_tests, zones_tests}
+use Rattle.gl_task.specs.Values.{day_of, file_name, kind_of, list_word_of, recent_day}
+use Rattle.gl_task.specs.declared.error.TaskError.{TaskError}
+use Rattle.gl_task.specs.declared.task.Task.{Task}
+use Rattle.gl_text.specs.Digits.{number_of}
+use Rattle.gl_app.specs.declared.day_files.DayFiles.{DayFiles}
+use Rattle.gl_app.specs.declared.refusal.Refusal.{Refusal}
+use Rattle.gl_app.specs.DayFiles.{IfPassed, IsAirspaceFor, IsDayOf, IsEmptyAirspace, IsRefusedFor, IsScoreTested, IsTaskIn, Tested, task_cause}
+use Rattle.gl_app.specs.Demo.{HasJust, demo_names}
+use Rattle.gl_app.proofs.DayPasses.{listed_then, new_then, ok_or_err, small_then, task_passed}
+use Rattle.gl_app.proofs.Readings.{document_same, table_refused}
+
+-- the table of the task
+unfoldable pub demo_table : Members
+demo_table = unwrap_or (parse_document task_text) no_members
+
+demo_is_read : is_some (parse_document task_text) ≡ true
+unfolding toml_on_literals task_text
+demo_is_read = refl
+
+held : {A : Type 0} (o : Option A) (other : A) → is_some o ≡ true → o ≡ Some (unwrap_or o other)
+held None other is = absurd (cc)
+held (Some a) other is = refl
+
+demo_reads : parse_document task_text ≡ Some demo_table
+unfolding demo_table
+demo_reads = held (parse_document task_text) no_members demo_is_read
+
+demo_utf8 : is_utf8 task_text ≡ true
+unfolding is_utf8 chars encode_utf8 task_text
+demo_utf8 = refl
+
+-- the task's text is that table
+pub demo_document : IsDocument task_text demo_table
+demo_document = record { utf8 = IsUtf8-from_is_utf8 task_text demo_utf8; reads = demo_reads }
+
+-- it passes all tests
+pub demo_table_passes : first_failed (tests demo_table) ≡ None
+unfolding toml_on_literals task_text demo_table tests plan_tests head_tests course_tests way_tests people_tests numbered_tests day_tests word_tests lists_tests start_tests part_tests zone_tests zones_tests finish_tests rules_tests entrant_tests entrants_tests day_of recent_day kind_of list_word_of grid_at grid_of_text is_same_vector other_point number_of day_number is_in_calendar angle_of latitude_of longitude_of place_of_text signed_by written_vector written_x written_y written_z product scaled with_sign_of half_turn_sine quarter_sine radians sine_sum sine_term written_cosine written_sine
+demo_table_passes = refl
+
+-- and names no airspace
+pub demo_names_no_airspace : said (codes "airspace") file_name demo_table ≡ None
+unfolding toml_on_literals task_text demo_table
+demo_names_no_airspace = refl
+
+-- the text is small
+demo_text_small : nat_lt most_bytes (length task_text) ≡ false
+unfolding task_text
+demo_text_small = refl
+
+task_in : (refusal : Refusal) → IsTaskIn task_file_name task_text (Err refusal) → ⊥
+task_in refusal (Ok read, is, same) = ok_or_err read refusal (sym same)
+task_in refusal (Err error, is, refused) =
+    subst (λ (e : TaskError). IsRefusedFor {X = Task} task_file_name (task_cause e) (Err refusal))
+    (table_refused task_text demo_table error demo_document demo_table_passes is) refused
+
+no_airspace : (read : Task) → IsReadFrom task_text read → read.airspace ≡ None
+no_airspace read is =
+    sym is.says.airspace
+    ∙ subst (λ (file : Members). said (codes "airspace") file_name file ≡ None) (document_same task_text demo_table is.file demo_document is.document) demo_names_no_airspace
+
+airspace_in : (folder : Option FilesByName) (v : Task) (then : Tested Airspace) (refusal : Refusal) → v.airspace ≡ None → IsAirspaceFor folder v.airspace then → IfPassed {Y = DayFiles} then (Err refusal) (λ air. ◌≡◌ {A = Tested DayFiles} (Err refusal) (Ok (record { task = v; airspace = air }))) → ⊥
+airspace_in folder v (Ok a) refusal none is same = ok_or_err _ refusal (sym same)
+airspace_in folder v (Err other) refusal none is same =
+    let empty : IsEmptyAirspace (Err other) = subst (λ (file : Option (List ℕ)). IsAirspaceFor folder file (Err other)) none is in
+    ok_or_err empty.0 other (sym empty.2)
+
+day_in : (folder : Option FilesByName) (refusal : Refusal) → IsDayOf folder task_file_name task_text (Err refusal) → ⊥
+day_in folder refusal (Ok v, is, then) =
+    airspace_in folder v then.0 refusal (no_airspace v (task_passed task_file_name task_text v is).reads) then.1 then.2
+day_in folder refusal (Err other, is, same) =
+    task_in other (small_then (nat_lt most_bytes (length task_text)) _ (IsTaskIn task_file_name task_text (Err other)) demo_text_small is)
+
+-- each name begins with D
+abbrev BeginsWithD : List ℕ × List ℕ → Type 0
+BeginsWithD file = slice_index file.0 0 ≡ 68
+
+entrant_named : (number entrant : ℕ) → BeginsWithD (entrant_file number entrant)
+unfolding recording_name
+entrant_named number entrant = refl
+
+all_named : (number : ℕ) → All BeginsWithD (generated_files number)
+unfolding generated_files
+all_named number =
+    All-cons BeginsWithD (task_file_name, task_text) (map (entrant_file number) (range_with_len 0 4)) refl
+    (All-map BeginsWithD (entrant_file number) (range_with_len 0 4) (λ k d less. entrant_named number _))
+
+begins_so : (files : List (List ℕ × List ℕ)) (name : List ℕ) → All BeginsWithD files → Any (λ file. file.0 ≡ name) files → slice_index name 0 ≡ 68
+begins_so files name all any =
+    sym (ap (λ (f : List ℕ × List ℕ). slice_index f.0 0) any.3 ∙ ap (λ (n : List ℕ). slice_index n 0) any.4) ∙ all any.0 any.1 any.2
+
+begins_otherwise : slice_index demo_names.proof 0 ≡ 68 → ⊥
+begins_otherwise same = let e : ◌≡◌ {A = ℕ} 80 68 = same in cc
+
+no_proof_named : (number : ℕ) → Any (λ (file : List ℕ × List ℕ). file.0 ≡ demo_names.proof) (generated_files number) → ⊥
+no_proof_named number any = begins_otherwise (begins_so (generated_files number) demo_names.proof (all_named number) any)
+
+no_proof : (number : ℕ) (folder : FilesByName) (there : Option (List ℕ)) → HasJust (generated_files number) folder → folder demo_names.proof ≡ there → there ≡ None
+no_proof number folder None has same = refl
+no_proof number folder (Some bytes) has same = absurd (no_proof_named number (has.only demo_names.proof (ap is_some same)))
+
+task_there : (number : ℕ) (folder : FilesByName) → HasJust (generated_files number) folder → folder task_file_name ≡ Some task_text
+unfolding generated_files
+task_there number folder has = has.each 0 (task_file_name, task_text) (omega arith)
+
+-- the tests of `score` refuse no file of a generated day
+pub demo_not_refused : (number : ℕ) (folder : FilesByName) (refusal : Refusal) → HasJust (generated_files number) folder → IsScoreTested (Some folder) demo_names (Err refusal) → ⊥
+demo_not_refused number folder refusal has (seen, there, is) =
+    let at = listed_then {X = DayFiles} task_file_name seen task_text (Err refusal) _ (sym there ∙ task_there number folder has) is in
+    day_in (Some folder) refusal
+    (new_then at.0 (IsDayOf (Some folder) task_file_name task_text (Err refusal)) _ (no_proof number folder at.0 has at.1) at.2)
