@@ -1,17 +1,15 @@
 -- A proof that `score` wrote is accepted by `check`, in the same folder with the proof in it.
-use Rattle.std.proofs.Common.{◌≡◌, ◌≢◌, ◌∙◌, sym, ap, subst, refl, ℕ, ◌<◌, ◌≤◌, ◌⊎◌, inl, inr, Bool, true, false, List, [], ◌∷◌, ◌++◌, length, Option, None, Some, Result, Ok, Err, arith, append_assoc, append-nil}
+use Rattle.std.proofs.Common.{◌≡◌, ◌≢◌, ◌∙◌, sym, ap, subst, refl, ℕ, ◌⊎◌, inl, inr, Bool, true, false, List, [], ◌∷◌, ◌++◌, length, Option, None, Some, Result, Ok, Err, arith, append_assoc, append-nil}
 use Rattle.std.specs.Prelude.{MatchBool, MatchResult, nat_lt}
 use Rattle.std.specs.List.{AllZip}
 use Rattle.std.proofs.lemmas.Bool.{cases_lt, le-ltb}
 use Rattle.gl_airspace.specs.declared.volume.Airspace.{Airspace}
-use Rattle.gl_desk.specs.Desk.{FilesByName, IsSeenIn}
-use Rattle.gl_goal.specs.Rule.{Rule}
+use Rattle.gl_desk.specs.Desk.{FilesByName}
 use Rattle.gl_igc.specs.declared.error.IgcError.{IgcError}
 use Rattle.gl_igc.specs.declared.error.IgcError.TheVariants.{NotIgc}
 use Rattle.gl_igc.specs.declared.recording.Recording.{Recording}
 use Rattle.gl_igc.specs.Reading.{Reading, recording_of}
 use Rattle.gl_judge.specs.Claims.{AreExpected}
-use Rattle.gl_proof.specs.declared.claim.ClaimKind.{ClaimKind}
 use Rattle.gl_proof.specs.declared.proof.Proof.{Proof}
 use Rattle.gl_proof.specs.Claim.{Statement}
 use Rattle.gl_proof.specs.Text.{IsTextOf, statements_of}
@@ -19,7 +17,6 @@ use Rattle.gl_task.specs.declared.task.Entrant.{Entrant}
 use Rattle.gl_task.specs.declared.task.Task.{Task}
 use Rattle.gl_day.specs.declared.fault.Checked.{Checked}
 use Rattle.gl_day.specs.declared.fault.Checked.TheVariants as checked
-use Rattle.gl_day.specs.Checked.{IsChecked}
 use Rattle.gl_day.specs.Expected.{Proves, expected_of}
 use Rattle.gl_day.specs.Flight.{StewardRules}
 use Rattle.gl_day.specs.Laws.Checks.{none_wrong, not_proved_more, proof_accepted}
@@ -30,13 +27,13 @@ use Rattle.gl_app.specs.declared.day_files.DayFiles.{DayFiles}
 use Rattle.gl_app.specs.declared.refusal.Refusal.{Refusal}
 use Rattle.gl_app.specs.declared.status.Status.{Status}
 use Rattle.gl_app.specs.declared.status.Status.TheVariants as status
-use Rattle.gl_app.specs.Answer.{Answer, refused, saying}
+use Rattle.gl_app.specs.Answer.{Answer, refused}
 use Rattle.gl_day.specs.Asked.{AreAskedOf, AreAskedOfReading, Expected}
 use Rattle.gl_app.specs.Asked.{AreAsked, AreAskedIn}
 use Rattle.gl_app.specs.Check.{IsCheck, IsDayChecked, IsProofChecked, IsSaidBehind, IsScoredFolder, checked_answer}
-use Rattle.gl_app.specs.DayFiles.{IfListed, IfPassed, IsAirspaceFor, IsAirspaceOf, IsCheckTested, IsDayOf, IsProofIn, IsProofOf, IsScoreTested, IsTaskOf, Tested}
+use Rattle.gl_app.specs.DayFiles.{IsAirspaceFor, IsAirspaceOf, IsCheckTested, IsDayOf, Tested}
 use Rattle.gl_app.specs.Listed.{most_proof_bytes}
-use Rattle.gl_app.specs.Score.{IsDayScored, IsScore, Scored, statements_of_all}
+use Rattle.gl_app.specs.Score.{IsDayScored, IsScore, statements_of_all}
 use Rattle.gl_app.specs.Run.{ChecksScored, IsRight}
 use Rattle.gl_app.specs.Words.{Check, Command, DayNames, Demo, Free, Score, Triangle}
 use Rattle.gl_app.proofs.DayPasses.{PassedDay, check_parts, check_with, day_passed, listed_ok, listed_then, new_ok, ok_or_err}

@@ -1,5 +1,5 @@
 -- Claims of an entrant, one after the other.
-use Rattle.std.proofs.Common.{◌≡◌, ◌∙◌, sym, ap, subst, refl, ℕ, ◌+◌, ◌<◌, List, [], ◌∷◌, ◌++◌, length, take, drop, get_or, map, None, Option, append-nil}
+use Rattle.std.proofs.Common.{◌≡◌, ◌∙◌, sym, ap, subst, refl, ℕ, ◌+◌, ◌<◌, List, [], ◌∷◌, ◌++◌, length, take, drop, get_or, None, append-nil}
 use Rattle.std.specs.List.{AllZip, flat_map}
 use Rattle.std.proofs.lemmas.List.{take_more, take-append-drop}
 use Rattle.std.proofs.lemmas.List.Concat.{flat_map-append}
@@ -17,7 +17,6 @@ use Rattle.gl_day.specs.Totals.{AreTotals}
 use Rattle.gl_day.proofs.Walked.{claims_for, claims_for-append, zip-push}
 use Rattle.gl_app.specs.Appending.{HasAppended, HasAppendedPart}
 use Rattle.gl_day.specs.Asked.{Expected}
-use Rattle.gl_app.specs.Score.{ArePartlyProved}
 use Rattle.gl_app.specs.Scoring.{AreClaimed, AreClaimedPartly}
 use Rattle.gl_app.proofs.Appended.{HasAppended-none, HasAppended-then, HasAppendedPart-memory, HasAppendedPart-then}
 

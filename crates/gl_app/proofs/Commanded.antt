@@ -1,16 +1,15 @@
 -- How the commands of a day answer, and how they are stopped.
-use Rattle.std.proofs.Common.{◌≡◌, ◌∙◌, sym, ap, subst, refl, ℕ, ◌≤◌, ◌⊎◌, inl, inr, List, [], length, take, Option, None, Some, Result, Ok, Err, arith}
-use Rattle.std.specs.Prelude.{IfErr, IfOk, OnErr}
+use Rattle.std.proofs.Common.{◌≡◌, ◌∙◌, sym, ap, subst, refl, ℕ, ◌⊎◌, inl, inr, List, [], take, Option, None, Some, Result, Ok, Err, arith}
+use Rattle.std.specs.Prelude.{IfOk}
 use Rattle.std.specs.List.{AllZip}
 use Rattle.std.proofs.lemmas.Bool.{cases_lt}
 use Rattle.std.proofs.lemmas.List.{length-take, take-take, take_all}
-use Rattle.gl_desk.specs.Answers.{CountsFaults, OnlyReads, stop_of}
-use Rattle.gl_desk.specs.Desk.{FilesByName, TakesPrefix, Told, followed_by}
+use Rattle.gl_desk.specs.Answers.{OnlyReads, stop_of}
+use Rattle.gl_desk.specs.Desk.{FilesByName, Told}
 use Rattle.gl_desk.specs.declared.error.DeskError.{DeskError}
 use Rattle.gl_desk.specs.declared.error.DeskError.TheVariants.{Failed, Memory}
 use Rattle.gl_proof.specs.Claim.{Statement}
 use Rattle.gl_proof.specs.Text.{proof_text}
-use Rattle.gl_task.specs.declared.task.Entrant.{Entrant}
 use Rattle.gl_day.specs.Expected.{Proves}
 use Rattle.gl_day.specs.Flight.{StewardRules}
 use Rattle.gl_app.specs.declared.answer.Answer as code
@@ -19,11 +18,11 @@ use Rattle.gl_app.specs.declared.halt.Halt.{Halt}
 use Rattle.gl_app.specs.declared.halt.Halt.TheVariants.{Refused, Stopped}
 use Rattle.gl_app.specs.declared.status.Status.{Status}
 use Rattle.gl_app.specs.declared.status.Status.TheVariants.{Done}
-use Rattle.gl_app.specs.Answer.{Answer, answer_of, answer_with}
-use Rattle.gl_app.specs.Appending.{HasAppended, HasAppendedPart, HasGiven, IsAppended}
+use Rattle.gl_app.specs.Answer.{Answer, answer_with}
+use Rattle.gl_app.specs.Appending.{HasGiven}
 use Rattle.gl_app.specs.DayFiles.{IsScoreTested}
 use Rattle.gl_app.specs.Halts.{AnswersHalt, IsTested, halt_stop}
-use Rattle.gl_app.specs.Run.{Ends, Gives, GivesBegun, IsStopped, Stops}
+use Rattle.gl_app.specs.Run.{Ends, IsStopped, Stops}
 use Rattle.gl_app.specs.Score.{IsBegun, IsScore, IsScoreBegun, IsScored, statements_of_all, text_so_far}
 use Rattle.gl_app.specs.Scoring.{IsDayDone, IsDayStopped}
 use Rattle.gl_app.specs.Statuses.{status_of}

@@ -1,9 +1,8 @@
 -- The claims of a proof are compared entrant by entrant.
-use Rattle.std.proofs.Common.{◌≡◌, ◌∙◌, sym, ap, subst, refl, ℕ, suc, ◌+◌, ◌<◌, inl, List, [], ◌∷◌, ◌++◌, length, take, drop, get_or, map, Option, None, Some, arith, append-nil}
+use Rattle.std.proofs.Common.{◌≡◌, ◌∙◌, sym, ap, subst, refl, ℕ, ◌+◌, ◌<◌, inl, List, [], ◌∷◌, ◌++◌, length, take, drop, get_or, Option, None, Some, arith, append-nil}
 use Rattle.std.proofs.lemmas.List.{take_more, take-append-drop, length-append}
 use Rattle.gl_desk.specs.Desk.{FilesByName}
 use Rattle.gl_goal.specs.declared.any.AnyGoal.{AnyGoal}
-use Rattle.gl_goal.specs.AnyGoal.{any_rule}
 use Rattle.gl_proof.specs.declared.claim.ClaimKind.{ClaimKind}
 use Rattle.gl_proof.specs.Claim.{Statement}
 use Rattle.gl_task.specs.declared.task.Entrant.{Entrant}

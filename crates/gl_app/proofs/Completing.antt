@@ -1,6 +1,5 @@
 -- What a stopped `score` has begun can be completed: it is a first part of a right answer.
-use Rattle.std.proofs.Common.{◌≡◌, ◌∙◌, sym, ap, subst, refl, ℕ, zero, suc, ◌⊎◌, inl, inr, List, [], ◌∷◌, ◌++◌, length, take, Option, None, Some, Ok, append_assoc, append-nil}
-use Rattle.std.specs.Prelude.{All}
+use Rattle.std.proofs.Common.{◌≡◌, ◌∙◌, sym, ap, subst, refl, ℕ, zero, suc, ◌⊎◌, inl, inr, List, [], ◌∷◌, ◌++◌, take, Option, None, Some, Ok, append_assoc, append-nil}
 use Rattle.std.specs.List.{AllZip, flat_map}
 use Rattle.std.proofs.lemmas.List.Concat.{flat_map-append}
 use Rattle.std.proofs.lemmas.List.Elements.{All-append, All-nil}
@@ -27,7 +26,7 @@ use Rattle.gl_app.specs.Answer.{Answer}
 use Rattle.gl_app.specs.Appending.{IsAppended}
 use Rattle.gl_app.specs.Asked.{AreAsked}
 use Rattle.gl_app.specs.Run.{GivesBegun, IsBegunFor, IsRight, IsStopped, Stops}
-use Rattle.gl_app.specs.Score.{IsBegun, IsDayScored, IsScore, IsScoreBegun, IsScored, Scored, flights_of_all, statements_of_all, text_so_far}
+use Rattle.gl_app.specs.Score.{IsBegun, IsDayScored, IsScoreBegun, IsScored, Scored, flights_of_all, statements_of_all, text_so_far}
 use Rattle.gl_app.specs.Words.{Check, Command, DayNames, Demo, Free, Score, Triangle}
 use Rattle.gl_app.proofs.Flights.{all_texts, length-flights, zip-append}
 

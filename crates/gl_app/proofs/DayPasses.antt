@@ -1,9 +1,8 @@
 -- Files that pass the tests of a day aren't refused.
-use Rattle.std.proofs.Common.{◌≡◌, ◌∙◌, refl, sym, ap, subst, ℕ, Bool, true, false, List, [], length, Option, None, Some, Result, Ok, Err}
+use Rattle.std.proofs.Common.{◌≡◌, ◌∙◌, refl, sym, ap, subst, ℕ, Bool, true, false, List, length, Option, None, Some, Ok, Err}
 use Rattle.std.specs.Prelude.{MatchBool, MatchOption, nat_lt}
 use Rattle.gl_airspace.specs.Airspace.{IsAirspace}
 use Rattle.gl_airspace.specs.declared.error.AirError.{AirError}
-use Rattle.gl_airspace.specs.declared.error.AirError.TheVariants as air
 use Rattle.gl_airspace.specs.declared.volume.Airspace.{Airspace}
 use Rattle.gl_desk.specs.Desk.{FilesByName, IsSeenIn}
 use Rattle.gl_day.specs.Laws.Airspaces.{airspace_same, no_volumes_same}
@@ -11,16 +10,14 @@ use Rattle.gl_proof.proofs.Unique.{text_refused, text_unique}
 use Rattle.gl_proof.specs.Claim.{Statement}
 use Rattle.gl_proof.specs.Text.{IsTextOf, statements_of}
 use Rattle.gl_proof.specs.declared.error.ProofError.{ProofError}
-use Rattle.gl_proof.specs.declared.error.ProofError.TheVariants as proof
 use Rattle.gl_proof.specs.declared.proof.Proof.{Proof}
 use Rattle.gl_task.specs.Reading.{IsReadFrom}
 use Rattle.gl_task.specs.declared.error.TaskError.{TaskError}
-use Rattle.gl_task.specs.declared.error.TaskError.TheVariants as task
 use Rattle.gl_task.specs.declared.task.Task.{Task}
 use Rattle.gl_app.specs.declared.day_files.DayFiles.{DayFiles}
 use Rattle.gl_app.specs.declared.refusal.Cause.{Cause}
 use Rattle.gl_app.specs.declared.refusal.Refusal.{Refusal}
-use Rattle.gl_app.specs.DayFiles.{IfListed, IfPassed, IsAirspaceFor, IsAirspaceIn, IsAirspaceOf, IsCheckTested, IsDayOf, IsProofIn, IsProofOf, IsRefusedFor, IsScoreTested, IsTaskIn, IsTaskOf, IsTaskOfText, Tested, airspace_cause, proof_cause, task_cause}
+use Rattle.gl_app.specs.DayFiles.{IfListed, IfPassed, IsAirspaceFor, IsAirspaceIn, IsAirspaceOf, IsCheckTested, IsDayOf, IsProofIn, IsProofOf, IsRefusedFor, IsScoreTested, IsTaskIn, IsTaskOf, Tested, airspace_cause, proof_cause, task_cause}
 use Rattle.gl_app.specs.Listed.{most_proof_bytes}
 use Rattle.gl_day.specs.Flight.{most_bytes}
 use Rattle.gl_app.specs.Refusals.{file_refusal}

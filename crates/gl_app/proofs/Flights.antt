@@ -1,5 +1,5 @@
 -- Entrants, one after the other.
-use Rattle.std.proofs.Common.{◌≡◌, ◌≢◌, ◌∙◌, sym, ap, subst, refl, ℕ, suc, ◌+◌, ◌<◌, ◌≤◌, ◌⊎◌, inl, inr, Bool, true, false, List, [], ◌∷◌, ◌++◌, length, take, drop, get_or, map, Option, None, Some, Result, Ok, Err, append_assoc, append-nil}
+use Rattle.std.proofs.Common.{◌≡◌, ◌≢◌, ◌∙◌, sym, ap, subst, refl, ℕ, suc, ◌+◌, ◌<◌, ◌≤◌, ◌⊎◌, inl, inr, Bool, true, false, List, [], ◌∷◌, ◌++◌, length, take, drop, get_or, Option, None, Some, Result, Ok, Err, append_assoc, append-nil}
 use Rattle.std.specs.Prelude.{All, Contains, IfErr, IfOk, IsSome, MatchBool, nat_lt}
 use Rattle.std.specs.List.{AllZip, flat_map}
 use Rattle.std.proofs.Math.Seq.{take-length}
@@ -17,7 +17,6 @@ use Rattle.gl_igc.specs.Reading.{Reading, recording_of}
 use Rattle.gl_igc.specs.Recording.{reading_of}
 use Rattle.gl_judge.specs.Claims.{AreExpected}
 use Rattle.gl_goal.specs.Rule.{Rule}
-use Rattle.gl_goal.specs.declared.any.AnyGoal.{AnyGoal}
 use Rattle.gl_proof.specs.declared.claim.ClaimKind.{ClaimKind}
 use Rattle.gl_proof.specs.Claim.{IsStatement, Statement, claim_text}
 use Rattle.gl_proof.specs.Line.{EndLine, HeadingLine, ended}
@@ -29,18 +28,16 @@ use Rattle.gl_day.specs.declared.flight.Seen.{Seen}
 use Rattle.gl_day.specs.declared.flight.Seen.TheVariants.{Recorded, Refused}
 use Rattle.gl_day.specs.Day.{IsSheetOf}
 use Rattle.gl_day.specs.Expected.{Proves, expected_of}
-use Rattle.gl_judge.specs.Claimed.{rules_of_claims}
 use Rattle.gl_day.specs.Flight.{IsFlight, IsReadFlight, IsRefusedFlight, IsSeen, StewardRules, most_bytes}
 use Rattle.gl_day.specs.Laws.Written.{expected_statements}
 use Rattle.gl_day.specs.Laws.Texts.{claim_texts-append, proof_text-parts}
 use Rattle.gl_day.proofs.Walked.{zip-length, zip-push}
 use Rattle.gl_app.specs.declared.day_files.DayFiles.{DayFiles}
-use Rattle.gl_app.specs.Appending.{HasAppended, HasAppendedPart, IsAppended}
+use Rattle.gl_app.specs.Appending.{HasAppended, HasAppendedPart}
 use Rattle.gl_day.specs.Asked.{AreAskedOf, AreAskedOfReading, Expected}
 use Rattle.gl_app.specs.Asked.{AreAsked, AreAskedIn, HaveFiles, IsEntrantSeen, IsSeenAmong}
-use Rattle.gl_app.specs.DayFiles.{Sees}
 use Rattle.gl_app.specs.Score.{ArePartlyProved, IsBegun, IsScored, Scored, flights_of_all, statements_of_all, text_so_far}
-use Rattle.gl_app.specs.Scoring.{AreClaimedPartly, AreEntrantsScored, IsDayDone, IsDayStopped, IsEntrantBegun, IsEntrantScored}
+use Rattle.gl_app.specs.Scoring.{AreEntrantsScored, IsDayDone, IsDayStopped, IsEntrantBegun, IsEntrantScored}
 use Rattle.gl_app.proofs.Appended.{HasAppended-none, HasAppended-reads, HasAppended-then, HasAppendedPart-memory, HasAppendedPart-then}
 use Rattle.gl_app.proofs.DayTests.{has_file, not_listed}
 

@@ -1,7 +1,6 @@
 -- The lines of a claim, piece by piece.
-use Rattle.std.proofs.Common.{◌≡◌, ◌∙◌, sym, ap, subst, refl, ℕ, ◌+◌, ◌-◌, ◌≤◌, List, [], ◌∷◌, ◌++◌, length, take, drop, map, Result, Ok, Err, arith}
+use Rattle.std.proofs.Common.{◌≡◌, ◌∙◌, sym, ap, subst, ℕ, ◌+◌, ◌-◌, ◌≤◌, List, [], ◌∷◌, ◌++◌, take, drop, map, Result, Ok, Err, arith}
 use Rattle.std.specs.Prelude.{IfErr, OnOk, slice_range}
-use Rattle.std.specs.List.{flat_map}
 use Rattle.std.proofs.Math.Seq.{take-add}
 use Rattle.std.proofs.lemmas.List.{map-append, take-append-drop}
 use Rattle.std.proofs.lemmas.List.Concat.{flat_map-append}
@@ -13,7 +12,7 @@ use Rattle.gl_desk.specs.declared.error.DeskError.{DeskError}
 use Rattle.gl_desk.specs.declared.error.DeskError.TheVariants.{Memory}
 use Rattle.gl_proof.specs.declared.claim.Claim.{Claim}
 use Rattle.gl_proof.specs.Claim.{Statement, box_line, claim_text, fix_lines, front_text, spelled, statement_of}
-use Rattle.gl_proof.specs.Line.{ClaimLine, Line, ended}
+use Rattle.gl_proof.specs.Line.{ClaimLine, ended}
 use Rattle.gl_app.specs.Appending.{HasAppended, HasAppendedPart}
 use Rattle.gl_app.proofs.Appended.{HasAppended-then, HasAppendedPart-longer, HasAppendedPart-memory, HasAppendedPart-then}
 

@@ -1,5 +1,5 @@
 -- A text has one task.
-use Rattle.std.proofs.Common.{◌≡◌, ◌∙◌, refl, sym, ap, subst, ℕ, ◌≤◌, ◌<◌, Bool, true, false, List, [], ◌∷◌, length, map, Option, None, Some, codes, ℤ, pos}
+use Rattle.std.proofs.Common.{◌≡◌, ◌∙◌, refl, sym, ap, subst, ℕ, ◌≤◌, ◌<◌, false, List, [], ◌∷◌, length, map, Option, None, Some, codes, pos}
 use Rattle.std.specs.Prelude.{IsTrue, is_some, option_map, option_and_then, ◌≤ℤ◌}
 use Rattle.std.specs.Option.{ForSome}
 use Rattle.std.proofs.Props.{props}
@@ -22,9 +22,9 @@ use Rattle.gl_task.specs.declared.task.LocalRules.{LocalRules}
 use Rattle.gl_task.specs.declared.task.Start.{Start}
 use Rattle.gl_task.specs.declared.task.Task.{Task}
 use Rattle.gl_task.specs.Forms.{is_file_name, is_number, is_name}
-use Rattle.gl_task.specs.Keys.{said, list_at, table_at, table_of}
+use Rattle.gl_task.specs.Keys.{table_at, table_of}
 use Rattle.gl_task.specs.Limits.{greatest_altitude, greatest_handicap, greatest_noise, last_second, most_entrants, most_points, most_zones}
-use Rattle.gl_task.specs.Meaning.{Each, IsEntrant, IsFinish, IsFinishOf, IsKind, IsLine, IsPart, IsRules, IsRulesOf, IsSector, IsStart, IsTask, IsZone}
+use Rattle.gl_task.specs.Meaning.{Each, IsEntrant, IsFinishOf, IsKind, IsLine, IsPart, IsRulesOf, IsSector, IsStart, IsTask, IsZone}
 use Rattle.gl_task.specs.Numbers.{all_differ}
 use Rattle.gl_task.specs.Ranges.{has_minimum, has_radius}
 use Rattle.gl_task.specs.Reading.{IsReadFrom}

@@ -1,6 +1,5 @@
 -- The right answer of `check`.
-use Rattle.std.specs.Prelude.{◌≡◌, ◌≢◌, ℕ, ◌≤◌, ◌⊎◌, List, [], ◌∷◌, ◌++◌, Option, Some, Ok, MatchResult, codes, length}
-use Rattle.std.specs.List.{AllZip}
+use Rattle.std.specs.Prelude.{◌≡◌, ◌≢◌, ℕ, ◌≤◌, List, [], ◌∷◌, ◌++◌, Option, Some, Ok, MatchResult, codes, length}
 use Rattle.std.specs.Fmt.{decimal}
 use Rattle.gl_desk.specs.Desk.{FilesByName}
 use Rattle.gl_proof.specs.declared.proof.Proof.{Proof}

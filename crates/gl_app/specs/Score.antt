@@ -1,9 +1,9 @@
 -- The right answer of `score`, and what it appends where it is stopped.
-use Rattle.std.specs.Prelude.{◌≡◌, ℕ, List, [], ◌∷◌, ◌++◌, map, take, Option, Some, Ok, MatchResult, ◌⊎◌}
+use Rattle.std.specs.Prelude.{◌≡◌, ℕ, List, [], ◌++◌, map, take, Option, Some, Ok, MatchResult, ◌⊎◌}
 use Rattle.std.specs.List.{AllZip, flat_map}
-use Rattle.gl_desk.specs.Desk.{FilesByName, Told}
+use Rattle.gl_desk.specs.Desk.{FilesByName}
 use Rattle.gl_proof.specs.Claim.{Statement, claim_text}
-use Rattle.gl_proof.specs.Line.{EndLine, HeadingLine, ended}
+use Rattle.gl_proof.specs.Line.{HeadingLine, ended}
 use Rattle.gl_proof.specs.Text.{IsTextOf, proof_text}
 use Rattle.gl_task.specs.declared.task.Entrant.{Entrant}
 use Rattle.gl_day.specs.declared.flight.Flight.{Flight}

@@ -1,7 +1,7 @@
 -- How `score` goes on from claim to claim, and from entrant to entrant.
-use Rattle.std.specs.Prelude.{◌≡◌, ℕ, List, ◌++◌, Option, length, take}
+use Rattle.std.specs.Prelude.{◌≡◌, ℕ, List, Option}
 use Rattle.std.specs.List.{AllZip, flat_map}
-use Rattle.gl_desk.specs.Desk.{FilesByName, Told}
+use Rattle.gl_desk.specs.Desk.{Told}
 use Rattle.gl_desk.specs.declared.error.DeskError.{DeskError}
 use Rattle.gl_proof.specs.Claim.{Statement, claim_text}
 use Rattle.gl_proof.specs.Text.{proof_text}
@@ -15,7 +15,6 @@ use Rattle.gl_day.specs.Totals.{AreTotals}
 use Rattle.gl_app.specs.declared.day_files.DayFiles.{DayFiles}
 use Rattle.gl_app.specs.Appending.{HasAppended, HasAppendedPart}
 use Rattle.gl_day.specs.Asked.{AreAskedOf, Expected}
-use Rattle.gl_app.specs.Asked.{AreAsked}
 use Rattle.gl_app.specs.Score.{ArePartlyProved, IsBegun, IsScored, Scored, flights_of_all, statements_of_all, text_so_far}
 
 -- the claims that are expected are proved, these are their totals, and their lines were appended

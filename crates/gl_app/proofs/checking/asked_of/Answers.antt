@@ -1,4 +1,3 @@
-use Rattle.std.proofs.Common.{List}
 use Rattle.gl_judge.specs.Claimed.{rules_of_claims}
 use Rattle.gl_app.proofs.Flights.{asked_recorded, asked_refused}
 use Rattle.gl_app.proofs.checking.asked_of.Goals as goal

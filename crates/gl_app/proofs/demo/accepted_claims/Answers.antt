@@ -1,8 +1,8 @@
-use Rattle.std.proofs.Common.{◌≡◌, ◌∙◌, sym, ap, subst, ℕ, List, Ok, Err, Some, length}
+use Rattle.std.proofs.Common.{◌≡◌, sym, ap, subst, ℕ, List, Ok, Err, Some, length}
 use Rattle.gl_day.specs.declared.fault.Checked.{Checked}
 use Rattle.gl_day.specs.declared.fault.Checked.TheVariants as checked
 use Rattle.gl_app.specs.declared.halt.Halt.{Halt}
-use Rattle.gl_app.specs.Check.{IsProofChecked, IsScoredFolder}
+use Rattle.gl_app.specs.Check.{IsProofChecked}
 use Rattle.gl_app.specs.DayFiles.{Tested}
 use Rattle.gl_app.specs.DayNames.{names_seen}
 use Rattle.gl_app.specs.Demo.{IsCountOf}
