@@ -19,17 +19,23 @@ IsPlaceOf span place = (span.0 ≤ place) × (place ≤ span.1)
 abbrev pub both : ℕ × ℕ → ℕ × ℕ → ℕ × ℕ
 both one other = (max one.0 other.0, min one.1 other.1)
 
+-- no place of a span is of a kind
+abbrev pub IsNoneOf : (ℕ → Type 0) → ℕ × ℕ → Type 0
+IsNoneOf kind span = (place : ℕ) → IsPlaceOf span place → ¬ kind place
+
+-- a place of a span is of a kind that says what is near, and no later place of the span is
+pub record IsLastOf (kind : ℕ → Type 0) (span : ℕ × ℕ) (place : ℕ) : Type 0 where
+  pub within : IsPlaceOf span place
+  pub near : kind place
+  pub last : (later : ℕ) → place < later → later ≤ span.1 → ¬ kind later
+
 -- no fix of a span is near the point
 abbrev pub IsNoneNear : List Fix → Vec3 → ℕ → ℕ × ℕ → Type 0
-IsNoneNear fixes point limit span =
-    (place : ℕ) → IsPlaceOf span place → ¬ IsNear fixes point limit place
+IsNoneNear fixes point limit span = IsNoneOf (IsNear fixes point limit) span
 
 -- a place of a span has a fix near the point, and no later place of the span has one
-pub record IsLastNear (fixes : List Fix) (point : Vec3) (limit : ℕ) (span : ℕ × ℕ) (place : ℕ)
-    : Type 0 where
-  pub within : IsPlaceOf span place
-  pub near : IsNear fixes point limit place
-  pub last : (later : ℕ) → place < later → later ≤ span.1 → ¬ IsNear fixes point limit later
+abbrev pub IsLastNear : List Fix → Vec3 → ℕ → ℕ × ℕ → ℕ → Type 0
+IsLastNear fixes point limit span place = IsLastOf (IsNear fixes point limit) span place
 
 -- the fix at a place of a list is at most so many centimetres from some point of a box
 pub record IsNearBox (fixes : List Fix) (box : Box) (limit place : ℕ) : Type 0 where
@@ -39,12 +45,8 @@ pub record IsNearBox (fixes : List Fix) (box : Box) (limit place : ℕ) : Type 0
 
 -- no fix of a span is near the box
 abbrev pub IsNoneNearBox : List Fix → Box → ℕ → ℕ × ℕ → Type 0
-IsNoneNearBox fixes box limit span =
-    (place : ℕ) → IsPlaceOf span place → ¬ IsNearBox fixes box limit place
+IsNoneNearBox fixes box limit span = IsNoneOf (IsNearBox fixes box limit) span
 
 -- a place of a span has a fix near the box, and no later place of the span has one
-pub record IsLastNearBox (fixes : List Fix) (box : Box) (limit : ℕ) (span : ℕ × ℕ) (place : ℕ)
-    : Type 0 where
-  pub within : IsPlaceOf span place
-  pub near : IsNearBox fixes box limit place
-  pub last : (later : ℕ) → place < later → later ≤ span.1 → ¬ IsNearBox fixes box limit later
+abbrev pub IsLastNearBox : List Fix → Box → ℕ → ℕ × ℕ → ℕ → Type 0
+IsLastNearBox fixes box limit span place = IsLastOf (IsNearBox fixes box limit) span place

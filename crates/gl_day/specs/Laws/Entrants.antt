@@ -4,13 +4,11 @@ use Rattle.std.specs.Prelude.{All, MatchBool, Result, Ok, Err, nat_lt}
 use Rattle.std.specs.List.{AllZip}
 use Rattle.std.proofs.lemmas.List.Elements.{All-nil}
 use Rattle.gl_airspace.specs.declared.volume.Airspace.{Airspace}
-use Rattle.gl_goal.specs.Rule.{IsGoal, Rule}
+use Rattle.gl_goal.specs.Rule.{IsGoal}
 use Rattle.gl_igc.specs.declared.error.IgcError.{IgcError}
-use Rattle.gl_igc.specs.declared.recording.Recording.{Recording}
 use Rattle.gl_igc.specs.Reading.{Reading, recording_of}
 use Rattle.gl_judge.proofs.Existence.{some_expected, some_judged}
 use Rattle.gl_judge.proofs.ExpectedGoals.{expected_goals}
-use Rattle.gl_proof.specs.declared.claim.ClaimKind.{ClaimKind}
 use Rattle.gl_proof.specs.Claim.{Statement}
 use Rattle.gl_sheet.specs.declared.row.Outcome.TheVariants.{NotLaunched, Refused}
 use Rattle.gl_task.specs.declared.task.Entrant.{Entrant}

@@ -97,6 +97,22 @@ time_most (Area minimum) flown has short =
     let upto = at_most minimum 100_000 (both (nat_le 1 minimum) (nat_le minimum 100_000) has).1 in
     omega (arith, upto)
 
+-- what counts of one who didn't finish, with a distance in centimetres
+abbrev unfinished : Entrant → Bool → ℕ → Performance
+unfinished entrant launched distance = record {
+  launched = launched;
+  finished = false;
+  metres = metres_of distance;
+  seconds = 0;
+  handicap = entrant.handicap;
+  metres_at_most = metres_most distance;
+  seconds_at_most = omega arith;
+  seconds_at_least = λ done. absurd (false≢true done);
+  handicap_at_least = entrant.handicap_at_least;
+  handicap_at_most = entrant.handicap_at_most;
+  launched_to_finish = λ done. absurd (false≢true done);
+}
+
 -- a flight that takes no longer than a day has a performance
 pub some_marked : (task : Task) (entrant : Entrant) (judged : Judged) (best : Option ℕ) → OnFinished judged (λ window seconds. seconds ≤ 100_000) → (performance : Performance) × IsMarked task entrant.handicap judged best performance
 some_marked task entrant (Finished window seconds) best short = (
@@ -115,38 +131,10 @@ some_marked task entrant (Finished window seconds) best short = (
   },
   record { launched = refl; finished = refl; metres = refl; seconds = refl; handicap_is = refl },
 )
-some_marked task entrant (Outlanded window zones) best short = (
-  record {
-    launched = true;
-    finished = false;
-    metres = metres_of (unwrap_or best 0);
-    seconds = 0;
-    handicap = entrant.handicap;
-    metres_at_most = metres_most (unwrap_or best 0);
-    seconds_at_most = omega arith;
-    seconds_at_least = λ done. absurd (false≢true done);
-    handicap_at_least = entrant.handicap_at_least;
-    handicap_at_most = entrant.handicap_at_most;
-    launched_to_finish = λ done. refl;
-  },
-  record { launched = refl; finished = refl; metres = refl; seconds = refl; handicap_is = refl },
-)
-some_marked task entrant NoStart best short = (
-  record {
-    launched = true;
-    finished = false;
-    metres = metres_of 0;
-    seconds = 0;
-    handicap = entrant.handicap;
-    metres_at_most = metres_most 0;
-    seconds_at_most = omega arith;
-    seconds_at_least = λ done. absurd (false≢true done);
-    handicap_at_least = entrant.handicap_at_least;
-    handicap_at_most = entrant.handicap_at_most;
-    launched_to_finish = λ done. refl;
-  },
-  record { launched = refl; finished = refl; metres = refl; seconds = refl; handicap_is = refl },
-)
+some_marked task entrant (Outlanded window zones) best short =
+    (unfinished entrant true (unwrap_or best 0), record { launched = refl; finished = refl; metres = refl; seconds = refl; handicap_is = refl })
+some_marked task entrant NoStart best short =
+    (unfinished entrant true 0, record { launched = refl; finished = refl; metres = refl; seconds = refl; handicap_is = refl })
 
 -- a recording that is judged has a flight with what proves the claims that are expected of it
 pub flight_of : (task : Task) (air : Airspace) (stewards : List StewardRules) (entrant : Entrant) (recording : Recording) (claims : List (ClaimKind × Rule)) (statements : List Statement) (judged : Judged) → AreExpected task air recording claims → AllZip Proves (expected_of entrant.number claims) statements → IsJudged task air recording judged → (flight : Flight) × IsJudgedFlight task air stewards entrant recording statements flight
@@ -178,19 +166,7 @@ pub some_unjudged : (task : Task) (entrant : Entrant) (launched : Bool) (outcome
 some_unjudged task entrant launched outcome = (
   record {
     outcome = outcome;
-    performance = record {
-      launched = launched;
-      finished = false;
-      metres = 0;
-      seconds = 0;
-      handicap = entrant.handicap;
-      metres_at_most = omega arith;
-      seconds_at_most = omega arith;
-      seconds_at_least = λ done. absurd (false≢true done);
-      handicap_at_least = entrant.handicap_at_least;
-      handicap_at_most = entrant.handicap_at_most;
-      launched_to_finish = λ done. absurd (false≢true done);
-    };
+    performance = unfinished entrant launched 0;
     penalty = 0;
     free = column task.free None;
     triangle = column task.triangle None;
