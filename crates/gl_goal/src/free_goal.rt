@@ -3,7 +3,7 @@ ghost use Rattle.gl_box.specs.Cell.{Covers, ends, spans_of};
 ghost use Rattle.gl_box.specs.Tuple.{places_of};
 ghost use Rattle.gl_hull.specs.Hull.{box_of};
 ghost use Rattle.gl_goal.specs.Chain.{hulls_of};
-ghost use Rattle.gl_goal.specs.Free.{five_axes, free_goal};
+ghost use Rattle.gl_goal.specs.Free.{five_axes, fixes_between, free_goal};
 ghost use Rattle.gl_goal.specs.Rule.{IsGoal, IsInTimeOrder, IsLegal, IsTuple, chosen, whole_cell};
 ghost use Rattle.gl_goal.specs.FreeGoal.{rule_of};
 ghost use Rattle.gl_goal.specs.FreeLegs.{IsLeg, most_between};
@@ -72,6 +72,22 @@ impl FreeGoal {
             last,
             loss,
         })
+    }
+
+    /// The hulls over the fixes from the first to the last.
+    pub fn hulls(&self) -> &Hulls
+        ensures { result.now
+            ≡ fixes_between self.now.fixes.items self.now.first self.now.last }
+    {
+        &self.hulls
+    }
+
+    /// The greatest loss of altitude, in metres.
+    pub fn loss(&self) -> i32
+        ensures value { result ≡ self.now.loss }
+        ensures from_zero { pos 0 ≤ℤ result }
+    {
+        self.loss
     }
 
     /// The fix with a number.

@@ -21,7 +21,7 @@ use crate::reach::reaches;
 use crate::round::Round;
 use crate::triangle::TriangleGoal;
 use gl_box::{Cell, Tuple};
-use gl_hull::Hull;
+use gl_hull::{Hull, Hulls};
 use gl_igc::Fix;
 use gl_sphere::Vec3;
 use std::alloc::{AllocError, Global};
@@ -114,6 +114,14 @@ impl TriangleGoal {
         })
     }
 
+    /// The hulls over the fixes from the first to the last.
+    pub fn hulls(&self) -> &Hulls
+        ensures { result.now
+            ≡ fixes_between self.now.lists.fixes self.now.first self.now.last }
+    {
+        self.lists.hulls(0)
+    }
+
     /// How far the flight reaches from a fix: the number of the last fix that is near enough to one
     /// at this fix or before.
     pub fn reach(&self, fix: u32) -> u32
@@ -128,7 +136,7 @@ impl TriangleGoal {
 
     /// Whether the flight closes past two places of its fixes.
     #[inline]
-    fn closes(&self, first: u32, third: u32) -> bool
+    pub fn closes(&self, first: u32, third: u32) -> bool
         requires { first ≤ self.now.last - self.now.first }
         ensures { result ≡ closes
             (fixes_between self.now.lists.fixes self.now.first self.now.last)
