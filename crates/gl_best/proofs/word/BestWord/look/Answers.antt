@@ -1,0 +1,22 @@
+use Rattle.std.proofs.Common.{◌<◌, ℕ, List, length, refl, sym, ap, ◌∙◌, subst, arith}
+use Rattle.atomic_table.specs.Table.{keeps}
+use Rattle.gl_best.specs.declared.rule.View.{View}
+use Rattle.gl_best.proofs.Moves.{looks}
+use Rattle.gl_best.proofs.word.BestWord.look.Goals as goal
+
+pub load-requires : goal.load-requires
+load-requires c = (
+  c.requires.seat,
+  omega (arith, c.args.self.now.one_word),
+  λ state kept homes at below.
+      let it = looks state.words state.views c.args.seat.now.seat.id c.args.seat.now.seat.me.0 c.args.seat.now.some_number kept at in
+      (it.0, keeps, tt, it.1, (it.2, refl)),
+)
+
+pub invariant_of-seat : goal.invariant_of-seat
+invariant_of-seat c =
+    let it = c.load.ensures.2 in
+    record {
+      some_number = subst (λ (numbers : List ℕ). 0 < length numbers) (sym (ap (λ (view : View). view.numbers) it.0.1)) c.args.seat.now.some_number;
+      holds_no_slot = it.1 ∙ c.args.seat.now.holds_no_slot;
+    }
