@@ -1,5 +1,6 @@
 pub mod Arcs
 pub mod Chords
+pub mod Estimates
 pub mod LongDivision
 pub mod Negated
 pub mod Roots

@@ -5,6 +5,7 @@ pub mod Place
 pub mod PlaceText
 pub mod Product
 pub mod Range
+pub mod Series
 pub mod Sine
 pub mod Sphere
 pub use Rattle.gl_text.specs.Digits

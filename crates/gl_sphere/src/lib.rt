@@ -9,6 +9,8 @@ mod place;
 mod place_text;
 mod projection;
 mod quotient;
+mod series;
+mod series_steps;
 mod sine;
 mod sphere;
 mod square_root;

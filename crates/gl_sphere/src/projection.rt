@@ -5,7 +5,8 @@ ghost use Rattle.gl_sphere.specs.Range.{IsWithin};
 
 use crate::place::{Grid, Vec3};
 use crate::quotient::quotient;
-use crate::sine::{over_unit, wcos, wsin};
+use crate::series_steps::over_unit;
+use crate::sine::{complement, four_sines, wcos, wsin};
 use crate::sphere::{RADIUS, UNIT};
 
 /// The point of a place.
@@ -14,11 +15,11 @@ pub fn vector(g: Grid) -> Vec3
 {
     let lat = g.lat as i64;
     let lon = g.lon as i64;
-    let from_axis = wcos(lat);
+    let (height, from_axis, east, across) = four_sines(lat, complement(lat), lon, complement(lon));
     Vec3 {
-        x: scale(mul(from_axis, wcos(lon))),
-        y: scale(mul(from_axis, wsin(lon))),
-        z: scale(wsin(lat)),
+        x: scale(mul(from_axis, across)),
+        y: scale(mul(from_axis, east)),
+        z: scale(height),
     }
 }
 

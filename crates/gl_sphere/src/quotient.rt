@@ -1,4 +1,4 @@
-ghost use Rattle.std.specs.Prelude.{◌≡◌, ◌*◌, ◌/◌, ◌^◌, ◌<◌, ◌≤◌};
+ghost use Rattle.std.specs.Prelude.{◌≡◌, ◌+◌, ◌*◌, ◌/◌, ◌^◌, ◌<◌, ◌≤◌};
 
 /// The quotient of `n` over the product of the two divisors, rounded down.
 ///
@@ -20,19 +20,18 @@ pub fn quotient(n: u128, first: u64, second: u64) -> u64
 
 /// The quotient of `n` over `by`, rounded down, where `inverse` is 2^117 over `by`, rounded down.
 ///
-/// The estimate by the inverse is then at most one below the quotient. Only speed rests on that.
+/// The estimate by the inverse is at most one below the quotient, so that no branch is needed.
 #[inline(always)]
 pub fn quotient_by_inverse(n: u128, by: u64, inverse: u64) -> u64
-    requires positive { 0 < by }
-    requires fits { n < by * 2 ^ 64 }
-    requires in_range { n < 2 ^ 117 }
+    requires least { 9_700_000_000_000_000 ≤ by }
+    requires most { by < 2 ^ 63 }
+    requires below { inverse * by ≤ 2 ^ 117 }
+    requires above { 2 ^ 117 < inverse * by + by }
+    requires in_range { n < 2 ^ 113 }
     ensures { result ≡ n / by }
 {
     let head = (n >> 53) as u64;
     let guess = ((head as u128 * inverse as u128) >> 64) as u64;
-    match n.checked_sub(guess as u128 * by as u128) {
-        Some(rest) if rest < by as u128 => guess,
-        Some(rest) if rest - (by as u128) < by as u128 => guess + 1,
-        _ => (n / by as u128) as u64,
-    }
+    let rest = (n - guess as u128 * by as u128) as u64;
+    guess + u64::from(rest >= by)
 }

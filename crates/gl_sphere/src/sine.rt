@@ -1,26 +1,33 @@
-ghost use Rattle.std.specs.Prelude.{◌≡◌, ◌+◌, ◌*◌, ◌/◌, ◌^◌, ◌<◌, ◌≤◌, pos};
+ghost use Rattle.std.specs.Prelude.{◌≡◌, ◌≤◌, pos, unsigned_abs};
 ghost use Rattle.gl_sphere.specs.Range.{IsWithin};
-ghost use Rattle.gl_sphere.specs.Sine.{quarter_sine, half_turn_sine, written_sine, written_cosine};
+ghost use Rattle.gl_sphere.specs.Sine.{half_turn_sine, written_sine, written_cosine};
 
-use crate::quotient::{quotient, quotient_by_inverse};
-use crate::sphere::{HALF_TURN, PI, QUARTER_TURN, UNIT};
+use crate::series::Series;
+use crate::series_steps::PAIRS;
+use crate::sphere::{HALF_TURN, QUARTER_TURN, UNIT};
 
-/// Entry k is 2^117 over `UNIT` times (2k + 2)·(2k + 3), rounded down.
-static INVERSES: [u64; 10] = [
-    2_769_224_991_218_574_735,
-    830_767_497_365_572_420,
-    395_603_570_174_082_105,
-    230_768_749_268_214_561,
-    151_048_635_884_649_531,
-    106_508_653_508_406_720,
-    79_120_714_034_816_421,
-    61_085_845_394_527_383,
-    48_582_894_582_782_012,
-    39_560_357_017_408_210,
-];
+/// The sine of an angle of either sign, by that of the angle without its sign.
+#[inline(always)]
+fn with_sign(n: i64, size: u64) -> i64
+    requires size { pos size ≡ half_turn_sine (unsigned_abs n) }
+    requires in_range { size ≤ UNIT }
+    ensures value { result ≡ written_sine n }
+    ensures bound { IsWithin UNIT result }
+{
+    let sine = size as i64;
+    if n < 0 { -sine } else { sine }
+}
 
-/// 2^117 over `UNIT`, rounded down.
-const INVERSE_UNIT: u64 = 16_615_349_947_311_448_411;
+/// The angle whose sine is the cosine of another: what that one, without its sign, has left to 90
+/// degrees.
+#[inline(always)]
+pub fn complement(n: i64) -> i64
+    requires { IsWithin HALF_TURN n }
+    ensures value { written_sine result ≡ written_cosine n }
+    ensures bound { IsWithin HALF_TURN result }
+{
+    QUARTER_TURN as i64 - n.unsigned_abs() as i64
+}
 
 /// The written sine of an angle in 1/100,000 minute, where `UNIT` is one.
 pub fn wsin(n: i64) -> i64
@@ -28,8 +35,11 @@ pub fn wsin(n: i64) -> i64
     ensures value { result ≡ written_sine n }
     ensures bound { IsWithin UNIT result }
 {
-    let sine = first_half(n.unsigned_abs()) as i64;
-    if n < 0 { -sine } else { sine }
+    let mut series = Series::of(n);
+    for pair in 0..PAIRS {
+        series = series.with_pair(pair);
+    }
+    with_sign(n, series.sine())
 }
 
 /// The written cosine of an angle in 1/100,000 minute, where `UNIT` is one.
@@ -38,58 +48,35 @@ pub fn wcos(n: i64) -> i64
     ensures value { result ≡ written_cosine n }
     ensures bound { IsWithin UNIT result }
 {
-    wsin(QUARTER_TURN as i64 - n.unsigned_abs() as i64)
+    wsin(complement(n))
 }
 
-/// The sine of an angle from 0 to 180 degrees.
-fn first_half(n: u64) -> u64
-    requires { n ≤ HALF_TURN }
-    ensures value { pos result ≡ half_turn_sine n }
-    ensures bound { result ≤ UNIT }
+/// The written sines of four angles, term by term side by side: a processor works on several series
+/// at once, where one alone has it wait for each term.
+pub fn four_sines(a: i64, b: i64, c: i64, d: i64) -> (i64, i64, i64, i64)
+    requires a { IsWithin HALF_TURN a }
+    requires b { IsWithin HALF_TURN b }
+    requires c { IsWithin HALF_TURN c }
+    requires d { IsWithin HALF_TURN d }
+    ensures first { (result.0 ≡ written_sine a) × IsWithin UNIT result.0 }
+    ensures second { (result.1 ≡ written_sine b) × IsWithin UNIT result.1 }
+    ensures third { (result.2 ≡ written_sine c) × IsWithin UNIT result.2 }
+    ensures fourth { (result.3 ≡ written_sine d) × IsWithin UNIT result.3 }
 {
-    if n <= QUARTER_TURN {
-        first_quarter(n)
-    } else {
-        first_quarter(HALF_TURN - n)
+    let mut first = Series::of(a);
+    let mut second = Series::of(b);
+    let mut third = Series::of(c);
+    let mut fourth = Series::of(d);
+    for pair in 0..PAIRS {
+        first = first.with_pair(pair);
+        second = second.with_pair(pair);
+        third = third.with_pair(pair);
+        fourth = fourth.with_pair(pair);
     }
-}
-
-/// The sine of an angle from 0 to 90 degrees: eleven terms of its series, the first of them and
-/// then two a turn.
-fn first_quarter(n: u64) -> u64
-    requires { n ≤ QUARTER_TURN }
-    ensures value { pos result ≡ quarter_sine n }
-    ensures bound { result ≤ UNIT }
-{
-    let x = quotient(n as u128 * PI as u128, HALF_TURN, 1);
-    let square = over_unit(x, x);
-    let mut term = x;
-    let mut sum = x;
-    for pair in 0..5u64 {
-        let odd = next_term(term, square, 2 * pair);
-        term = next_term(odd, square, 2 * pair + 1);
-        sum = sum - odd + term;
-    }
-    sum.min(UNIT)
-}
-
-/// The term of the series after term k, where `square` is the square of the angle.
-fn next_term(term: u64, square: u64, k: u64) -> u64
-    requires term_in_range { term ≤ 2 * UNIT }
-    requires square_in_range { square ≤ 3 * UNIT }
-    requires k_in_range { k < 10 }
-    ensures value { result ≡ term * square / UNIT / ((2 * k + 2) * (2 * k + 3)) }
-    ensures bound { result ≤ term }
-{
-    let divisor = UNIT * ((2 * k + 2) * (2 * k + 3));
-    quotient_by_inverse(term as u128 * square as u128, divisor, INVERSES[k as usize])
-}
-
-/// The product of two numbers over `UNIT`, rounded down.
-pub fn over_unit(a: u64, b: u64) -> u64
-    requires a_in_range { a ≤ 2 * UNIT }
-    requires b_in_range { b ≤ 3 * UNIT }
-    ensures { result ≡ a * b / UNIT }
-{
-    quotient_by_inverse(a as u128 * b as u128, UNIT, INVERSE_UNIT)
+    (
+        with_sign(a, first.sine()),
+        with_sign(b, second.sine()),
+        with_sign(c, third.sine()),
+        with_sign(d, fourth.sine()),
+    )
 }

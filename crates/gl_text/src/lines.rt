@@ -1,6 +1,8 @@
 ghost use Rattle.std.specs.Prelude.{◌≡◌, ◌≢◌, ◌↔◌, ℕ, ◌<◌, ◌≤◌, [], ◌∷◌, length, drop, slice_index, slice_range, IsNone, IfNone, IfSome};
 ghost use Rattle.gl_text.specs.Lines.{lines_of, LineEnds};
 
+use memchr::memchr;
+
 /// The byte that ends a line.
 const LINE_FEED: u8 = b'\n';
 
@@ -27,7 +29,7 @@ fn line_end(text: &[u8], at: usize) -> usize
     ensures inside { (k : ℕ) → at ≤ k → k < result → slice_index text.now k ≢ LINE_FEED }
     ensures ended { result < length text.now → slice_index text.now result ≡ LINE_FEED }
 {
-    match text[at..].iter().position(|&byte| byte == LINE_FEED) {
+    match memchr(LINE_FEED, &text[at..]) {
         Some(offset) => at + offset,
         None => text.len(),
     }
