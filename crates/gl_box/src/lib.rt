@@ -7,8 +7,6 @@ mod closed;
 mod halves;
 mod holding;
 mod span;
-#[cfg(test)]
-mod tests;
 mod tuple;
 
 pub use cell::Cell;

@@ -10,6 +10,3 @@ mod walk;
 
 pub use check::check_claim;
 pub use verdict::Verdict;
-
-#[cfg(test)]
-mod tests;

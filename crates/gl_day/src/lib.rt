@@ -19,6 +19,3 @@ pub use finish::finish_flight;
 pub use flight::{Flight, MOST_BYTES, Seen, absent_flight, large_flight, read_flight};
 pub use frame::{end_line, heading_line};
 pub use totals::Totals;
-
-#[cfg(test)]
-mod tests;

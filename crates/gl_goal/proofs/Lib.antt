@@ -3,7 +3,6 @@ mod FreeSeen
 mod Triangles
 pub mod Closing
 pub mod Fives
-pub mod FreeExamples
 pub mod FreeHulls
 pub mod FreeLosses
 pub mod Listed

@@ -256,6 +256,3 @@ impl Goal for FreeGoal {
         first + second + third + fourth
     }
 }
-
-#[cfg(test)]
-mod tests;

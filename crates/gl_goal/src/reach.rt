@@ -82,6 +82,3 @@ fn reach_from(hulls: &Hulls, closing: u64, place: u32, before: Option<u32>, end:
         .last_near(beyond, hulls.fix(place).at, closing)
         .unwrap_or(least)
 }
-
-#[cfg(test)]
-mod tests;

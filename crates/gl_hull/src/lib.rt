@@ -10,8 +10,6 @@ mod hull;
 mod hulls;
 mod near;
 mod table;
-#[cfg(test)]
-mod tests;
 
 pub use chords::{max_sq, min_sq};
 pub use hull::Hull;

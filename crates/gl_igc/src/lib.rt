@@ -31,6 +31,3 @@ pub use fix::Fix;
 pub use items::Items;
 pub use reader::read_igc;
 pub use recording::{Declared, Recording};
-
-#[cfg(test)]
-mod tests;

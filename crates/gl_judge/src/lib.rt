@@ -24,6 +24,3 @@ pub use judged_fixes::judged_range;
 pub use judging::judge;
 pub use marking::mark;
 pub use outcome::{Judged, Window};
-
-#[cfg(test)]
-mod tests;

@@ -9,8 +9,6 @@ mod passes;
 mod performance;
 mod points;
 mod summary;
-#[cfg(test)]
-mod tests;
 
 pub use figures::day;
 pub use frac::Frac;

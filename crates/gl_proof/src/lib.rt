@@ -17,6 +17,3 @@ pub use error::ProofError;
 pub use proof::Proof;
 pub use read::read_proof;
 pub use write::{write_boxes, write_claim, write_front};
-
-#[cfg(test)]
-mod tests;

@@ -5,8 +5,6 @@ mod columns;
 pub mod laws;
 mod line;
 mod row;
-#[cfg(test)]
-mod tests;
 mod text;
 
 pub use row::{Listed, Outcome, Row};

@@ -14,8 +14,6 @@ mod series_steps;
 mod sine;
 mod sphere;
 mod square_root;
-#[cfg(test)]
-mod tests;
 
 pub use distance::{dist, sq};
 pub use place::{Grid, Vec3};

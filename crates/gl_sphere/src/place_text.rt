@@ -113,6 +113,3 @@ pub fn read_place(text: &[u8]) -> Option<Grid>
     let lon = read_longitude(&text[8..], 0)?;
     Some(Grid { lat, lon })
 }
-
-#[cfg(test)]
-mod tests;

@@ -6,8 +6,6 @@ mod engine_noise;
 mod height;
 mod penalty;
 mod steward;
-#[cfg(test)]
-mod tests;
 
 pub use ceiling::Ceiling;
 pub use engine_noise::EngineNoise;

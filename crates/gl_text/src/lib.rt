@@ -8,6 +8,3 @@ mod numbers;
 pub use digits::read_digits;
 pub use lines::{LineAt, next_line};
 pub use numbers::{push_fixed, push_u64, read_u64};
-
-#[cfg(test)]
-mod tests;

@@ -8,8 +8,6 @@ mod direction;
 mod line;
 mod product;
 mod sides;
-#[cfg(test)]
-mod tests;
 mod way;
 mod zone;
 

@@ -1,0 +1,161 @@
+// The expected values were computed by a program of exact whole numbers in another language,
+// written from the formulas alone.
+ghost use Rattle.std.specs.Prelude.{◌≡◌};
+ghost use Rattle.gl_sphere.specs.Range.{IsWithin};
+ghost use Rattle.gl_sphere.specs.Sphere.{half_turn, pi, quarter_turn, radius, unit};
+
+use gl_sphere::{
+    Grid, HALF_TURN, PI, QUARTER_TURN, RADIUS, UNIT, Vec3, dist, east, north, root, sq, vector,
+    wcos, wsin,
+};
+
+/// The origin of the places: latitude 0 and longitude 0.
+const ORIGIN: Vec3 = Vec3 {
+    x: 637_100_000,
+    y: 0,
+    z: 0,
+};
+
+/// The place at these angles.
+fn place(lat: i32, lon: i32) -> Grid
+    requires lat_in_range { IsWithin quarter_turn lat }
+    requires lon_in_range { IsWithin half_turn lon }
+{
+    Grid { lat, lon }
+}
+
+/// The point with these components.
+fn point(x: i32, y: i32, z: i32) -> Vec3
+    requires x_in_range { IsWithin radius x }
+    requires y_in_range { IsWithin radius y }
+    requires z_in_range { IsWithin radius z }
+{
+    Vec3 { x, y, z }
+}
+
+/// Takes what threads may share.
+fn share<T: Send + Sync>(_value: &T) {}
+
+#[test]
+fn threads_may_share_places_and_points() {
+    share(&Grid { lat: 0, lon: 0 });
+    share(&ORIGIN);
+}
+
+/// The constants are the numbers of the definitions.
+fn constants()
+    ensures radius { RADIUS ≡ radius }
+    ensures unit { UNIT ≡ unit }
+    ensures pi { PI ≡ pi }
+    ensures quarter_turn { QUARTER_TURN ≡ quarter_turn }
+    ensures half_turn { HALF_TURN ≡ half_turn }
+{}
+
+#[test]
+fn sines_and_cosines(rt: HostRuntime) {
+    assert_eq!(rt; wsin(0), 0);
+    assert_eq!(rt; wsin(1), 29_088_820);
+    assert_eq!(rt; wsin(180_000_000), 5_000_000_000_000_000);
+    assert_eq!(rt; wsin(270_000_000), 7_071_067_811_865_476);
+    assert_eq!(rt; wsin(540_000_000), 10_000_000_000_000_000);
+    assert_eq!(rt; wsin(1_080_000_000), 0);
+    assert_eq!(rt; wsin(-987_654_321), -2_654_037_741_950_524);
+    assert_eq!(rt; wcos(540_000_001), -29_088_820);
+    assert_eq!(rt; wcos(-360_000_000), 5_000_000_000_000_000);
+    assert_eq!(rt; wcos(123_456_789), 9_362_060_260_823_172);
+    assert_eq!(rt; wcos(-987_654_321), -9_641_373_536_187_786);
+}
+
+#[test]
+fn points_on_the_axes(rt: HostRuntime) {
+    let cases = [
+        (place(0, 0), ORIGIN),
+        (place(0, 540_000_000), point(0, 637_100_000, 0)),
+        (place(180_000_000, 0), point(551_744_785, 0, 318_550_000)),
+        (place(0, -6_000_000), point(637_002_967, -11_118_928, 0)),
+        (place(0, -1_080_000_000), point(-637_100_000, 0, 0)),
+    ];
+    for (grid, expected) in cases {
+        assert_eq!(rt; vector(grid), expected);
+    }
+}
+
+#[test]
+fn points_between_the_axes(rt: HostRuntime) {
+    let north_east = point(387_390_461, 58_166_151, 502_435_807);
+    assert_eq!(rt; vector(place(312_345_678, 51_234_567)), north_east);
+    let south_west = point(-437_337_292, -87_195_905, -455_004_810);
+    assert_eq!(rt; vector(place(-273_456_789, -1_012_345_678)), south_west);
+    assert_eq!(rt; sq(north_east, south_west), 1_617_998_528_974_316_834);
+    assert_eq!(rt; sq(ORIGIN, north_east), 318_179_895_145_488_571);
+    let past_west = point(-1, -409_519_988, 488_046_914);
+    assert_eq!(rt; vector(place(299_999_999, -540_000_001)), past_west);
+}
+
+#[test]
+fn directions(rt: HostRuntime) {
+    let cases = [
+        (
+            place(312_345_678, 51_234_567),
+            point(-496_866_195, -74_603_784, 391_732_906),
+            point(-94_599_290, 630_037_605, 0),
+        ),
+        (
+            place(-273_456_789, -1_012_345_678),
+            point(-446_222_127, -88_967_355, 445_945_101),
+            point(124_572_533, -624_802_444, 0),
+        ),
+        (
+            place(540_000_000, -540_000_000),
+            point(0, 637_100_000, 0),
+            point(637_100_000, 0, 0),
+        ),
+    ];
+    for (grid, to_north, to_east) in cases {
+        assert_eq!(rt; north(grid), to_north);
+        assert_eq!(rt; east(grid), to_east);
+    }
+}
+
+/// The roots of squares, of the numbers beside them and of those halfway to the next, as far as chords
+/// of the sphere reach.
+#[test]
+fn roots_about_squares(rt: HostRuntime) {
+    for k in 1..2_048u64 {
+        let r = 1_048_575 * k + k * k / 64;
+        let square = r * r;
+        assert_eq!(rt; root(square), r);
+        assert_eq!(rt; root(square - 1), r - 1);
+        assert_eq!(rt; root(square + r), r);
+        assert_eq!(rt; root(square + 2 * r), r);
+    }
+}
+
+#[test]
+fn roots(rt: HostRuntime) {
+    assert_eq!(rt; root(0), 0);
+    assert_eq!(rt; root(3), 1);
+    assert_eq!(rt; root(4), 2);
+    assert_eq!(rt; root(15_241_578_750_190_520), 123_456_788);
+    assert_eq!(rt; root(15_241_578_750_190_521), 123_456_789);
+    assert_eq!(rt; root(4_611_686_018_427_387_903), 2_147_483_647);
+    assert_eq!(rt; root(18_446_744_065_119_617_024), 4_294_967_294);
+    assert_eq!(rt; root(18_446_744_065_119_617_025), 4_294_967_295);
+    assert_eq!(rt; root(18_446_744_073_709_551_615), 4_294_967_295);
+}
+
+#[test]
+fn distances(rt: HostRuntime) {
+    assert_eq!(rt; dist(0), 0);
+    assert_eq!(rt; dist(3), 1);
+    assert_eq!(rt; dist(123_639_975_272_273), 11_119_492);
+    assert_eq!(rt; dist(247_261_119_738_368), 15_724_937);
+    assert_eq!(rt; dist(1_023_999_999_999_999), 32_003_362);
+    assert_eq!(rt; dist(1_024_000_000_000_000), 32_003_363);
+    assert_eq!(rt; dist(1_043_241_098_373_049), 32_302_703);
+    assert_eq!(rt; dist(9_801_000_000_000_000), 99_099_874);
+    assert_eq!(rt; dist(9_882_695_242_768_516), 99_512_875);
+    assert_eq!(rt; dist(318_179_895_145_488_571), 584_312_618);
+    assert_eq!(rt; dist(1_623_585_640_000_000_000), 1_639_015_592);
+    assert_eq!(rt; dist(4_870_756_920_000_000_000), 7_460_377_693);
+}

@@ -1,0 +1,115 @@
+// The expected answers were computed by hand, or by a program in another language that is written
+// from the rules alone and tries every start, every visit and every finish.
+mod marks;
+mod small_flights;
+mod worked_flights;
+
+use gl_airspace::{Airspace, read_openair};
+use gl_igc::{Recording, read_igc};
+use gl_judge::{Judged, judge};
+use gl_task::{Task, read_task};
+use std::alloc::{AllocError, Global};
+use std::process::Abort;
+use std::test::Fail;
+
+/// The day of all tasks, 2024-07-01.
+const DAY: i32 = 19_905;
+
+/// The entrant of all tasks.
+const ENTRANT: &str =
+    "[[entrant]]\nnumber = \"AA\"\nname = \"Ann\"\nhandicap = 1000\nfile = \"AA.IGC\"\n";
+
+/// A place, as recordings write it.
+fn place(letter: &str) -> &'static str {
+    match letter {
+        // On the equator: one minute west and east of longitude 0, and on it.
+        "W" => "0000000N00001000W",
+        "E" => "0000000N00001000E",
+        "o" => "0000000N00000000E",
+        // In the first zone of the small tasks, in it and the second, and so on.
+        "a" => "0000000N00010000E",
+        "x" => "0000000N00011000E",
+        "b" => "0000000N00012000E",
+        "y" => "0000000N00013000E",
+        // In the third zone before the gate and behind it, and behind both.
+        "c" => "0000000N00014000E",
+        "g" => "0000000N00015500E",
+        "f" => "0000000N00016000E",
+        // In the airspace of the small tasks.
+        "v" => "0005000N00005000E",
+        // One degree east, and one degree north.
+        "e" => "0000000N00100000E",
+        _ => "0100000N00000000E",
+    }
+}
+
+/// The recording of a flight: its day, DDMMYY, and for each fix its time and the letter of its
+/// place.
+fn recording(alloc: Global, flight: &str) -> Result<Recording, Fail> {
+    let (day, fixes) = flight.split_once(' ').ok_or("no day")?;
+    let mut text = format!(in alloc; "AXXXABC\nHFDTE{day}\n")?;
+    for fix in fixes.split_whitespace() {
+        let (time, letter) = fix.split_once('-').ok_or("no place")?;
+        let at = place(letter);
+        let line = format!(in alloc; "B{time}{at}A0100001000\n")?;
+        text.push_str(line.as_str())?;
+    }
+    Ok(read_igc(alloc, text.as_bytes(), Some(DAY))?)
+}
+
+/// How a flight is judged, in words: the first fix, the last fix and the start of its window, and
+/// its seconds or its zones.
+fn told(alloc: Global, judged: Judged) -> Result<String, AllocError> {
+    match judged {
+        Judged::Finished { window, seconds } => format!(in alloc;
+            "finished {} {} {} {seconds}",
+            window.first, window.last, window.start
+        ),
+        Judged::Outlanded { window, zones } => format!(in alloc;
+            "outlanded {} {} {} {zones}",
+            window.first, window.last, window.start
+        ),
+        Judged::NoStart => format!(in alloc; "no start"),
+    }
+}
+
+/// Judges a flight and compares the answer with what it has to be.
+fn compare_row(
+    rt: &impl Abort,
+    alloc: Global,
+    task: &Task,
+    air: &Airspace,
+    flight: &str,
+    expected: &str,
+) -> Result<(), Fail> {
+    let rec = recording(alloc, flight)?;
+    let answer = told(alloc, judge(task, air, &rec))?;
+    assert_eq!(rt; answer.as_str(), expected, "{flight}");
+    Ok(())
+}
+
+/// Judges each flight of a table.
+fn compare(
+    rt: &impl Abort,
+    alloc: Global,
+    task: &Task,
+    air: &Airspace,
+    table: &str,
+) -> Result<(), Fail> {
+    for row in table.lines() {
+        let (flight, expected) = row.split_once(": ").ok_or("no answer")?;
+        compare_row(rt, alloc, task, air, flight, expected)?;
+    }
+    Ok(())
+}
+
+/// A task with this text and one entrant.
+fn task(alloc: Global, text: &str) -> Result<Task, Fail> {
+    let text = format!(in alloc; "date = \"2024-07-01\"\n{text}{ENTRANT}")?;
+    Ok(read_task(alloc, text.as_bytes())?)
+}
+
+/// The airspace of this text.
+fn airspace(alloc: Global, text: &str) -> Result<Airspace, Fail> {
+    Ok(read_openair(alloc, text.as_bytes())?)
+}

@@ -1,0 +1,160 @@
+use gl_box::{Cell, Closed, Tuple, Why};
+use gl_desk::Name;
+use gl_proof::*;
+use std::alloc::Global;
+use std::test::Fail;
+
+/// A proof of one claim.
+const PROOF: &[u8] = b"GLIDEPROOF 1\nCLAIM CC OUT 11119492\nFIX 2\nBOX B 0-0\nEND\n";
+
+/// Bytes to put into the place of one.
+const BYTES: &[u8] = b"\n\r -019BDNz\xff";
+
+/// What an independent reader tells of the proof where a byte of it is changed to each of these,
+/// byte by byte: `h` of the heading, a digit of the line, `c` of the end, a point of a proof.
+const TOLD: &[u8] = b"\
+    hhhhhhhhhhhhhhhhhhhhhhhhhhhhhhhhhhhhhhhhhhhh.hhhhhhhhhhhhhhh\
+    hhhhhhhhhhhhhhhhhhhhhhhhhhhhhhhhhhhhhhhhhhhhhhhhhhhhhhhhhhhh\
+    hh.hhhhhhhhhhhhhh.hhhhhh.hhhhhhhhhhh222222222222222222222222\
+    22222222222222222222222222222222222222.2222222222222.......2\
+    2222.......222.222222222222222222222222222222222222222222222\
+    22.22222222222222..222223222...222223222...222223222...22222\
+    3222...222223222...222223222...222223222...22222.22222222222\
+    33333333333333333333333333333333333333.3333333333333...33333\
+    .333333333334444444.444444444444444444444444444444.444444444\
+    4444444..44444.4444444444444.4444444444.444444444444...44444\
+    .44444444444555555555555555555555.5555555555.555.ccccccccccc";
+
+/// How many claims a text has, or why it is no proof.
+fn claims_in(alloc: Global, text: &[u8]) -> Result<usize, ProofError> {
+    match read_proof(alloc, text) {
+        Ok(proof) => Ok(proof.claims.len()),
+        Err(error) => Err(error),
+    }
+}
+
+/// The text of a proof with these lines between its heading and its end.
+fn proof_of(alloc: Global, lines: &[u8]) -> Result<Vec<u8>, Fail> {
+    let mut text = b"GLIDEPROOF 1\n".to_vec(alloc)?;
+    text.extend_from_slice(lines)?;
+    text.extend_from_slice(b"END\n")?;
+    Ok(text)
+}
+
+#[test]
+fn a_first_part_of_a_proof_is_none(rt: HostRuntime) {
+    for length in 0..PROOF.len() {
+        let error = if length < 13 {
+            ProofError::Heading
+        } else {
+            ProofError::Cut
+        };
+        assert_eq!(rt;
+            claims_in(rt.alloc(), &PROOF[..length]),
+            Err(error),
+            "at {length}"
+        );
+    }
+}
+
+#[test]
+fn a_changed_byte_is_told(rt: HostRuntime) -> Result<(), Fail> {
+    for (place, row) in TOLD.chunks(BYTES.len()).enumerate() {
+        for (&byte, &told) in BYTES.iter().zip(row) {
+            let mut text = PROOF.to_vec(rt.alloc())?;
+            assert!(rt; place < text.len());
+            text[place] = byte;
+            let expected = match told {
+                b'.' => Ok(1),
+                b'c' => Err(ProofError::Cut),
+                b'h' => Err(ProofError::Heading),
+                digit => Err(ProofError::Line(u32::from(digit.saturating_sub(b'0')))),
+            };
+            let answer = claims_in(rt.alloc(), text.as_slice());
+            assert_eq!(rt; answer, expected, "{byte} at {place}");
+        }
+    }
+    Ok(())
+}
+
+#[test]
+fn lines_that_may_stand(rt: HostRuntime) -> Result<(), Fail> {
+    let cases = [
+        (b"".as_slice(), 0),
+        (b"CLAIM a FREE NONE\n", 1),
+        (
+            b"CLAIM 12345678 TRIANGLE 0\nFIX 4294967295\nCLAIM Zz AREA NONE\n",
+            2,
+        ),
+        (
+            b"CLAIM a OUT 18446744073709551615\nFIX 1 2 3 4 5 6 7 8 9 10\n",
+            1,
+        ),
+        (b"CLAIM a OUT NONE\nBOX D 0-4294967295\nBOX S 7-7 0-0\n", 1),
+        (
+            b"CLAIM a OUT NONE\nBOX B 0-0 0-0 0-0 0-0 0-0 0-0 0-0 0-0 0-0 0-0\n",
+            1,
+        ),
+    ];
+    for (lines, claims) in cases {
+        let text = proof_of(rt.alloc(), lines)?;
+        assert_eq!(rt; claims_in(rt.alloc(), text.as_slice()), Ok(claims));
+    }
+    Ok(())
+}
+
+#[test]
+fn lines_that_may_not_stand(rt: HostRuntime) -> Result<(), Fail> {
+    let cases = [
+        (b"BOX B 0-0\n".as_slice(), 2),
+        (b"FIX 1\n", 2),
+        (b"CLAIM 123456789 FREE NONE\n", 2),
+        (b"CLAIM a FREE 18446744073709551616\nFIX 1\n", 2),
+        (b"CLAIM a FREE 011119492\nFIX 1\n", 2),
+        (b"CLAIM  a FREE NONE\n", 2),
+        (b"CLAIM a FREE NONE \n", 2),
+        (b"CLAIM a FREE NONE\r\n", 2),
+        (b"CLAIM a FREE 1\n", 3),
+        (b"CLAIM a FREE NONE\nFIX 1\n", 3),
+        (b"CLAIM a FREE 1\nFIX 4294967296\n", 3),
+        (b"CLAIM a FREE 1\nFIX\n", 3),
+        (b"CLAIM a FREE 1\nFIX 1 2 3 4 5 6 7 8 9 10 11\n", 3),
+        (b"CLAIM a FREE 1\nFIX 1\nFIX 1\n", 4),
+        (b"CLAIM a FREE NONE\nBOX B 0-4294967296\n", 3),
+        (b"CLAIM a FREE NONE\nBOX B 1-0\n", 3),
+        (
+            b"CLAIM a FREE NONE\nBOX B 0-0\nBOX B 0-0 0-0 0-0 0-0 0-0 0-0 0-0 0-0 0-0 0-0 0-0\n",
+            4,
+        ),
+        (b"END\nEND\n", 3),
+        (b"END\n\n", 3),
+    ];
+    for (lines, line) in cases {
+        let text = proof_of(rt.alloc(), lines)?;
+        assert_eq!(rt;
+            claims_in(rt.alloc(), text.as_slice()),
+            Err(ProofError::Line(line))
+        );
+    }
+    Ok(())
+}
+
+#[test]
+fn a_claim_is_written(rt: HostRuntime) -> Result<(), Fail> {
+    let claim = Claim {
+        number: Name::from_text(rt.alloc(), "CC")?,
+        kind: ClaimKind::Out,
+        total: Some(11_119_492),
+        fixes: [2].to_vec(rt.alloc())?,
+        cells: [Closed {
+            cell: Cell::point(&Tuple::first(1)),
+            why: Why::Bound,
+        }]
+        .to_vec(rt.alloc())?,
+    };
+    let mut text = b"GLIDEPROOF 1\n".to_vec(rt.alloc())?;
+    write_claim(&mut text, &claim)?;
+    text.extend_from_slice(b"END\n")?;
+    assert_eq!(rt; text.as_slice(), PROOF);
+    Ok(())
+}
