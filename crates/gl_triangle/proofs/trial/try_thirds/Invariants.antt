@@ -1,0 +1,7 @@
+use Rattle.std.specs.Prelude.{IfSome}
+use Rattle.gl_triangle.specs.Node.{fixes_of}
+use Rattle.gl_triangle.specs.Places.{AreAmong}
+use Rattle.gl_triangle.proofs.trial.try_thirds.Given as goal
+
+abbrev pub invariant-loop-place : goal.invariant-loop-place
+invariant-loop-place l = IfSome l.chosen (λ it. AreAmong (fixes_of l.goal) it.places)

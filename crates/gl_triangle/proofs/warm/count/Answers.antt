@@ -1,0 +1,17 @@
+use Rattle.std.proofs.Common.{◌<◌, ◌^◌, ap, length, arith, rules}
+use Rattle.gl_triangle.proofs.Cells.{length-fixes_of}
+use Rattle.gl_triangle.proofs.warm.count.Goals as goal
+
+pub overflow_cast-result : goal.overflow_cast-result
+overflow_cast-result c =
+    let g = c.args.goal.now in
+    let most : c.len.result < 2 ^ 32 = omega (arith, ap length c.hulls.ensures, length-fixes_of g, g.within, g.at_most_90000) in
+    search (rules, most)
+
+pub returns-clause-some : goal.returns-clause-some
+returns-clause-some c = omega (arith, ap length c.hulls.ensures, length-fixes_of c.args.goal.now)
+
+pub returns-clause-most : goal.returns-clause-most
+returns-clause-most c =
+    let g = c.args.goal.now in
+    omega (arith, ap length c.hulls.ensures, length-fixes_of g, g.within, g.at_most_90000)

@@ -1,0 +1,5 @@
+pub mod Legs
+pub mod Node
+pub mod Places
+pub mod Search
+pub mod Spans

@@ -1,0 +1,87 @@
+ghost use Rattle.std.specs.Prelude.{◌≡◌, ◌<◌, length, slice_set, IfNone, IfSome};
+ghost use Rattle.std.specs.Bool.{OnFalse};
+ghost use Rattle.gl_box.specs.Cell.{ends};
+ghost use Rattle.gl_goal.specs.Rule.{whole_cell};
+ghost use Rattle.gl_goal.specs.TriangleGoal.{triangle_rule};
+ghost use Rattle.gl_triangle.specs.Legs.{AreAtMost, AreLegs};
+ghost use Rattle.gl_triangle.specs.Node.{HoldsNoLegal, HoldsNoMore, IsNode, fixes_of};
+ghost use Rattle.gl_triangle.specs.Spans.{AreWithin, axis_of, cell_of};
+
+use crate::legs::Legs;
+use crate::spans::{Corner, Spans};
+use gl_box::Span;
+use gl_goal::TriangleGoal;
+
+/// Spans that may hold a better triangle than what was found, the legs between them, and what such a
+/// triangle is worth at most.
+#[derive(Clone, Copy, Debug)]
+pub(crate) struct Node {
+    pub spans: Spans,
+    pub legs: Legs,
+    pub bound: u64,
+}
+
+/// Whether some places of the spans are in time order, on a flight that closes past the first and
+/// the third.
+#[inline]
+fn is_possible(goal: &TriangleGoal, spans: &Spans) -> bool
+    requires { AreWithin (fixes_of goal.now) spans.now }
+    ensures { OnFalse result (HoldsNoLegal goal.now (cell_of spans.now)) }
+{
+    spans.first.lo <= spans.second.hi
+        && spans.first.lo.max(spans.second.lo) <= spans.third.hi
+        && goal.closes(spans.first.hi, spans.third.lo)
+}
+
+impl Node {
+    /// The spans, where they may hold a triangle that is worth more than `known`.
+    #[inline]
+    fn of(spans: Spans, legs: Legs, known: u64) -> Option<Node>
+        ensures spans { IfSome result (λ node. node.spans ≡ spans) }
+        ensures legs { IfSome result (λ node. node.legs ≡ legs) }
+        ensures bound { IfSome result (λ node. AreAtMost legs node.bound) }
+        ensures none { IfNone result (AreAtMost legs known) }
+    {
+        let bound = legs.promise(known)?;
+        Some(Node { spans, legs, bound })
+    }
+
+    /// The span of all places at each corner, where it may hold a triangle that is worth more than
+    /// `known`.
+    pub fn whole(goal: &TriangleGoal, known: u64) -> Option<Node>
+        ensures node { IfSome result (IsNode (fixes_of goal.now)) }
+        ensures whole { IfSome result (λ node.
+            cell_of node.spans ≡ whole_cell (triangle_rule goal.now).axes) }
+        ensures none { IfNone result
+            (HoldsNoMore goal.now (whole_cell (triangle_rule goal.now).axes) known) }
+    {
+        let spans = Spans::whole(goal.hulls());
+        Node::of(spans, Legs::between(goal.hulls(), &spans), known)
+    }
+
+    /// The node with another span at a corner, where it may hold a triangle that is worth more than
+    /// `known`.
+    #[inline]
+    pub fn narrowed(
+        &self,
+        goal: &TriangleGoal,
+        corner: Corner,
+        span: Span,
+        known: u64,
+    ) -> Option<Node>
+        requires node { IsNode (fixes_of goal.now) self.now }
+        requires inside { span.hi < length (fixes_of goal.now) }
+        ensures node { IfSome result (IsNode (fixes_of goal.now)) }
+        ensures spans { IfSome result (λ node. cell_of node.spans
+            ≡ slice_set (cell_of self.now.spans) (axis_of corner) (ends span)) }
+        ensures none { IfNone result (HoldsNoMore goal.now
+            (slice_set (cell_of self.now.spans) (axis_of corner) (ends span)) known) }
+    {
+        let spans = self.spans.with(corner, span);
+        if !is_possible(goal, &spans) {
+            return None;
+        }
+        let legs = self.legs.remeasured(goal.hulls(), &spans, corner);
+        Node::of(spans, legs, known)
+    }
+}

@@ -1,0 +1,125 @@
+ghost use Rattle.std.specs.Prelude.{◌<◌, ◌↔◌, length};
+
+use crate::places::Places;
+use gl_box::Span;
+use gl_hull::{Hulls, max_sq};
+
+/// A corner of a triangle.
+#[derive(Clone, Copy, Debug, PartialEq, Eq)]
+pub(crate) enum Corner {
+    First,
+    Second,
+    Third,
+}
+
+/// A span of places for each corner of a triangle.
+#[derive(Clone, Copy, Debug)]
+pub(crate) struct Spans {
+    pub first: Span,
+    pub second: Span,
+    pub third: Span,
+}
+
+impl Spans {
+    ghost use Rattle.std.specs.Prelude.{◌≡◌, ◌<◌, ◌≤◌, length, MatchOption, map, slice_set};
+    ghost use Rattle.gl_box.specs.Cell.{ends};
+    ghost use Rattle.gl_box.specs.Halves.{IsSingle, span_at};
+    ghost use Rattle.gl_triangle.specs.Places.{places_in};
+    ghost use Rattle.gl_triangle.specs.Spans.{AreWithin, IsWide, all_places, axis_of, cell_of};
+
+    /// The span of all places at each corner.
+    pub fn whole(hulls: &Hulls) -> Spans
+        requires some { 0 < length hulls.now }
+        requires most { length hulls.now ≤ 90_000 }
+        ensures within { AreWithin hulls.now result }
+        ensures whole { cell_of result ≡ all_places (length hulls.now) }
+    {
+        let all = Span {
+            lo: 0,
+            hi: (hulls.len() - 1) as u32,
+        };
+        Spans {
+            first: all,
+            second: all,
+            third: all,
+        }
+    }
+
+    /// The span of a corner.
+    #[inline]
+    pub fn at(&self, corner: Corner) -> Span
+        ensures { ends result ≡ span_at (cell_of self.now) (axis_of corner) }
+    {
+        match corner {
+            Corner::First => self.first,
+            Corner::Second => self.second,
+            Corner::Third => self.third,
+        }
+    }
+
+    /// These spans, with another one at a corner.
+    #[inline]
+    pub fn with(&self, corner: Corner, span: Span) -> Spans
+        ensures { cell_of result ≡ slice_set (cell_of self.now) (axis_of corner) (ends span) }
+    {
+        match corner {
+            Corner::First => Spans {
+                first: span,
+                ..*self
+            },
+            Corner::Second => Spans {
+                second: span,
+                ..*self
+            },
+            Corner::Third => Spans {
+                third: span,
+                ..*self
+            },
+        }
+    }
+
+    /// The first place of each span.
+    pub fn lowest(&self) -> Places
+        ensures { places_in result ≡ map (λ span. span.0) (cell_of self.now) }
+    {
+        Places {
+            first: self.first.lo,
+            second: self.second.lo,
+            third: self.third.lo,
+        }
+    }
+
+    /// The corner to cut next: the one whose hull has the longest diagonal, the first of those where
+    /// several are equally long. `None` exactly where each span is a single place.
+    #[inline]
+    pub fn corner_to_cut(&self, hulls: &Hulls) -> Option<Corner>
+        requires { AreWithin hulls.now self.now }
+        ensures { MatchOption result (IsSingle (cell_of self.now)) (IsWide self.now) }
+    {
+        let first = diagonal(hulls, self.first);
+        let second = diagonal(hulls, self.second);
+        let third = diagonal(hulls, self.third);
+        if first > 0 && first >= second && first >= third {
+            Some(Corner::First)
+        } else if second > 0 && second >= third {
+            Some(Corner::Second)
+        } else if third > 0 {
+            Some(Corner::Third)
+        } else {
+            None
+        }
+    }
+}
+
+/// One more than the squared diagonal of the hull of a span; 0 for a single place.
+#[inline]
+fn diagonal(hulls: &Hulls, span: Span) -> u64
+    requires { span.hi < length hulls.now }
+    ensures { (0 < result) ↔ (span.lo < span.hi) }
+{
+    if span.lo == span.hi {
+        return 0;
+    }
+    let hull = hulls.hull(span);
+    max_sq(&hull, &hull) + 1
+}
