@@ -1,6 +1,6 @@
 -- What the spans of a cell say of the legal tuples in it.
 use Rattle.std.proofs.Common.{◌≡◌, ◌∙◌, sym, ap, refl, subst, ℕ, suc, ◌+◌, ◌-◌, ◌<◌, ◌≤◌, Bool, true, false, List, [], ◌∷◌, length, get_or, map, slice_set, arith}
-use Rattle.std.specs.Prelude.{IfNone, IfSome, IsTrue, None, Option, Some, nat_lt, slice_index}
+use Rattle.std.specs.Prelude.{IfNone, IfSome, IsTrue, None, Option, Some, nat_lt}
 use Rattle.std.proofs.lemmas.Bool.{ltb-true}
 use Rattle.std.specs.Bool.{OnFalse}
 use Rattle.std.specs.List.{AllZip, sum}

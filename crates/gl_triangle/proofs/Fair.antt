@@ -1,12 +1,10 @@
 -- What fair legs say of the least and the most that each of them can be.
-use Rattle.std.proofs.Common.{◌≡◌, ℕ, ◌+◌, ◌*◌, ◌/◌, ◌<◌, ◌≤◌, [], ◌∷◌, min, max, arith}
+use Rattle.std.proofs.Common.{ℕ, ◌+◌, ◌*◌, ◌<◌, ◌≤◌, [], ◌∷◌, arith}
 use Rattle.std.specs.Prelude.{IsTrue, nat_le, nat_lt}
 use Rattle.std.specs.List.{sum}
 use Rattle.std.proofs.lemmas.Bool.{leb-true, ltb-true}
 use Rattle.gl_goal.specs.Fair.{is_fair}
 use Rattle.gl_goal.specs.Laws.Fair.{and_parts}
-use Rattle.gl_triangle.specs.declared.legs.Legs.{Legs}
-use Rattle.gl_triangle.specs.Legs.{AreFair}
 
 -- three fair legs, none of which is shorter than 28 percent of all
 pub record FairLegs (x y z : ℕ) : Type 0 where

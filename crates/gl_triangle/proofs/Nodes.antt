@@ -1,5 +1,5 @@
 -- Nodes that take the place of another, and the work that open nodes can still make.
-use Rattle.std.proofs.Common.{◌≡◌, ◌∙◌, sym, ap, refl, subst, ℕ, zero, suc, ◌+◌, ◌-◌, ◌<◌, ◌≤◌, ◌⊎◌, inl, inr, Bool, true, false, List, [], ◌∷◌, ◌++◌, length, get_or, slice_set, append_assoc, arith}
+use Rattle.std.proofs.Common.{◌≡◌, ◌∙◌, sym, ap, subst, ℕ, zero, suc, ◌+◌, ◌<◌, ◌≤◌, ◌⊎◌, inl, inr, List, [], ◌∷◌, ◌++◌, length, slice_set, append_assoc, arith}
 use Rattle.std.specs.Prelude.{All, IfNone, IfSome, Option, None, Some}
 use Rattle.std.specs.Option.{option_to_list}
 use Rattle.std.proofs.lemmas.Bool.{cases_Bool, cases_lt}
@@ -9,7 +9,6 @@ use Rattle.gl_box.specs.Cell.{Holds, holds}
 use Rattle.gl_box.specs.Tuple.{places_of}
 use Rattle.gl_box.specs.Halves.{span_at, width}
 use Rattle.gl_box.specs.Laws.Held.{holds_parts, holds_whole}
-use Rattle.gl_igc.specs.declared.fix.Fix.{Fix}
 use Rattle.gl_goal.specs.declared.triangle.TriangleGoal.{TriangleGoal}
 use Rattle.gl_goal.specs.Rule.{IsLegal, IsOptimum, value, whole_cell}
 use Rattle.gl_goal.specs.Laws.Order.{tuple_held}

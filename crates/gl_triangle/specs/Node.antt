@@ -1,5 +1,5 @@
 -- What a search knows of spans that it has still to look at.
-use Rattle.std.specs.Prelude.{ℕ, ◌+◌, ◌<◌, ◌≤◌, List, ◌++◌, ◌≡◌, length, All}
+use Rattle.std.specs.Prelude.{ℕ, ◌<◌, ◌≤◌, List, ◌++◌, ◌≡◌, length, All}
 use Rattle.gl_box.specs.Cell.{Holds}
 use Rattle.gl_igc.specs.declared.fix.Fix.{Fix}
 use Rattle.gl_goal.specs.declared.triangle.TriangleGoal.{TriangleGoal}
@@ -35,8 +35,8 @@ HoldsNoMore goal cell most =
 abbrev pub NoneHolds : List Node → List ℕ → Type 0
 NoneHolds nodes tuple = All (λ node. Holds (cell_of node.spans) tuple → ⊥) nodes
 
--- Nodes take the place of one that was looked at: at most two, each of which reaches less far, and a
--- legal tuple of the one that none of them holds is worth at most so much.
+-- Nodes take the place of one that was looked at: at most two, each of which reaches less far, and
+-- a legal tuple of the one that none of them holds is worth at most so much.
 pub record Replace (goal : TriangleGoal) (node : Node) (most : ℕ) (nodes : List Node) : Type 0 where
   pub few : length nodes ≤ 2
   pub are_nodes : All (IsNode (fixes_of goal)) nodes

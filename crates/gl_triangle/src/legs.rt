@@ -66,8 +66,8 @@ impl Legs {
         }
     }
 
-    /// What fair legs between these are worth at most, where that is more than `known`. `None` where
-    /// none are worth more.
+    /// How long fair legs between these are together at most, if that is more than `known`. `None`
+    /// where none are longer.
     #[inline]
     pub fn promise(&self, known: u64) -> Option<u64>
         ensures { MatchOption result
@@ -80,7 +80,11 @@ impl Legs {
         if bound <= known {
             return None;
         }
-        let longest = self.first.least.max(self.second.least).max(self.third.least);
+        let longest = self
+            .first
+            .least
+            .max(self.second.least)
+            .max(self.third.least);
         if 100 * longest > GREATEST_SHARE * bound {
             return None;
         }

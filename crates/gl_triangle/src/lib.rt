@@ -1,14 +1,16 @@
-//! The greatest triangle of a flight, found without boxes: spans of places are halved, and a half is
-//! left out as soon as its hulls show that it holds no better triangle than what was found.
+//! The greatest triangle of a flight, found without boxes: spans of places are halved, and a half
+//! is left out as soon as its hulls show that it holds no better triangle than what was found.
 #![tactic(auto)]
 
-mod judge;
+mod found;
 mod leg;
 mod legs;
 mod node;
 mod places;
 mod search;
 mod spans;
+#[cfg(test)]
+mod tests;
 mod trial;
 mod warm;
 

@@ -12,8 +12,8 @@ use crate::spans::{Corner, Spans};
 use gl_box::Span;
 use gl_goal::TriangleGoal;
 
-/// Spans that may hold a better triangle than what was found, the legs between them, and what such a
-/// triangle is worth at most.
+/// Spans that may hold a better triangle than what was found, the legs between them, and how long
+/// fair legs are there at most.
 #[derive(Clone, Copy, Debug)]
 pub(crate) struct Node {
     pub spans: Spans,

@@ -6,7 +6,7 @@ ghost use Rattle.gl_plain.specs.Search.{IsSound, total_of};
 ghost use Rattle.gl_triangle.specs.Node.{IsNode, IsVisited, fixes_of};
 ghost use Rattle.gl_triangle.specs.Search.{IsUnderWay, worth_of};
 
-use crate::judge::{consider, worth};
+use crate::found::{consider, worth};
 use crate::node::Node;
 use crate::warm::warm_start;
 use gl_box::Span;
@@ -39,9 +39,9 @@ fn push_some(nodes: &mut Vec<Node>, node: Option<Node>) -> Result<(), AllocError
     Ok(())
 }
 
-/// Looks at a node: its halves that may hold a better triangle are put on top. A node that holds a
-/// single choice is considered. Since it was put there, a better triangle may have been found than it
-/// can hold. The only error is want of memory.
+/// Looks at a node, unless what was found since it was put there is as good as anything in it: its
+/// halves that may hold a better triangle are put on top, and a single choice of places is
+/// considered. The only error is want of memory.
 #[inline]
 fn visit(
     goal: &TriangleGoal,

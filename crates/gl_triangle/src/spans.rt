@@ -89,7 +89,7 @@ impl Spans {
         }
     }
 
-    /// The corner to cut next: the one whose hull has the longest diagonal, the first of those where
+    /// The corner to cut next: the one whose hull has the longest diagonal, the first of those if
     /// several are equally long. `None` exactly where each span is a single place.
     #[inline]
     pub fn corner_to_cut(&self, hulls: &Hulls) -> Option<Corner>

@@ -49,8 +49,8 @@ fn leg(hulls: &Hulls, from: u32, to: u32) -> Length
     }
 }
 
-/// The legs from a place to those that aren't before it; no length where they are. The only error is
-/// want of memory.
+/// The legs from a place to others; none has a length to a place before it. The only error is want
+/// of memory.
 fn legs_onward(
     alloc: Global,
     hulls: &Hulls,
@@ -133,8 +133,8 @@ fn try_thirds(
     }
 }
 
-/// Tries all second and third places after a first one. `onward` are the legs from the second places
-/// to the third ones, `back` those from these to the first.
+/// Tries all second and third places after a first one. `onward` are the legs from the second
+/// places to the third ones, `back` those from these to the first.
 fn try_seconds(
     goal: &TriangleGoal,
     first: u32,

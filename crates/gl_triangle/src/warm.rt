@@ -4,7 +4,7 @@ ghost use Rattle.gl_plain.specs.Search.{IsSound};
 ghost use Rattle.gl_triangle.specs.Node.{fixes_of};
 ghost use Rattle.gl_triangle.specs.Places.{AreAmong};
 
-use crate::judge::consider;
+use crate::found::consider;
 use crate::places::Places;
 use crate::trial::{Choices, Chosen, try_all};
 use gl_goal::TriangleGoal;
@@ -69,13 +69,9 @@ fn around(alloc: Global, place: u32, step: u32, len: u32) -> Result<Vec<u32>, Al
     Ok(places)
 }
 
-/// Climbs from what was chosen, each fix in small steps, until nothing grows. The only error is want
-/// of memory.
-fn climb(
-    alloc: Global,
-    goal: &TriangleGoal,
-    start: Chosen,
-) -> Result<Places, AllocError>
+/// Climbs from what was chosen, each place in smaller and smaller steps, until nothing grows. The
+/// only error is want of memory.
+fn climb(alloc: Global, goal: &TriangleGoal, start: Chosen) -> Result<Places, AllocError>
     requires { AreAmong (fixes_of goal.now) start.places }
     ensures { IfOk result (AreAmong (fixes_of goal.now)) }
 {
@@ -107,12 +103,9 @@ fn climb(
     Ok(best.places)
 }
 
-/// A triangle of a goal, a good one if there is one to be found soon, or none. The only error is want
-/// of memory.
-pub(crate) fn warm_start(
-    alloc: Global,
-    goal: &TriangleGoal,
-) -> Result<Option<Best>, AllocError>
+/// A triangle of a goal, a good one if there is one to be found soon, or none. The only error is
+/// want of memory.
+pub(crate) fn warm_start(alloc: Global, goal: &TriangleGoal) -> Result<Option<Best>, AllocError>
     ensures { IfOk result (λ best. IsSound (triangle_rule goal.now) best) }
 {
     let len = count(goal);

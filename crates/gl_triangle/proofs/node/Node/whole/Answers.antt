@@ -1,4 +1,4 @@
-use Rattle.std.proofs.Common.{◌≤◌, ◌<◌, ◌∙◌, ap, sym, subst, length, List, ℕ, arith}
+use Rattle.std.proofs.Common.{◌∙◌, ap, sym, subst, length, List, arith}
 use Rattle.gl_igc.specs.declared.fix.Fix.{Fix}
 use Rattle.gl_triangle.specs.Legs.{AreLegs}
 use Rattle.gl_triangle.specs.Node.{fixes_of}
