@@ -40,6 +40,7 @@ impl Node {
         ensures spans { IfSome result (λ node. node.spans ≡ spans) }
         ensures legs { IfSome result (λ node. node.legs ≡ legs) }
         ensures bound { IfSome result (λ node. AreAtMost legs node.bound) }
+        ensures above { IfSome result (λ node. known < node.bound) }
         ensures none { IfNone result (AreAtMost legs known) }
     {
         let bound = legs.promise(known)?;
@@ -52,6 +53,7 @@ impl Node {
         ensures node { IfSome result (IsNode (fixes_of goal.now)) }
         ensures whole { IfSome result (λ node.
             cell_of node.spans ≡ whole_cell (triangle_rule goal.now).axes) }
+        ensures above { IfSome result (λ node. known < node.bound) }
         ensures none { IfNone result
             (HoldsNoMore goal.now (whole_cell (triangle_rule goal.now).axes) known) }
     {
@@ -74,6 +76,7 @@ impl Node {
         ensures node { IfSome result (IsNode (fixes_of goal.now)) }
         ensures spans { IfSome result (λ node. cell_of node.spans
             ≡ slice_set (cell_of self.now.spans) (axis_of corner) (ends span)) }
+        ensures above { IfSome result (λ node. known < node.bound) }
         ensures none { IfNone result (HoldsNoMore goal.now
             (slice_set (cell_of self.now.spans) (axis_of corner) (ends span)) known) }
     {
