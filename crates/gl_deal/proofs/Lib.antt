@@ -1,0 +1,4 @@
+pub mod Workers
+pub mod Seats
+pub mod Steps
+pub mod Turns

@@ -1,0 +1,5 @@
+pub mod Views
+pub mod Rule
+pub mod Tokens
+pub mod Steals
+pub mod Deal

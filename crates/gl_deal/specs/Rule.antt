@@ -1,0 +1,52 @@
+-- The rule of a deque, which holds between any two steps of all threads.
+use Rattle.std.specs.Prelude.{◌≡◌, ◌≢◌, ℕ, ◌+◌, ◌<◌, ◌==◌, nat_lt, cond, List, [], ◌∷◌, map, All, Contains, sum_by, count_by}
+use Rattle.gl_box.specs.declared.cell.Cell.{Cell}
+use Rattle.gl_deal.specs.declared.view.HandView.{HandView}
+use Rattle.gl_deal.specs.declared.view.PassView.{PassView}
+use Rattle.gl_deal.specs.declared.view.View.{View}
+use Rattle.gl_deal.specs.declared.view.View.TheVariants.{OfHand, OfPass}
+
+-- Each cell that was put is in the deque, or was taken by the hand, or gathered, or taken by a
+-- pass: what was put weighs what these weigh together, however cells are weighed.
+abbrev pub IsBalanced : List Cell → HandView → List PassView → Type 0
+IsBalanced cells hand passes =
+    (weight : Cell → ℕ)
+    → sum_by weight hand.put
+    ≡ sum_by weight cells + sum_by weight hand.taken + sum_by weight hand.gathered
+    + sum_by (λ pass. sum_by weight pass.taken) passes
+
+-- how often a worker stands in a list
+abbrev pub times : ℕ → List ℕ → ℕ
+times worker workers = count_by (λ other. other == worker) workers
+
+-- The owner, the settled workers and those served by the passes are all the workers, each once
+abbrev pub AreServed : HandView → List PassView → Type 0
+AreServed hand passes =
+    (worker : ℕ)
+    → times worker (hand.owner ∷ hand.settled)
+    + sum_by (λ pass. times worker pass.serves) passes
+    ≡ cond (nat_lt worker hand.workers) 1 0
+
+-- a pass that serves nobody has taken nothing
+abbrev pub IsHonest : PassView → Type 0
+IsHonest pass = pass.serves ≡ [] → pass.taken ≡ []
+
+-- the rule of a deque that contains these cells, one hand and its passes
+pub record IsDealt (cells : List Cell) (views : List View) : Type 0 where
+  pub hand : HandView
+  pub passes : List PassView
+  pub views_are : views ≡ OfHand hand ∷ map (λ pass. OfPass pass) passes
+  pub balanced : IsBalanced cells hand passes
+  pub served : AreServed hand passes
+  pub honest : All IsHonest passes
+
+-- the hand has gathered from all workers but the owner
+abbrev pub HasAll : HandView → Type 0
+HasAll hand =
+    (worker : ℕ) → worker < hand.workers → worker ≢ hand.owner → Contains hand.settled worker
+
+-- what was put weighs what was taken and gathered, however cells are weighed
+abbrev pub IsEven : HandView → Type 0
+IsEven hand =
+    (weight : Cell → ℕ)
+    → sum_by weight hand.put ≡ sum_by weight hand.taken + sum_by weight hand.gathered
