@@ -1,16 +1,14 @@
 -- Where the hand and the passes stand among the views of a deque.
-use Rattle.std.proofs.Common.{◌≡◌, ◌≢◌, ◌∙◌, sym, ap, refl, subst, ℕ, zero, suc, ◌+◌, ◌<◌, Bool, true, false, true≢false, List, [], ◌∷◌, ◌++◌, length, map, set, get_or, All, arith}
+use Rattle.std.proofs.Common.{◌≡◌, ◌∙◌, sym, ap, refl, subst, ℕ, zero, suc, ◌+◌, ◌<◌, true, true≢false, List, [], ◌∷◌, length, map, set, get_or, All, arith}
 use Rattle.std.proofs.lemmas.List.Sums.{sum_by-set}
 use Rattle.std.specs.List.{sum_by}
 use mathlib.Core.Option.{some, some-injective, some-ne-none}
 use lib.ListN.{get_elem?}
-use Rattle.gl_box.specs.declared.cell.Cell.{Cell}
 use Rattle.gl_deal.specs.declared.view.HandView.{HandView}
 use Rattle.gl_deal.specs.declared.view.PassView.{PassView}
 use Rattle.gl_deal.specs.declared.view.View.{View}
 use Rattle.gl_deal.specs.declared.view.View.TheVariants.{OfHand, OfPass}
 use Rattle.gl_deal.specs.Views.{as_hand, as_pass, is_hand, is_pass}
-use Rattle.gl_deal.specs.Rule.{IsDealt}
 
 -- the views of a hand and its passes
 abbrev pub seated : HandView → List PassView → List View

@@ -1,5 +1,5 @@
 -- Each step of a hand or of a pass keeps the rule of its deque.
-use Rattle.std.proofs.Common.{◌≡◌, ◌≢◌, ◌∙◌, sym, ap, refl, subst, ℕ, zero, suc, ◌+◌, ◌<◌, Bool, true, false, true≢false, List, [], ◌∷◌, ◌++◌, length, map, set, get_or, All, arith}
+use Rattle.std.proofs.Common.{◌≡◌, ◌∙◌, sym, ap, refl, subst, ℕ, ◌+◌, true, true≢false, List, [], ◌∷◌, ◌++◌, length, set, arith}
 use Rattle.std.proofs.lemmas.List.{map-append}
 use Rattle.std.proofs.lemmas.List.Elements.{All-append, All-set}
 use Rattle.std.proofs.lemmas.List.Sums.{sum_by-append}
@@ -15,7 +15,7 @@ use Rattle.gl_deal.specs.declared.view.View.TheVariants.{OfHand, OfPass}
 use Rattle.gl_deal.specs.Views.{as_hand, as_pass, is_hand, is_pass, new_pass, with_earlier, with_later, with_put, with_settled, with_stolen, with_taken}
 use Rattle.gl_deal.specs.Rule.{IsDealt, IsBalanced, AreServed, HasAll, IsEven, IsHonest, times}
 use Rattle.gl_deal.proofs.Workers.{even, once_more, sum_with, times_both, times_more}
-use Rattle.gl_deal.proofs.Seats.{all_one, seated, IsFirst, IsLater, hand_first, pass_later, is_of_hand, is_of_pass, sum_set, all_at}
+use Rattle.gl_deal.proofs.Seats.{all_one, seated, IsFirst, IsLater, hand_first, pass_later, sum_set}
 
 -- the hand of a deque, by the view that stands at its port
 first_in : (cells : List Cell) (views : List View) (port : ℕ) (known : HandView) (dealt : IsDealt cells views) → get_elem? views port ≡ some (OfHand known) → IsFirst dealt.hand known dealt.passes port

@@ -1,5 +1,5 @@
 -- How the hands and the passes stand while they are dealt.
-use Rattle.std.proofs.Common.{Vec, Global, ◌≡◌, ◌≢◌, ◌∙◌, sym, ap, refl, subst, ℕ, zero, suc, ◌+◌, ◌<◌, ◌≤◌, min, max, ◌⊎◌, ⊎_elim, List, [], ◌∷◌, ◌++◌, length, map, set, get_or, take, take-suc, drop, add-one, arith}
+use Rattle.std.proofs.Common.{Vec, Global, ◌≡◌, ◌∙◌, sym, ap, refl, ℕ, zero, suc, ◌+◌, ◌<◌, ◌≤◌, min, max, ⊎_elim, List, [], ◌∷◌, ◌++◌, length, map, set, get_or, take, take-suc, add-one, arith}
 use Rattle.std.proofs.lemmas.Bool.{cases_lt}
 use Rattle.std.proofs.lemmas.List.{map-append, get_or-map, get_or-set_same, get_or-set_other, length-map, length-set, length-take}
 use Rattle.std.proofs.Math.Seq.{map-set_same}
@@ -8,11 +8,9 @@ use Rattle.std.specs.List.{remove}
 use Rattle.gl_deal.specs.declared.hand.Hand.{Hand}
 use Rattle.gl_deal.specs.declared.pass.Pass.{Pass}
 use Rattle.gl_deal.specs.declared.place.Place.{Place}
-use Rattle.gl_deal.specs.declared.view.HandView.{HandView}
-use Rattle.gl_deal.specs.declared.view.PassView.{PassView}
 use Rattle.gl_deal.specs.Views.{new_hand, new_pass, partly_dealt}
 use Rattle.gl_deal.specs.Tokens.{Deque, end_of, hand_deque, hand_view}
-use Rattle.gl_deal.specs.Deal.{AreDealt, ArePiles, IsDeal, IsPlace, deques_of, passes_to}
+use Rattle.gl_deal.specs.Deal.{AreDealt, ArePiles, IsDeal, deques_of, passes_to}
 
 module _ {X : Type 0} where
   remove_more : (xs : List X) (x : X) (place : ℕ) → (place ≡ length xs → ⊥) → remove (xs ++ x ∷ []) place ≡ remove xs place ++ x ∷ []

@@ -1,5 +1,5 @@
 -- What a hand and what a pass know of their deque, and what the steps add to it.
-use Rattle.std.specs.Prelude.{ℕ, ◌+◌, min, max, Bool, true, false, List, [], ◌∷◌, ◌++◌}
+use Rattle.std.specs.Prelude.{ℕ, ◌+◌, min, max, Bool, true, false, List, [], ◌++◌}
 use Rattle.gl_box.specs.declared.cell.Cell.{Cell}
 use Rattle.gl_deal.specs.declared.view.HandView.{HandView}
 use Rattle.gl_deal.specs.declared.view.PassView.{PassView}

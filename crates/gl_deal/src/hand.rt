@@ -9,8 +9,9 @@ use crossbeam_deque::Worker;
 use gl_box::Cell;
 use std::alloc::{AllocError, Global};
 
-/// Room for cells at the start.
-const ROOM: usize = 64;
+/// Room for cells at the start: a worker who cuts a cell puts one half of it, and a cell can be cut
+/// at most 32 times on each axis.
+const ROOM: usize = 512;
 
 /// A worker's end of its own deque: it puts cells there, and takes the newest one first.
 #[derive(Drop)]

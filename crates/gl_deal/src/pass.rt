@@ -11,10 +11,11 @@ use std::alloc::Global;
 /// What an attempt to steal answers.
 #[derive(Clone, Copy, Debug, PartialEq, Eq)]
 pub enum Steal {
+    /// The oldest cell of the deque.
     Got(Cell),
-    /// There was no cell to steal.
+    /// There was none, or a last one that the owner may have been taking.
     Empty,
-    /// Another thread was at the same cell. Try again.
+    /// Another thread took a cell first. Try again.
     Retry,
 }
 

@@ -1,8 +1,7 @@
-use Rattle.std.proofs.Common.{◌≡◌, ◌∙◌, ap, sym, ℕ, List, [], ◌++◌, take, drop, arith, length, map, Result, Ok, Err, IfOk, Vec, Global}
+use Rattle.std.proofs.Common.{◌≡◌, ◌∙◌, ap, sym, ℕ, List, [], ◌++◌, take, drop, arith, length, Result, Ok, Err, IfOk, Vec, Global}
 use Rattle.std.specs.declared.alloc.AllocError.{AllocError}
 use Rattle.gl_deal.specs.declared.hand.Hand.{Hand}
 use Rattle.gl_deal.specs.declared.place.Place.{Place}
-use Rattle.gl_deal.specs.Tokens.{hand_deque}
 use Rattle.std.proofs.lemmas.List.{drop_all}
 use lib.Seq.{take-append_seam}
 use Rattle.gl_deal.proofs.Turns.{places_dealt}

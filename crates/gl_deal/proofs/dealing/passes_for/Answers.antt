@@ -1,4 +1,4 @@
-use Rattle.std.proofs.Common.{◌≡◌, ◌∙◌, sym, ap, ℕ, ◌+◌, ◌<◌, ◌≤◌, List, [], ◌∷◌, ◌++◌, Vec, Global, length, map, set, get_or, take, subst, arith}
+use Rattle.std.proofs.Common.{◌≡◌, ◌∙◌, sym, ap, ◌+◌, ◌<◌, List, [], ◌∷◌, ◌++◌, Vec, Global, length, map, set, subst, arith}
 use Rattle.std.proofs.Math.Seq.{map-set_same}
 use Rattle.gl_deal.specs.declared.hand.Hand.{Hand}
 use Rattle.gl_deal.specs.declared.pass.Pass.{Pass}
