@@ -13,22 +13,22 @@ use Rattle.gl_deal.specs.declared.view.PassView.{PassView}
 use Rattle.gl_deal.specs.declared.view.View.{View}
 use Rattle.gl_deal.specs.declared.view.View.TheVariants.{OfHand, OfPass}
 use Rattle.gl_deal.specs.Views.{as_hand, as_pass, is_hand, is_pass, new_pass, with_earlier, with_later, with_put, with_settled, with_stolen, with_taken}
-use Rattle.gl_deal.specs.Rule.{IsDealt, IsBalanced, AreServed, HasAll, IsEven, IsHonest, times}
-use Rattle.gl_deal.proofs.Workers.{even, once_more, sum_with, times_both, times_more}
+use Rattle.gl_deal.specs.Rule.{IsShared, IsBalanced, HasEachWorkerOnce, HasSettledAll, TookAllItPut, TakesForSomeone, times}
+use Rattle.gl_deal.proofs.Workers.{all_taken, once_more, sum_with, times_both, times_more}
 use Rattle.gl_deal.proofs.Seats.{all_one, seated, IsFirst, IsLater, hand_first, pass_later, sum_set}
 
 -- the hand of a deque, by the view that stands at its port
-first_in : (cells : List Cell) (views : List View) (port : ℕ) (known : HandView) (dealt : IsDealt cells views) → get_elem? views port ≡ some (OfHand known) → IsFirst dealt.hand known dealt.passes port
+first_in : (cells : List Cell) (views : List View) (port : ℕ) (known : HandView) (dealt : IsShared cells views) → get_elem? views port ≡ some (OfHand known) → IsFirst dealt.hand known dealt.passes port
 first_in cells views port known dealt is = hand_first dealt.hand known dealt.passes port (subst (λ vs. get_elem? vs port ≡ some (OfHand known)) dealt.views_are is)
 
-later_in : (cells : List Cell) (views : List View) (port : ℕ) (known : PassView) (dealt : IsDealt cells views) → get_elem? views port ≡ some (OfPass known) → IsLater dealt.hand known dealt.passes port
+later_in : (cells : List Cell) (views : List View) (port : ℕ) (known : PassView) (dealt : IsShared cells views) → get_elem? views port ≡ some (OfPass known) → IsLater dealt.hand known dealt.passes port
 later_in cells views port known dealt is = pass_later dealt.hand known dealt.passes port (subst (λ vs. get_elem? vs port ≡ some (OfPass known)) dealt.views_are is)
 
 -- The hand's new view keeps the rule where it says as much of the workers, and is balanced
-hand_steps : (before after : List Cell) (views : List View) (port : ℕ) (known next : HandView) (dealt : IsDealt before views) → get_elem? views port ≡ some (OfHand known)
+hand_steps : (before after : List Cell) (views : List View) (port : ℕ) (known next : HandView) (dealt : IsShared before views) → get_elem? views port ≡ some (OfHand known)
     → (IsBalanced before known dealt.passes → IsBalanced after next dealt.passes)
-    → (AreServed known dealt.passes → AreServed next dealt.passes)
-    → IsDealt after (set views port (OfHand next))
+    → (HasEachWorkerOnce known dealt.passes → HasEachWorkerOnce next dealt.passes)
+    → IsShared after (set views port (OfHand next))
 hand_steps before after views port known next dealt is balance served =
     let first = first_in before views port known dealt is in
     record {
@@ -36,11 +36,11 @@ hand_steps before after views port known next dealt is balance served =
       passes = dealt.passes;
       views_are = ap (λ vs. set vs port (OfHand next)) dealt.views_are ∙ first.put_back next;
       balanced = balance (subst (λ hand. IsBalanced before hand dealt.passes) first.same dealt.balanced);
-      served = served (subst (λ hand. AreServed hand dealt.passes) first.same dealt.served);
-      honest = dealt.honest;
+      served = served (subst (λ hand. HasEachWorkerOnce hand dealt.passes) first.same dealt.served);
+      idle = dealt.idle;
     }
 
-pub puts : (port : ℕ) (view : View) (cells : List Cell) → is_hand view ≡ true → Pushes IsDealt port view cells (λ after. after ≡ OfHand (with_put (as_hand view) cells))
+pub puts : (port : ℕ) (view : View) (cells : List Cell) → is_hand view ≡ true → Pushes IsShared port view cells (λ after. after ≡ OfHand (with_put (as_hand view) cells))
 puts port (OfPass pass) cells is items views dealt at = absurd (true≢false (sym is))
 puts port (OfHand hand) cells is items views dealt at = (
   OfHand (with_put hand cells),
@@ -50,7 +50,7 @@ puts port (OfHand hand) cells is items views dealt at = (
   refl,
 )
 
-pub takes : (port : ℕ) (view : View) → is_hand view ≡ true → Takes IsDealt port view 1 (λ cells after. after ≡ OfHand (with_taken (as_hand view) cells))
+pub takes : (port : ℕ) (view : View) → is_hand view ≡ true → Takes IsShared port view 1 (λ cells after. after ≡ OfHand (with_taken (as_hand view) cells))
 takes port (OfPass pass) is cells items views some_ one dealt at = absurd (true≢false (sym is))
 takes port (OfHand hand) is cells items views some_ one dealt at = (
   OfHand (with_taken hand cells),
@@ -60,7 +60,7 @@ takes port (OfHand hand) is cells items views some_ one dealt at = (
   refl,
 )
 
-pub pops : (port : ℕ) (view : View) → is_hand view ≡ true → Pops IsDealt port view (λ cells after. after ≡ OfHand (with_taken (as_hand view) cells))
+pub pops : (port : ℕ) (view : View) → is_hand view ≡ true → Pops IsShared port view (λ cells after. after ≡ OfHand (with_taken (as_hand view) cells))
 pops port (OfPass pass) is cell items views dealt at = absurd (true≢false (sym is))
 pops port (OfHand hand) is cell items views dealt at = (
   OfHand (with_taken hand (cell ∷ [])),
@@ -71,7 +71,7 @@ pops port (OfHand hand) is cell items views dealt at = (
 )
 
 -- A pass's new view keeps the rule where it serves the same workers, some of them, and is balanced
-pub steals : (port : ℕ) (view : View) → is_pass view ≡ true → length (as_pass view).serves ≡ 1 → Takes IsDealt port view 1 (λ cells after. after ≡ OfPass (with_stolen (as_pass view) cells))
+pub steals : (port : ℕ) (view : View) → is_pass view ≡ true → length (as_pass view).serves ≡ 1 → Takes IsShared port view 1 (λ cells after. after ≡ OfPass (with_stolen (as_pass view) cells))
 steals port (OfHand hand) is one cells items views some_ few dealt at = absurd (true≢false (sym is))
 steals port (OfPass pass) is one cells items views some_ few dealt at =
     let later = later_in (cells ++ items) views port pass dealt at in
@@ -90,18 +90,18 @@ steals port (OfPass pass) is one cells items views some_ few dealt at =
             let b = dealt.served worker in
             let s = sum_set (λ (p : PassView). times worker p.serves) dealt.passes later.at pass next later.same in
             omega arith;
-        honest = All-set IsHonest dealt.passes later.at next (λ none. absurd (omega (arith, one, ap length none))) dealt.honest;
+        idle = All-set TakesForSomeone dealt.passes later.at next (λ none. absurd (omega (arith, one, ap length none))) dealt.idle;
       },
       refl,
     )
 
 -- One more pass comes with the hand's new view
-forks : (items : List Cell) (views : List View) (port : ℕ) (known next : HandView) (pass : PassView) (dealt : IsDealt items views) → get_elem? views port ≡ some (OfHand known)
-    → IsHonest pass
+forks : (items : List Cell) (views : List View) (port : ℕ) (known next : HandView) (pass : PassView) (dealt : IsShared items views) → get_elem? views port ≡ some (OfHand known)
+    → TakesForSomeone pass
     → (IsBalanced items known dealt.passes → IsBalanced items next (dealt.passes ++ pass ∷ []))
-    → (AreServed known dealt.passes → AreServed next (dealt.passes ++ pass ∷ []))
-    → IsDealt items (set views port (OfHand next) ++ OfPass pass ∷ [])
-forks items views port known next pass dealt is honest balance served =
+    → (HasEachWorkerOnce known dealt.passes → HasEachWorkerOnce next (dealt.passes ++ pass ∷ []))
+    → IsShared items (set views port (OfHand next) ++ OfPass pass ∷ [])
+forks items views port known next pass dealt is idle balance served =
     let first = first_in items views port known dealt is in
     record {
       hand = next;
@@ -110,12 +110,12 @@ forks items views port known next pass dealt is honest balance served =
           ∙ ap (λ vs. vs ++ OfPass pass ∷ []) (first.put_back next)
           ∙ ap (λ vs. OfHand next ∷ vs) (sym (map-append (λ (p : PassView). OfPass p) dealt.passes (pass ∷ [])));
       balanced = balance (subst (λ hand. IsBalanced items hand dealt.passes) first.same dealt.balanced);
-      served = served (subst (λ hand. AreServed hand dealt.passes) first.same dealt.served);
-      honest = All-append IsHonest dealt.passes (pass ∷ []) dealt.honest (all_one IsHonest pass honest);
+      served = served (subst (λ hand. HasEachWorkerOnce hand dealt.passes) first.same dealt.served);
+      idle = All-append TakesForSomeone dealt.passes (pass ∷ []) dealt.idle (all_one TakesForSomeone pass idle);
     }
 
 pub forks_earlier : (port : ℕ) (view : View) → is_hand view ≡ true → (as_hand view).workers ≡ (as_hand view).owner + 1
-    → Forks IsDealt port view (OfHand (with_earlier (as_hand view))) (OfPass (new_pass ((as_hand view).owner ∷ [])))
+    → Forks IsShared port view (OfHand (with_earlier (as_hand view))) (OfPass (new_pass ((as_hand view).owner ∷ [])))
 forks_earlier port (OfPass pass) is last items views dealt at = absurd (true≢false (sym is))
 forks_earlier port (OfHand hand) is last items views dealt at =
     let pass : PassView = new_pass (hand.owner ∷ []) in
@@ -128,7 +128,7 @@ forks_earlier port (OfHand hand) is last items views dealt at =
     omega (arith, sum_with (λ (p : PassView). times worker p.serves) dealt.passes pass, times_more worker (hand.owner + 1) hand.settled, times_more worker hand.owner hand.settled))
 
 pub forks_later : (port : ℕ) (view : View) → is_hand view ≡ true
-    → Forks IsDealt port view (OfHand (with_later (as_hand view))) (OfPass (new_pass ((as_hand view).workers ∷ [])))
+    → Forks IsShared port view (OfHand (with_later (as_hand view))) (OfPass (new_pass ((as_hand view).workers ∷ [])))
 forks_later port (OfPass pass) is items views dealt at = absurd (true≢false (sym is))
 forks_later port (OfHand hand) is items views dealt at =
     let pass : PassView = new_pass (hand.workers ∷ []) in
@@ -140,7 +140,7 @@ forks_later port (OfHand hand) is items views dealt at =
     omega (arith, sum_with (λ (p : PassView). times worker p.serves) dealt.passes pass))
 
 pub merges : (port : ℕ) (view : View) (other : ℕ) (taken_in : View) → is_hand view ≡ true → is_pass taken_in ≡ true
-    → Merges IsDealt port view other taken_in (OfHand (with_settled (as_hand view) (as_pass taken_in))) (OfPass (new_pass []))
+    → Merges IsShared port view other taken_in (OfHand (with_settled (as_hand view) (as_pass taken_in))) (OfPass (new_pass []))
 merges port (OfPass hand) other taken_in is is_other items views dealt at two at_other = absurd (true≢false (sym is))
 merges port (OfHand hand) other (OfHand pass) is is_other items views dealt at two at_other = absurd (true≢false (sym is_other))
 merges port (OfHand hand) other (OfPass pass) is is_other items views dealt at two at_other =
@@ -158,14 +158,14 @@ merges port (OfHand hand) other (OfPass pass) is is_other items views dealt at t
           let s = sum_set (λ (p : PassView). sum_by weight p.taken) dealt.passes later.at pass spent later.same in
           omega (arith, sum_by-append weight hand.gathered pass.taken);
       served = λ worker.
-          let b = subst (λ (h : HandView). AreServed h dealt.passes) first.same dealt.served worker in
+          let b = subst (λ (h : HandView). HasEachWorkerOnce h dealt.passes) first.same dealt.served worker in
           let s = sum_set (λ (p : PassView). times worker p.serves) dealt.passes later.at pass spent later.same in
           omega (arith, times_both worker (hand.owner ∷ hand.settled) pass.serves);
-      honest = All-set IsHonest dealt.passes later.at spent (λ none. refl) dealt.honest;
+      idle = All-set TakesForSomeone dealt.passes later.at spent (λ none. refl) dealt.idle;
     }
 
-pub finds : (port : ℕ) (view : View) → is_hand view ≡ true → Finds IsDealt port view (HasAll (as_hand view) → IsEven (as_hand view))
+pub finds : (port : ℕ) (view : View) → is_hand view ≡ true → Finds IsShared port view (HasSettledAll (as_hand view) → TookAllItPut (as_hand view))
 finds port (OfPass pass) is views dealt at all = absurd (true≢false (sym is))
 finds port (OfHand hand) is views dealt at all =
     let first = first_in [] views port hand dealt at in
-    even hand dealt.passes all (subst (λ (h : HandView). IsBalanced [] h dealt.passes) first.same dealt.balanced) (subst (λ (h : HandView). AreServed h dealt.passes) first.same dealt.served) dealt.honest
+    all_taken hand dealt.passes all (subst (λ (h : HandView). IsBalanced [] h dealt.passes) first.same dealt.balanced) (subst (λ (h : HandView). HasEachWorkerOnce h dealt.passes) first.same dealt.served) dealt.idle

@@ -5,7 +5,7 @@ use Rattle.std.proofs.lemmas.List.Sums.{get_or-le-sum_by, sum_by-append, sum_by-
 use Rattle.std.specs.List.{Contains, sum_by}
 use Rattle.gl_deal.specs.declared.view.HandView.{HandView}
 use Rattle.gl_deal.specs.declared.view.PassView.{PassView}
-use Rattle.gl_deal.specs.Rule.{AreServed, HasAll, IsBalanced, IsEven, IsHonest, times}
+use Rattle.gl_deal.specs.Rule.{HasEachWorkerOnce, HasSettledAll, IsBalanced, TookAllItPut, TakesForSomeone, times}
 
 -- once for one worker, where it is the other
 abbrev once : ℕ → ℕ → ℕ
@@ -58,7 +58,7 @@ below_most : (worker workers : ℕ) → below worker workers ≤ 1
 below_most worker workers = ⊎_elim (λ less. omega (arith, below_is worker workers less)) (λ more. omega (arith, below_not worker workers more)) (cases_lt worker workers)
 
 -- a worker whom a pass serves wasn't settled, and isn't the owner
-not_settled : (hand : HandView) (passes : List PassView) (k : ℕ) (d : PassView) (worker : ℕ) (rest : List ℕ) → HasAll hand → AreServed hand passes → k < length passes → (get_or passes k d).serves ≡ worker ∷ rest → ⊥
+not_settled : (hand : HandView) (passes : List PassView) (k : ℕ) (d : PassView) (worker : ℕ) (rest : List ℕ) → HasSettledAll hand → HasEachWorkerOnce hand passes → k < length passes → (get_or passes k d).serves ≡ worker ∷ rest → ⊥
 not_settled hand passes k d worker rest all served within is =
     let whole = served worker in
     let part = get_or-le-sum_by (λ (p : PassView). times worker p.serves) passes k d within in
@@ -77,13 +77,13 @@ none_there [] never = refl
 none_there (worker ∷ rest) never = absurd (never worker rest refl)
 
 -- where the hand has all, its passes serve nobody
-nobody : (hand : HandView) (passes : List PassView) → HasAll hand → AreServed hand passes → (k : ℕ) (d : PassView) → k < length passes → (get_or passes k d).serves ≡ []
+nobody : (hand : HandView) (passes : List PassView) → HasSettledAll hand → HasEachWorkerOnce hand passes → (k : ℕ) (d : PassView) → k < length passes → (get_or passes k d).serves ≡ []
 nobody hand passes all served k d within = none_there (get_or passes k d).serves (λ worker rest is. not_settled hand passes k d worker rest all served within is)
 
 -- where the hand has all, what it put weighs what it took and gathered, if the deque is empty
-pub even : (hand : HandView) (passes : List PassView) → HasAll hand → IsBalanced [] hand passes → AreServed hand passes → All IsHonest passes → IsEven hand
-even hand passes all balanced served honest weight =
+pub all_taken : (hand : HandView) (passes : List PassView) → HasSettledAll hand → IsBalanced [] hand passes → HasEachWorkerOnce hand passes → All TakesForSomeone passes → TookAllItPut hand
+all_taken hand passes all balanced served idle weight =
     let b = balanced weight in
     let none : sum_by (λ (p : PassView). sum_by weight p.taken) passes ≤ length passes * 0 = sum_by-le (λ (p : PassView). sum_by weight p.taken) 0 passes
-    (λ k d within. subst (λ cells. sum_by weight cells ≤ 0) (sym (honest k d within (nobody hand passes all served k d within))) (omega arith)) in
+    (λ k d within. subst (λ cells. sum_by weight cells ≤ 0) (sym (idle k d within (nobody hand passes all served k d within))) (omega arith)) in
     omega arith

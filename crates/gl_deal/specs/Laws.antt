@@ -1,6 +1,7 @@
--- Lemmas and no definitions: what the balance of weights says of single cells and of tuples.
-use Rattle.std.proofs.Common.{◌≡◌, ◌∙◌, sym, ap, refl, subst, ℕ, suc, ◌+◌, ◌<◌, ◌==◌, ◌&&◌, ◌⊎◌, inl, inr, ⊎_elim, Bool, true, false, true≢false, cond, List, [], ◌∷◌, length, map, get_or, All, arith}
-use Rattle.std.proofs.lemmas.Bool.{eqb-true, eq-eqb}
+-- Lemmas and no definitions: what the balance of weights says of single cells and of tuples, and
+-- what the count of workers says of the settled and the served.
+use Rattle.std.proofs.Common.{◌≡◌, ◌∙◌, sym, ap, refl, subst, ℕ, suc, ◌+◌, ◌<◌, ◌==◌, ◌&&◌, eqb, ltb, ◌≤◌, ◌⊎◌, inl, inr, ⊎_elim, Bool, true, false, true≢false, cond, List, [], ◌∷◌, length, map, get_or, All, arith}
+use Rattle.std.proofs.lemmas.Bool.{eqb-true, eq-eqb, le-ltb, lt-ltb, ne_eqb}
 use Rattle.std.proofs.lemmas.List.{get_or-map, length-map}
 use Rattle.std.proofs.lemmas.List.Sums.{sum_by-cons, get_or-le-sum_by}
 use Rattle.std.specs.List.{sum_by}
@@ -9,7 +10,7 @@ use Rattle.gl_box.specs.Cell.{holds, spans_of}
 use Rattle.gl_box.specs.Frontier.{mult}
 use Rattle.gl_deal.specs.declared.view.HandView.{HandView}
 use Rattle.gl_deal.specs.declared.view.PassView.{PassView}
-use Rattle.gl_deal.specs.Rule.{IsBalanced, IsEven}
+use Rattle.gl_deal.specs.Rule.{HasEachWorkerOnce, IsBalanced, TookAllItPut, times}
 use Rattle.gl_deal.specs.Copies.{copies, is_same}
 
 -- what spans are weighed together
@@ -56,21 +57,21 @@ pub mult-balanced : (cells : List Cell) (hand : HandView) (passes : List PassVie
 mult-balanced cells hand passes tuple = balanced-spans cells hand passes (λ cell. cond (holds cell tuple) 1 0)
 
 -- what was put was taken or gathered, by the spans of the cells
-pub even-spans : (hand : HandView) (weight : List (ℕ × ℕ) → ℕ) → IsEven hand
+pub taken-spans : (hand : HandView) (weight : List (ℕ × ℕ) → ℕ) → TookAllItPut hand
     → sum_by weight (map spans_of hand.put) ≡ sum_by weight (map spans_of hand.taken) + sum_by weight (map spans_of hand.gathered)
-even-spans hand weight even =
-    let e = even (λ cell. weight (spans_of cell)) in
+taken-spans hand weight whole =
+    let e = whole (λ cell. weight (spans_of cell)) in
     omega (arith, weighed weight hand.put, weighed weight hand.taken, weighed weight hand.gathered)
 
 -- each cell was put as often as it was taken or gathered
-pub copies-even : (hand : HandView) (cell : List (ℕ × ℕ)) → IsEven hand
+pub copies-taken : (hand : HandView) (cell : List (ℕ × ℕ)) → TookAllItPut hand
     → copies cell (map spans_of hand.put) ≡ copies cell (map spans_of hand.taken) + copies cell (map spans_of hand.gathered)
-copies-even hand cell = even-spans hand (λ other. cond (is_same cell other) 1 0)
+copies-taken hand cell = taken-spans hand (λ other. cond (is_same cell other) 1 0)
 
 -- each tuple was put as often as it was taken or gathered
-pub mult-even : (hand : HandView) (tuple : List ℕ) → IsEven hand
+pub mult-taken : (hand : HandView) (tuple : List ℕ) → TookAllItPut hand
     → mult (map spans_of hand.put) tuple ≡ mult (map spans_of hand.taken) tuple + mult (map spans_of hand.gathered) tuple
-mult-even hand tuple = even-spans hand (λ cell. cond (holds cell tuple) 1 0)
+mult-taken hand tuple = taken-spans hand (λ cell. cond (holds cell tuple) 1 0)
 
 and_parts : (x y : Bool) → (x && y) ≡ true → (x ≡ true) × (y ≡ true)
 and_parts true y both = (refl, both)
@@ -99,6 +100,10 @@ is-same (s ∷ ss) = and_both _ _ (and_both _ _ (eq-eqb s.0 s.0 refl) (eq-eqb s.
 abbrev counted : Bool → ℕ
 counted b = cond b 1 0
 
+counted-most : (b : Bool) → counted b ≤ 1
+counted-most true = omega arith
+counted-most false = omega arith
+
 either : (b : Bool) → (b ≡ true) ⊎ (b ≡ false)
 either true = inl refl
 either false = inr refl
@@ -126,18 +131,53 @@ copies-there cells k d within =
     omega arith
 
 -- what holds of each cell that was put holds of one that was taken or gathered
-held : (P : List (ℕ × ℕ) → Type 0) (hand : HandView) (cell : Cell) → IsEven hand → All (λ c. P (spans_of c)) hand.put
+held : (P : List (ℕ × ℕ) → Type 0) (hand : HandView) (cell : Cell) → TookAllItPut hand → All (λ c. P (spans_of c)) hand.put
     → 0 < copies (spans_of cell) (map spans_of hand.taken) + copies (spans_of cell) (map spans_of hand.gathered) → P (spans_of cell)
-held P hand cell even put some_ =
-    let e = copies-even hand (spans_of cell) even in
+held P hand cell whole put some_ =
+    let e = copies-taken hand (spans_of cell) whole in
     let place = copies-at (spans_of cell) (map spans_of hand.put) (omega arith) in
     let within : place.0 < length hand.put = omega (arith, place.1, length-map hand.put spans_of) in
     subst P (sym (get_or-map spans_of hand.put place.0 cell (spans_of cell) within) ∙ place.2 (spans_of cell)) (put place.0 cell within)
 
 -- what holds of each cell that was put holds of each that was taken, and of each that was gathered
-pub put-before : (P : List (ℕ × ℕ) → Type 0) (hand : HandView) → IsEven hand → All (λ cell. P (spans_of cell)) hand.put
+pub put-before : (P : List (ℕ × ℕ) → Type 0) (hand : HandView) → TookAllItPut hand → All (λ cell. P (spans_of cell)) hand.put
     → All (λ cell. P (spans_of cell)) hand.taken × All (λ cell. P (spans_of cell)) hand.gathered
-put-before P hand even put = (
-  λ k d within. held P hand (get_or hand.taken k d) even put (omega (arith, copies-there hand.taken k d within)),
-  λ k d within. held P hand (get_or hand.gathered k d) even put (omega (arith, copies-there hand.gathered k d within)),
+put-before P hand whole put = (
+  λ k d within. held P hand (get_or hand.taken k d) whole put (omega (arith, copies-there hand.taken k d within)),
+  λ k d within. held P hand (get_or hand.gathered k d) whole put (omega (arith, copies-there hand.gathered k d within)),
 )
+
+-- how often a worker was settled or is served
+abbrev settled_or_served : HandView → List PassView → ℕ → ℕ
+settled_or_served hand passes worker =
+    times worker hand.settled + sum_by (λ (pass : PassView). times worker pass.serves) passes
+
+-- the count, with the owner apart
+with_owner : (hand : HandView) (passes : List PassView) (worker : ℕ) → HasEachWorkerOnce hand passes
+    → counted (eqb hand.owner worker) + settled_or_served hand passes worker ≡ counted (ltb worker hand.workers)
+with_owner hand passes worker each =
+    let all = each worker in
+    let owner = sum_by-cons (λ other. cond (eqb other worker) 1 0) hand.owner hand.settled in
+    omega arith
+
+-- each worker but the owner was settled or is served by one pass, once
+pub served-once : (hand : HandView) (passes : List PassView) (worker : ℕ) → HasEachWorkerOnce hand passes → worker < hand.workers → (worker ≡ hand.owner → ⊥) → settled_or_served hand passes worker ≡ 1
+served-once hand passes worker each within other =
+    let all = with_owner hand passes worker each in
+    let owner : counted (eqb hand.owner worker) ≡ 0 = ap counted (ne_eqb hand.owner worker (λ same. other (sym same))) in
+    let one : counted (ltb worker hand.workers) ≡ 1 = ap counted (lt-ltb worker hand.workers within) in
+    omega arith
+
+-- the owner was not settled, and no pass serves it
+pub served-owner : (hand : HandView) (passes : List PassView) → HasEachWorkerOnce hand passes → settled_or_served hand passes hand.owner ≡ 0
+served-owner hand passes each =
+    let all = with_owner hand passes hand.owner each in
+    let owner : counted (eqb hand.owner hand.owner) ≡ 1 = ap counted (eq-eqb hand.owner hand.owner refl) in
+    omega (arith, counted-most (ltb hand.owner hand.workers))
+
+-- nobody else is a worker
+pub served-nobody : (hand : HandView) (passes : List PassView) (worker : ℕ) → HasEachWorkerOnce hand passes → hand.workers ≤ worker → settled_or_served hand passes worker ≡ 0
+served-nobody hand passes worker each beyond =
+    let all = with_owner hand passes worker each in
+    let none : counted (ltb worker hand.workers) ≡ 0 = ap counted (le-ltb worker hand.workers beyond) in
+    omega arith

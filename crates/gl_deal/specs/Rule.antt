@@ -20,33 +20,33 @@ abbrev pub times : ℕ → List ℕ → ℕ
 times worker workers = count_by (λ other. other == worker) workers
 
 -- The owner, the settled workers and those served by the passes are all the workers, each once
-abbrev pub AreServed : HandView → List PassView → Type 0
-AreServed hand passes =
+abbrev pub HasEachWorkerOnce : HandView → List PassView → Type 0
+HasEachWorkerOnce hand passes =
     (worker : ℕ)
     → times worker (hand.owner ∷ hand.settled)
     + sum_by (λ pass. times worker pass.serves) passes
     ≡ cond (nat_lt worker hand.workers) 1 0
 
 -- a pass that serves nobody has taken nothing
-abbrev pub IsHonest : PassView → Type 0
-IsHonest pass = pass.serves ≡ [] → pass.taken ≡ []
+abbrev pub TakesForSomeone : PassView → Type 0
+TakesForSomeone pass = pass.serves ≡ [] → pass.taken ≡ []
 
--- the rule of a deque that contains these cells, one hand and its passes
-pub record IsDealt (cells : List Cell) (views : List View) : Type 0 where
+-- the rule of a deque that contains these cells, and that one hand shares with its passes
+pub record IsShared (cells : List Cell) (views : List View) : Type 0 where
   pub hand : HandView
   pub passes : List PassView
   pub views_are : views ≡ OfHand hand ∷ map (λ pass. OfPass pass) passes
   pub balanced : IsBalanced cells hand passes
-  pub served : AreServed hand passes
-  pub honest : All IsHonest passes
+  pub served : HasEachWorkerOnce hand passes
+  pub idle : All TakesForSomeone passes
 
 -- the hand has gathered from all workers but the owner
-abbrev pub HasAll : HandView → Type 0
-HasAll hand =
+abbrev pub HasSettledAll : HandView → Type 0
+HasSettledAll hand =
     (worker : ℕ) → worker < hand.workers → worker ≢ hand.owner → Contains hand.settled worker
 
 -- what was put weighs what was taken and gathered, however cells are weighed
-abbrev pub IsEven : HandView → Type 0
-IsEven hand =
+abbrev pub TookAllItPut : HandView → Type 0
+TookAllItPut hand =
     (weight : Cell → ℕ)
     → sum_by weight hand.put ≡ sum_by weight hand.taken + sum_by weight hand.gathered

@@ -24,7 +24,7 @@ impl Hand {
     ghost use Rattle.std.specs.Prelude.{◌≡◌, ◌≢◌, ◌+◌, [], ◌∷◌, IfNone, IfOk, OnOk, MatchOption, MatchResult};
     ghost use Rattle.gl_deal.specs.Views.{new_hand, new_pass, partly_dealt, with_put, with_settled, with_taken};
     ghost use Rattle.gl_deal.specs.Tokens.{end_of, hand_deque, hand_view, pass_deque, pass_view};
-    ghost use Rattle.gl_deal.specs.Rule.{HasAll, IsEven};
+    ghost use Rattle.gl_deal.specs.Rule.{HasSettledAll, TookAllItPut};
 
     /// The hand of a worker who is alone. The only error is want of memory.
     pub(crate) fn alone(alloc: Global) -> Result<Hand, AllocError>
@@ -64,8 +64,8 @@ impl Hand {
         self.worker.push_as::<Puts>(cell)
     }
 
-    /// Takes the newest cell. `None` where the deque was empty at that step: once the hand has
-    /// gathered from all workers but the owner, it then took or gathered each cell as often as it
+    /// Takes the newest cell. `None` where the deque was empty at that step: once the passes of all
+    /// workers but the owner are settled, the hand then took or gathered each cell as often as it
     /// put it.
     #[inline]
     pub fn take(&mut self) -> Option<Cell>
@@ -73,13 +73,14 @@ impl Hand {
         ensures view { MatchOption result
             (hand_view self.new ≡ hand_view self.old)
             (λ cell. hand_view self.new ≡ with_taken (hand_view self.old) (cell ∷ [])) }
-        ensures even { IfNone result (HasAll (hand_view self.new) → IsEven (hand_view self.new)) }
+        ensures all { IfNone result
+            (HasSettledAll (hand_view self.new) → TookAllItPut (hand_view self.new)) }
     {
         self.worker.pop_as::<Takes>()
     }
 
-    /// Takes in a pass to this hand's deque: what the pass took and whom it served are added to
-    /// what the hand gathered.
+    /// Takes in a pass to this hand's deque: the cells that the pass took are gathered, and the
+    /// workers that it served are settled.
     pub fn settle(&mut self, pass: Pass)
         requires { pass_deque pass ≡ hand_deque self.old }
         ensures deque { hand_deque self.new ≡ hand_deque self.old }

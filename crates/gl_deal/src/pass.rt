@@ -36,6 +36,7 @@ impl Pass {
     ghost use Rattle.gl_deal.specs.Tokens.{pass_deque, pass_view};
     ghost use Rattle.gl_deal.specs.Steals.{MatchSteal};
 
+    /// A pass that serves one worker, of the deque whose token this is.
     pub(crate) fn new(
         stealer: Stealer<Cell, Global, View, Dealing>,
         token: Token<Cell, View>,

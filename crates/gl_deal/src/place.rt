@@ -1,6 +1,5 @@
 use crate::hand::Hand;
 use crate::pass::Pass;
-use std::alloc::{AllocError, Global};
 
 /// What one worker is given: its own hand, and a pass to each other deque, in the order of the
 /// workers without its own.

@@ -2,7 +2,7 @@
 ghost use Rattle.std.specs.Prelude.{◌≡◌, [], ◌∷◌};
 ghost use Rattle.gl_deal.specs.declared.view.View.TheVariants.{OfHand, OfPass};
 ghost use Rattle.gl_deal.specs.Views.{as_hand, as_pass, new_hand, new_pass, with_earlier, with_later, with_put, with_settled, with_stolen, with_taken};
-ghost use Rattle.gl_deal.specs.Rule.{HasAll, IsDealt, IsEven};
+ghost use Rattle.gl_deal.specs.Rule.{HasSettledAll, IsShared, TookAllItPut};
 
 use crate::view::View;
 use crossbeam_deque::protocol::{Join, Outcome, Protocol, Split};
@@ -12,7 +12,7 @@ use gl_box::Cell;
 pub struct Dealing;
 
 impl Protocol<Cell, View> for Dealing {
-    ghost holds = { IsDealt };
+    ghost holds = { IsShared };
 
     ghost first = { OfHand (new_hand 0 1) };
 
@@ -32,7 +32,7 @@ pub struct Takes;
 impl Outcome<Cell, View> for Takes {
     ghost then = { λ view cells after. after ≡ OfHand (with_taken (as_hand view) cells) };
 
-    ghost empty = { λ view. HasAll (as_hand view) → IsEven (as_hand view) };
+    ghost empty = { λ view. HasSettledAll (as_hand view) → TookAllItPut (as_hand view) };
 }
 
 /// A pass takes a cell.
