@@ -1,0 +1,3 @@
+pub mod PlaceLemmas
+pub mod ReachLemmas
+pub mod SiftLemmas

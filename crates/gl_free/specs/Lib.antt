@@ -1,0 +1,9 @@
+pub mod Arms
+pub mod Candidates
+pub mod Ends
+pub mod Farthest
+pub mod Places
+pub mod Reach
+pub use Rattle.gl_box.specs.Cell
+pub use Rattle.gl_box.specs.Tuple
+pub use Rattle.gl_hull.specs.Near

@@ -1,0 +1,11 @@
+use crate::far::Far;
+use gl_box::Span;
+
+/// A span of inner fixes with the farthest end from it, and what both legs on that side of the
+/// middle span are at most, with one more.
+#[derive(Clone, Copy, Debug)]
+pub(crate) struct Candidate {
+    pub span: Span,
+    pub far: Far,
+    pub most: u64,
+}

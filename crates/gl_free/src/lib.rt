@@ -1,0 +1,12 @@
+//! The optimum alone: the greatest free distance of a goal, found without keeping boxes, in memory
+//! linear in the fixes.
+#![tactic(auto)]
+
+mod arm;
+mod candidate;
+mod ends;
+mod far;
+mod flank;
+mod known;
+mod node;
+mod side;
