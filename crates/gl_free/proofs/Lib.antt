@@ -1,3 +1,5 @@
 pub mod PlaceLemmas
 pub mod ReachLemmas
+pub mod ChoiceLemmas
+pub mod SearchLemmas
 pub mod SiftLemmas

@@ -1,9 +1,11 @@
 pub mod Arms
 pub mod Candidates
+pub mod Choices
 pub mod Ends
 pub mod Farthest
 pub mod Places
 pub mod Reach
+pub mod Search
 pub use Rattle.gl_box.specs.Cell
 pub use Rattle.gl_box.specs.Tuple
 pub use Rattle.gl_hull.specs.Near

@@ -15,3 +15,10 @@ pub(crate) struct Arm {
     pub inner: u32,
     pub end: u32,
 }
+
+/// The greatest legs on both sides of a middle span.
+#[derive(Clone, Copy, Debug)]
+pub(crate) struct Arms {
+    pub before: Arm,
+    pub after: Arm,
+}

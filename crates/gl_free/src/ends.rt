@@ -11,6 +11,13 @@ pub(crate) struct Ends {
     pub highest: i32,
 }
 
+/// The ends that are allowed on both sides.
+#[derive(Clone, Copy, Debug)]
+pub(crate) struct Sides {
+    pub before: Ends,
+    pub after: Ends,
+}
+
 impl Ends {
     /// Whether some altitude of a hull is allowed.
     #[inline]

@@ -4,9 +4,12 @@
 
 mod arm;
 mod candidate;
+mod choice;
 mod ends;
 mod far;
 mod flank;
 mod known;
 mod node;
+mod pair;
+mod search;
 mod side;

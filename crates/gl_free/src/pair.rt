@@ -1,0 +1,6 @@
+/// A first and a last fix of which the last is too low.
+#[derive(Clone, Copy, Debug)]
+pub(crate) struct Pair {
+    pub first: u32,
+    pub last: u32,
+}
