@@ -1,4 +1,5 @@
 pub mod PlaceLemmas
+pub mod RangeLemmas
 pub mod ReachLemmas
 pub mod ChoiceLemmas
 pub mod SearchLemmas

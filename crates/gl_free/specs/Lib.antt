@@ -4,6 +4,7 @@ pub mod Choices
 pub mod Ends
 pub mod Farthest
 pub mod Places
+pub mod Ranges
 pub mod Reach
 pub mod Search
 pub use Rattle.gl_box.specs.Cell

@@ -2,6 +2,7 @@
 //! linear in the fixes.
 #![tactic(auto)]
 
+mod altitudes;
 mod arm;
 mod candidate;
 mod choice;
@@ -11,5 +12,7 @@ mod flank;
 mod known;
 mod node;
 mod pair;
+mod ranges;
+mod run;
 mod search;
 mod side;

@@ -102,7 +102,7 @@ impl Search {
     /// Looks for better choices with their middle fix in a span, among the candidates of two parts.
     /// Stops at ends of which the last is too low, and answers them. The only error is want of
     /// memory.
-    fn middle(
+    pub(crate) fn middle(
         &mut self,
         goal: &FreeGoal,
         hulls: &Hulls,
