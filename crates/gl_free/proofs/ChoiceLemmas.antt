@@ -2,9 +2,11 @@
 use Rattle.std.proofs.Common.{◌≡◌, ◌∙◌, ap, sym, refl, subst, ℕ, suc, true, false, ⊎_elim, ◌+◌, ◌-◌, ◌*◌, ◌<◌, ◌≤◌, ◌^◌, List, [], ◌∷◌, length, get_or, Some, slice_get, ℤ, ◌-ℤ◌, ◌≤ℤ◌, ◌<ℤ◌, arith}
 use Rattle.std.specs.Prelude.{IsTrue, int_le, unsigned_abs}
 use Rattle.std.specs.List.{cons_option}
-use Rattle.std.proofs.lemmas.Bool.{cases_Bool}
+use Rattle.std.proofs.lemmas.Bool.{cases_Bool, cases_lt}
 use Rattle.std.proofs.lemmas.Int.{ints}
 use Rattle.std.proofs.lemmas.Option.{get_or_from_slice_get}
+use Rattle.gl_box.specs.Tuple.{places_of}
+use Rattle.gl_plain.specs.declared.found.Best.{Best}
 use Rattle.gl_igc.specs.declared.fix.Fix.{Fix}
 use Rattle.gl_sphere.specs.declared.place.Vec3.{Vec3}
 use Rattle.gl_sphere.specs.Distance.{squared_chord, squared_gap, written_distance}
@@ -12,14 +14,16 @@ use Rattle.gl_goal.specs.declared.free.FreeGoal.{FreeGoal}
 use Rattle.gl_goal.specs.Chain.{fixes_at, legs, points_of}
 use Rattle.gl_goal.specs.Free.{five_axes, fixes_between, free_goal, numbers_between}
 use Rattle.gl_goal.specs.FreeGoal.{rule_of}
-use Rattle.gl_goal.specs.Rule.{IsInTimeOrder, IsLegal, IsTuple, chosen, value}
+use Rattle.gl_goal.specs.Rule.{IsInTimeOrder, IsLegal, IsOptimum, IsTuple, chosen, value}
 use Rattle.gl_goal.specs.Laws.Chain.{length-fixes_at, named, named_at}
 use Rattle.gl_goal.specs.Laws.Free.{free_goal-is_goal, get_or-numbers_from, length-numbers_between, numbers_between-named}
 use Rattle.gl_goal.proofs.Fives.{five_places}
-use Rattle.gl_goal.proofs.FreeLosses.{legal-by_loss}
+use Rattle.gl_goal.proofs.FreeLosses.{legal-by_loss, stay_legal}
 use Rattle.gl_free.specs.Arms.{arm_length}
 use Rattle.gl_free.specs.Choices.{AreInOrder}
 use Rattle.gl_free.specs.Places.{altitude_at, chord, leg}
+use Rattle.gl_free.specs.Ranges.{IsBetterChoice}
+use Rattle.gl_free.specs.Search.{IsValid}
 use Rattle.gl_free.proofs.PlaceLemmas.{altitude-is, chord-is}
 
 -- how many places there are
@@ -40,16 +44,22 @@ fix-at g place below =
     let same : other.0 ≡ fix.0 = sym (get_or_from_slice_get g.hulls place other.0 fix.0 other.1) ∙ ap (λ (list : List Fix). get_or list place fix.0) g.hulled ∙ fix.2 in
     (fix.0, ap (λ (n : ℕ). slice_get g.fixes.items n) (sym number) ∙ fix.1, other.1 ∙ ap Some same)
 
--- five places in time order are a tuple
-pub order-tuple : (g : FreeGoal) (a b c d e : ℕ) → AreInOrder (length g.hulls) a b c d e → IsTuple (rule_of g).axes (a ∷ b ∷ c ∷ d ∷ e ∷ [])
+-- five places are a tuple
+pub within-tuple : (g : FreeGoal) (a b c d e : ℕ) → a < length g.hulls → b < length g.hulls → c < length g.hulls → d < length g.hulls → e < length g.hulls → IsTuple (rule_of g).axes (a ∷ b ∷ c ∷ d ∷ e ∷ [])
 unfolding free_goal
-order-tuple g a b c d e order =
+within-tuple g a b c d e ha hb hc hd he =
     let size : length (numbers_between g.first g.last) ≡ length g.hulls = omega (arith, count-is g, length-numbers_between g.first g.last) in
-    (omega (arith, order.second_later, order.third_later, order.fourth_later, order.last_later, order.within),
-    (omega (arith, order.third_later, order.fourth_later, order.last_later, order.within),
-    (omega (arith, order.fourth_later, order.last_later, order.within),
-    (omega (arith, order.last_later, order.within),
-    (omega (arith, order.within), tt)))))
+    (omega arith, (omega arith, (omega arith, (omega arith, (omega arith, tt)))))
+
+-- and so are five places in time order
+pub order-tuple : (g : FreeGoal) (a b c d e : ℕ) → AreInOrder (length g.hulls) a b c d e → IsTuple (rule_of g).axes (a ∷ b ∷ c ∷ d ∷ e ∷ [])
+order-tuple g a b c d e order =
+    within-tuple g a b c d e
+    (omega (arith, order.second_later, order.third_later, order.fourth_later, order.last_later, order.within))
+    (omega (arith, order.third_later, order.fourth_later, order.last_later, order.within))
+    (omega (arith, order.fourth_later, order.last_later, order.within))
+    (omega (arith, order.last_later, order.within))
+    order.within
 
 -- the distance of two places that is the leg between them
 leg-is : (g : FreeGoal) (i j : ℕ) (f h : Fix) → slice_get g.hulls i ≡ Some f → slice_get g.hulls j ≡ Some h → written_distance (squared_chord f.at h.at) ≡ leg g.hulls i j
@@ -128,3 +138,64 @@ illegal-low g a b c d e order illegal =
 pub chosen-worth : (g : FreeGoal) (a b c d e : ℕ) → AreInOrder (length g.hulls) a b c d e → value (rule_of g) (a ∷ b ∷ c ∷ d ∷ e ∷ []) ≡ arm_length g.hulls c b a + arm_length g.hulls c d e
 chosen-worth g a b c d e order =
     omega (arith, value-legs g (a ∷ b ∷ c ∷ d ∷ e ∷ []) (order-tuple g a b c d e order), leg-turned g.hulls c d (omega (arith, order.fourth_later, order.last_later, order.within)) (omega (arith, order.last_later, order.within)), leg-turned g.hulls d e (omega (arith, order.last_later, order.within)) order.within)
+
+-- staying at the first fix is legal
+pub stay-valid : (g : FreeGoal) (best : Best) → places_of best.tuple ≡ 0 ∷ 0 ∷ 0 ∷ 0 ∷ 0 ∷ [] → best.total ≡ value (rule_of g) (places_of best.tuple) → IsValid (rule_of g) best
+stay-valid g best is worth =
+    let legal = stay_legal g.fixes.items g.first g.last g.loss (omega (arith, g.in_order, g.within)) g.loss_from_zero in
+    let here = subst (IsLegal (rule_of g)) (sym is) legal in
+    record {
+      reached = record { legal = here; worth = sym worth };
+      limited = omega (arith, worth, value-limited g (places_of best.tuple) here.is_tuple);
+    }
+
+-- a legal tuple that is worth more than what was found is a better choice
+pub legal-better : (g : FreeGoal) (found : ℕ) (tuple : List ℕ) → IsLegal (rule_of g) tuple → found < value (rule_of g) tuple → IsBetterChoice g.hulls g.loss found
+unfolding free_goal
+legal-better g found tuple legal more =
+    let five = five_places g.first g.last tuple g.in_order legal.is_tuple in
+    let a = get_or tuple 0 0 in
+    let b = get_or tuple 1 0 in
+    let c = get_or tuple 2 0 in
+    let d = get_or tuple 3 0 in
+    let e = get_or tuple 4 0 in
+    let count = count-is g in
+    let in_order : IsInTimeOrder ((g.first + a) ∷ (g.first + b) ∷ (g.first + c) ∷ (g.first + d) ∷ (g.first + e) ∷ []) = subst IsInTimeOrder five.chosen legal.in_order in
+    let order : AreInOrder (length g.hulls) a b c d e = record {
+      second_later = omega (arith, in_order.0);
+      third_later = omega (arith, in_order.1.0);
+      fourth_later = omega (arith, in_order.1.1.0);
+      last_later = omega (arith, in_order.1.1.1.0);
+      within = omega (arith, five.within 4 (omega arith), count);
+    } in
+    let first = fix-at g a (omega (arith, five.within 0 (omega arith), count)) in
+    let last = fix-at g e (omega (arith, five.within 4 (omega arith), count)) in
+    let numbers = (g.first + a) ∷ (g.first + b) ∷ (g.first + c) ∷ (g.first + d) ∷ (g.first + e) ∷ [] in
+    let by_loss = legal-by_loss g tuple numbers first.0 last.0 legal.is_tuple (sym five.chosen) in_order first.1 last.1 in
+    let lost = within-limit (first.0.alt -ℤ last.0.alt) g.loss (by_loss.1 legal) in
+    record {
+      first = a;
+      second = b;
+      third = c;
+      fourth = d;
+      last = e;
+      order = order;
+      within = subst (λ (z : ℤ). z ≤ℤ g.loss) (λ i. sym (altitude-is g.hulls a first.0 first.2) i -ℤ sym (altitude-is g.hulls e last.0 last.2) i) lost;
+      more = omega (arith, more, value-legs g tuple legal.is_tuple, leg-turned g.hulls c d (omega (arith, order.fourth_later, order.last_later, order.within)) (omega (arith, order.last_later, order.within)), leg-turned g.hulls d e (omega (arith, order.last_later, order.within)) order.within);
+    }
+
+-- where no better choice is left, what was found is the optimum
+pub optimum-found : (g : FreeGoal) (best : Best) → IsValid (rule_of g) best → (IsBetterChoice g.hulls g.loss best.total → ⊥) → IsOptimum (rule_of g) (Some best.total)
+optimum-found g best valid none = (
+  (places_of best.tuple, valid.reached),
+  λ tuple legal. ⊎_elim
+      (λ (more : best.total < value (rule_of g) tuple). absurd (none (legal-better g best.total tuple legal more)))
+      (λ (less : value (rule_of g) tuple ≤ best.total). less)
+      (cases_lt best.total (value (rule_of g) tuple)),
+)
+
+-- a goal has some places, and not too many
+pub count-bounds : (g : FreeGoal) (hulls : List Fix) → hulls ≡ fixes_between g.fixes.items g.first g.last → (0 < length hulls) × (length hulls ≤ 90000)
+count-bounds g hulls is =
+    let same = ap length (is ∙ sym g.hulled) in
+    (omega (arith, same, count-is g), omega (arith, same, count-is g, g.within, g.in_order, g.at_most_90000))

@@ -163,3 +163,14 @@ split-at range lower upper between from below above to = record {
       (cases_Bool (int_le altitude between));
   less = omega (arith, ints, lower.ordered, upper.ordered);
 }
+
+-- a range of all altitudes leaves nothing out
+pub left-whole : (fixes : List Fix) (loss : ℤ) (found : ℕ) (old new : List Altitudes) (all : Altitudes) → new ≡ old ++ all ∷ [] → ((place : ℕ) → place < length fixes → IsIn all (altitude_at fixes place)) → AreLeft fixes loss found new
+left-whole fixes loss found old new all is inside better =
+    let order = better.order in
+    let P : Altitudes → Type 0 = λ (r : Altitudes). IsIn r (altitude_at fixes better.first) in
+    subst (λ (list : List Altitudes). Any P list) (sym is) (any-last P old all (inside better.first (omega (arith, order.second_later, order.third_later, order.fourth_later, order.last_later, order.within))))
+
+-- and where no range is left, nothing is
+pub left-none : (fixes : List Fix) (loss : ℤ) (found : ℕ) (ranges : List Altitudes) → length ranges ≡ 0 → AreLeft fixes loss found ranges → IsBetterChoice fixes loss found → ⊥
+left-none fixes loss found ranges empty left better = omega (arith, (left better).2)

@@ -1,6 +1,7 @@
-ghost use Rattle.std.specs.Prelude.{◌≡◌, ◌+◌, ◌<◌, ◌≤◌, ◌-ℤ◌, ◌<ℤ◌, length, MatchOption};
+ghost use Rattle.std.specs.Prelude.{◌≡◌, ◌↔◌, ◌+◌, ◌≤◌, IsTrue, length, MatchOption};
 ghost use Rattle.gl_box.specs.Tuple.{places_of};
 ghost use Rattle.gl_goal.specs.FreeGoal.{rule_of};
+ghost use Rattle.gl_goal.specs.Rule.{IsLegal, IsTuple, value};
 ghost use Rattle.gl_free.specs.Arms.{arm_length};
 ghost use Rattle.gl_free.specs.Choices.{AreInOrder, IsLow};
 ghost use Rattle.gl_free.specs.Search.{IsValid};
@@ -22,6 +23,29 @@ pub(crate) fn tuple_of(places: [u32; 5]) -> Tuple
     }
 }
 
+/// Keeps a choice where it is legal and worth more than what was found. Answers whether it is legal.
+pub(crate) fn keep(goal: &FreeGoal, tuple: &Tuple, best: &mut Best) -> bool
+    requires fits { IsTuple (rule_of goal.now).axes (places_of tuple.now) }
+    requires valid { IsValid (rule_of goal.now) best.old }
+    ensures legal { IsTrue result ↔ IsLegal (rule_of goal.now) (places_of tuple.now) }
+    ensures valid { IsValid (rule_of goal.now) best.new }
+    ensures raised { best.old.total ≤ best.new.total }
+    ensures worth { IsTrue result
+        → value (rule_of goal.now) (places_of tuple.now) ≤ best.new.total }
+{
+    if !goal.legal(tuple) {
+        return false;
+    }
+    let total = goal.value(tuple);
+    if total > best.total {
+        *best = Best {
+            total,
+            tuple: *tuple,
+        };
+    }
+    true
+}
+
 /// Keeps the choice of a middle fix and the arms on both sides of it, where it is legal and worth
 /// more than what was found. Where it isn't legal, its ends are the answer.
 pub(crate) fn choose(goal: &FreeGoal, best: &mut Best, middle: u32, arms: Arms) -> Option<Pair>
@@ -37,16 +61,11 @@ pub(crate) fn choose(goal: &FreeGoal, best: &mut Best, middle: u32, arms: Arms) 
 {
     let Arms { before, after } = arms;
     let tuple = tuple_of([before.end, before.inner, middle, after.inner, after.end]);
-    if !goal.legal(&tuple) {
-        return Some(Pair {
-            first: before.end,
-            last: after.end,
-        });
+    if keep(goal, &tuple, best) {
+        return None;
     }
-    let total = goal.value(&tuple);
-    if total > best.total {
-        *best = Best { total, tuple };
-    }
-    None
+    Some(Pair {
+        first: before.end,
+        last: after.end,
+    })
 }
-

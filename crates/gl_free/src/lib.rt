@@ -4,6 +4,7 @@
 
 mod altitudes;
 mod arm;
+mod best;
 mod candidate;
 mod choice;
 mod ends;
@@ -16,3 +17,7 @@ mod ranges;
 mod run;
 mod search;
 mod side;
+mod stages;
+mod warm;
+
+pub use best::best_free;

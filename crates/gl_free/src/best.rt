@@ -1,0 +1,56 @@
+ghost use Rattle.std.specs.Prelude.{◌<◌, ◌≤◌, ℕ, length, IfOk, Some};
+ghost use Rattle.gl_box.specs.Tuple.{places_of};
+ghost use Rattle.gl_goal.specs.FreeGoal.{rule_of};
+ghost use Rattle.gl_goal.specs.Rule.{IsOptimum, IsReached};
+ghost use Rattle.gl_free.specs.Places.{altitude_at};
+ghost use Rattle.gl_free.specs.Ranges.{IsIn};
+
+use crate::altitudes::Altitudes;
+use crate::flank::Flank;
+use crate::ranges::advance;
+use crate::search::Search;
+use crate::warm::warm_start;
+use gl_box::Span;
+use gl_goal::FreeGoal;
+use gl_hull::Hulls;
+use gl_plain::Best;
+use std::alloc::{AllocError, Global};
+
+/// Room for ranges of altitudes.
+const RANGES_ROOM: usize = 64;
+
+/// The altitudes of all fixes.
+fn all_altitudes(hulls: &Hulls) -> Altitudes
+    requires some { 0 < length hulls.now }
+    requires few { length hulls.now ≤ 90_000 }
+    ensures { (place : ℕ) → place < length hulls.now → IsIn result (altitude_at hulls.now place) }
+{
+    let whole = hulls.hull(Span {
+        lo: 0,
+        hi: (hulls.len() - 1) as u32,
+    });
+    Altitudes {
+        lowest: whole.alt_lo,
+        highest: whole.alt_hi,
+    }
+}
+
+/// The greatest free distance of a goal, with a tuple that reaches it. Keeps no boxes. The only
+/// error is want of memory.
+pub fn best_free(alloc: Global, goal: &FreeGoal) -> Result<Best, AllocError>
+    ensures reached { IfOk result (λ best. IsReached (rule_of goal.now) best.total (places_of best.tuple)) }
+    ensures optimum { IfOk result (λ best. IsOptimum (rule_of goal.now) (Some best.total)) }
+{
+    let hulls = goal.hulls();
+    let mut search = Search {
+        before: Flank::new(alloc, hulls.len())?,
+        after: Flank::new(alloc, hulls.len())?,
+        best: warm_start(alloc, goal)?,
+    };
+    let mut ranges = Vec::with_capacity(alloc, RANGES_ROOM)?;
+    ranges.push(all_altitudes(hulls))?;
+    while let Some(range) = ranges.pop() {
+        advance(goal, hulls, &mut search, &mut ranges, range)?;
+    }
+    Ok(search.best)
+}
