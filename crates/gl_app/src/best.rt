@@ -1,23 +1,24 @@
-ghost use Rattle.std.specs.Prelude.{IfOk};
-ghost use Rattle.gl_app.specs.Best.{IsBestOf};
+ghost use Rattle.std.specs.Prelude.{IfOk, Some};
+ghost use Rattle.gl_box.specs.Tuple.{places_of};
+ghost use Rattle.gl_goal.specs.Rule.{IsOptimum, IsReached};
+ghost use Rattle.gl_app.specs.Best.{IsBestText};
 
 use crate::texts::distance_lines;
 use gl_goal::{Goal, fix_numbers};
-use gl_plain::search_one;
+use gl_plain::Best;
 use std::alloc::{AllocError, Global};
 
-/// The two lines of the best of a goal, behind a word; `None` where no choice of fixes is legal.
+/// The two lines of the best of a goal, after a word.
 pub fn best_lines<G: Goal>(
     alloc: Global,
     word: &str,
     goal: &G,
-) -> Result<Option<Vec<u8>>, AllocError>
-    ensures { IfOk result (IsBestOf (G.rule goal.now) word.now) }
+    best: &Best,
+) -> Result<Vec<u8>, AllocError>
+    requires reached { IsReached (G.rule goal.now) best.now.total (places_of best.now.tuple) }
+    requires optimum { IsOptimum (G.rule goal.now) (Some best.now.total) }
+    ensures { IfOk result (λ text. IsBestText (G.rule goal.now) word.now text.items) }
 {
-    let found = search_one(alloc, goal)?;
-    let Some(best) = found.best else {
-        return Ok(None);
-    };
     let numbers = fix_numbers(alloc, goal, &best.tuple)?;
-    Ok(Some(distance_lines(alloc, word, best.total, &numbers)?))
+    distance_lines(alloc, word, best.total, &numbers)
 }

@@ -3,6 +3,7 @@ ghost use Rattle.gl_igc.specs.Recording.{reading_of};
 ghost use Rattle.gl_app.specs.Free.{IsFreeText};
 
 use crate::best::best_lines;
+use gl_free::best_free;
 use gl_goal::FreeGoal;
 use gl_igc::Recording;
 use std::alloc::{AllocError, Global};
@@ -17,8 +18,6 @@ pub fn free_of_recording(alloc: Global, recording: &Recording) -> Result<Vec<u8>
     let fixes = recording.fixes.as_slice();
     let last = fixes.len() - 1;
     let goal = FreeGoal::new(alloc, fixes, 0, last as u32, MOST_LOSS)?;
-    let Some(text) = best_lines(alloc, "FREE", &goal)? else {
-        unreachable!()
-    };
-    Ok(text)
+    let best = best_free(alloc, &goal)?;
+    best_lines(alloc, "FREE", &goal, &best)
 }

@@ -6,6 +6,7 @@ use crate::best::best_lines;
 use crate::texts::no_flight;
 use gl_goal::TriangleGoal;
 use gl_igc::Recording;
+use gl_triangle::best_triangle;
 use std::alloc::{AllocError, Global};
 
 /// How near the end of the flight has to come to its beginning, in centimetres.
@@ -18,8 +19,8 @@ pub fn triangle_of_recording(alloc: Global, recording: &Recording) -> Result<Vec
     let fixes = recording.fixes.as_slice();
     let last = fixes.len() - 1;
     let goal = TriangleGoal::new(alloc, fixes, 0, last as u32, CLOSING)?;
-    match best_lines(alloc, "TRIANGLE", &goal)? {
-        Some(text) => Ok(text),
+    match best_triangle(alloc, &goal)? {
+        Some(best) => best_lines(alloc, "TRIANGLE", &goal, &best),
         None => no_flight(alloc),
     }
 }
