@@ -1,5 +1,5 @@
 -- How near the estimate of a quotient by an inverse comes.
-use Rattle.std.proofs.Common.{◌≡◌, ℕ, ◌+◌, ◌-◌, ◌*◌, ◌/◌, ◌%◌, ◌<◌, ◌≤◌, Bool, true, false, leb, sym, ap, ◌∙◌, arith}
+use Rattle.std.proofs.Common.{◌≡◌, ℕ, ◌+◌, ◌-◌, ◌*◌, ◌/◌, ◌%◌, ◌<◌, ◌≤◌, Bool, true, false, leb, sym, arith}
 use Rattle.std.proofs.lemmas.Bool.{leb-true, leb-false}
 use mir.Val.{bool_byte}
 use Rattle.std.proofs.lemmas.Nat.{div-add-mod', mod_below}

@@ -1,4 +1,4 @@
-use Rattle.std.proofs.Common.{◌≡◌, ◌≤◌, ◌+◌, ℕ, ℤ, subst, arith}
+use Rattle.std.proofs.Common.{◌≡◌, ◌≤◌, ℕ, ℤ, subst, arith}
 use Rattle.gl_sphere.specs.declared.series.Series.{Series}
 use Rattle.gl_sphere.specs.Series.{IsSummed}
 use Rattle.gl_sphere.proofs.sine.four_sines.Goals as goal

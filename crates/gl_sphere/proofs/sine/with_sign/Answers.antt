@@ -1,5 +1,5 @@
-use Rattle.std.proofs.Common.{◌≡◌, pos, ◌<ℤ◌, ◌≤ℤ◌, arith}
-use Rattle.std.proofs.lemmas.Int.{ints, to_z-of_z}
+use Rattle.std.proofs.Common.{pos, ◌<ℤ◌, ◌≤ℤ◌, arith}
+use Rattle.std.proofs.lemmas.Int.{ints}
 use Rattle.gl_sphere.specs.Laws.Signs.{written_sine-negative, written_sine-natural}
 use Rattle.gl_sphere.proofs.sine.with_sign.Goals as goal
 

@@ -1,5 +1,5 @@
-use Rattle.std.proofs.Common.{◌≡◌, ℕ, ap, ◌∙◌, refl, arith}
-use Rattle.gl_sphere.specs.Sine.{radians, sine_sum}
+use Rattle.std.proofs.Common.{◌∙◌, refl}
+use Rattle.gl_sphere.specs.Sine.{radians}
 use Rattle.gl_sphere.specs.Laws.Series.{quarter_sine-sum}
 use Rattle.gl_sphere.proofs.series.Series.sine.Goals as goal
 
