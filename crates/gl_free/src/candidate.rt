@@ -9,3 +9,10 @@ pub(crate) struct Candidate {
     pub far: Far,
     pub most: u64,
 }
+
+/// A span of inner fixes that is to be looked at, with the farthest end from a span that holds it.
+#[derive(Clone, Copy, Debug)]
+pub(crate) struct Inner {
+    pub span: Span,
+    pub far: Far,
+}

@@ -7,7 +7,7 @@ ghost use Rattle.gl_free.specs.Candidates.{IsAmong, IsCandidate, IsFlank, IsPart
 ghost use Rattle.gl_free.specs.Farthest.{IsBeyond, IsFarthest, IsNode};
 
 use crate::arm::{Arm, Part};
-use crate::candidate::Candidate;
+use crate::candidate::{Candidate, Inner};
 use crate::ends::Ends;
 use crate::far::{Far, farthest};
 use crate::known::Known;
@@ -136,29 +136,28 @@ impl Flank {
     }
 
     /// Keeps what of a span may have legs above the need, split until it is no wider than the
-    /// middle. `above` is the farthest end from a span that holds this one. The only error is want
-    /// of memory.
+    /// middle. The only error is want of memory.
     fn put(
         &mut self,
         hulls: &Hulls,
         allowed: &Ends,
         middle: &Node,
         need: u64,
-        span: Span,
-        above: Far,
+        inner: Inner,
         arm: &mut Arm,
     ) -> Result<(), AllocError>
         requires flank { IsFlank hulls.now self.old }
         requires middle { IsNode hulls.now middle.now }
-        requires inside { span.hi < length hulls.now }
-        requires above { IsBeyond hulls.now allowed.now (ends span) above.value }
-        requires limited { above.value ≤ 2 ^ 40 }
+        requires inside { inner.span.hi < length hulls.now }
+        requires beyond { IsBeyond hulls.now allowed.now (ends inner.span) inner.far.value }
+        requires limited { inner.far.value ≤ 2 ^ 40 }
         requires top { IsTop hulls.now allowed.now (ends middle.now.span) arm.old }
         ensures flank { OnOk result (IsFlank hulls.now self.new) }
         ensures sifts { OnOk result (Sifts hulls.now allowed.now (ends middle.now.span) need
-            (IsPlaceOf (ends span)) self.old.candidates.items self.new.candidates.items
+            (IsPlaceOf (ends inner.span)) self.old.candidates.items self.new.candidates.items
             arm.old.most arm.new) }
     {
+        let Inner { span, far: above } = inner;
         if allowed.side.is_out(span, middle.span) {
             return Ok(());
         }
@@ -177,8 +176,8 @@ impl Flank {
             return Ok(());
         }
         let (lower, upper) = halves(span);
-        self.put(hulls, allowed, middle, need, lower, far, arm)?;
-        self.put(hulls, allowed, middle, need, upper, far, arm)?;
+        self.put(hulls, allowed, middle, need, Inner { span: lower, far }, arm)?;
+        self.put(hulls, allowed, middle, need, Inner { span: upper, far }, arm)?;
         Ok(())
     }
 
@@ -209,8 +208,8 @@ impl Flank {
         }
         if span.width() > middle.span.width() {
             let (lower, upper) = halves(span);
-            self.put(hulls, allowed, middle, need, lower, far, arm)?;
-            self.put(hulls, allowed, middle, need, upper, far, arm)?;
+            self.put(hulls, allowed, middle, need, Inner { span: lower, far }, arm)?;
+            self.put(hulls, allowed, middle, need, Inner { span: upper, far }, arm)?;
             return Ok(());
         }
         let most = far.value + middle.leg_from(hulls, span);

@@ -18,6 +18,8 @@ mod run;
 mod search;
 mod side;
 mod stages;
+#[cfg(test)]
+mod tests;
 mod warm;
 
 pub use best::best_free;
