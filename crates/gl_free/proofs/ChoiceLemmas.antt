@@ -1,5 +1,5 @@
 -- The tuples of a free goal, as choices of five places.
-use Rattle.std.proofs.Common.{◌≡◌, ◌∙◌, ap, sym, refl, subst, ℕ, suc, true, false, ⊎_elim, ◌+◌, ◌-◌, ◌*◌, ◌<◌, ◌≤◌, ◌^◌, List, [], ◌∷◌, length, get_or, Some, slice_get, ℤ, ◌-ℤ◌, ◌≤ℤ◌, ◌<ℤ◌, arith}
+use Rattle.std.proofs.Common.{◌≡◌, ◌∙◌, ap, sym, subst, ℕ, suc, true, false, ⊎_elim, ◌+◌, ◌-◌, ◌*◌, ◌<◌, ◌≤◌, ◌^◌, List, [], ◌∷◌, length, get_or, Some, slice_get, ℤ, ◌-ℤ◌, ◌≤ℤ◌, ◌<ℤ◌, arith}
 use Rattle.std.specs.Prelude.{IsTrue, int_le, unsigned_abs}
 use Rattle.std.specs.List.{cons_option}
 use Rattle.std.proofs.lemmas.Bool.{cases_Bool, cases_lt}
@@ -21,7 +21,7 @@ use Rattle.gl_goal.proofs.Fives.{five_places}
 use Rattle.gl_goal.proofs.FreeLosses.{legal-by_loss, stay_legal}
 use Rattle.gl_free.specs.Arms.{arm_length}
 use Rattle.gl_free.specs.Choices.{AreInOrder}
-use Rattle.gl_free.specs.Places.{altitude_at, chord, leg}
+use Rattle.gl_free.specs.Places.{altitude_at, leg}
 use Rattle.gl_free.specs.Ranges.{IsBetterChoice}
 use Rattle.gl_free.specs.Search.{IsValid}
 use Rattle.gl_free.proofs.PlaceLemmas.{altitude-is, chord-is}
@@ -129,9 +129,9 @@ illegal-low g a b c d e order illegal =
     let in_order : IsInTimeOrder numbers = (omega (arith, order.second_later), (omega (arith, order.third_later), (omega (arith, order.fourth_later), (omega (arith, order.last_later), tt)))) in
     let by_loss = legal-by_loss g (a ∷ b ∷ c ∷ d ∷ e ∷ []) numbers first.0 last.0 fits (sym five.chosen) in_order first.1 last.1 in
     let lost : g.loss <ℤ (first.0.alt -ℤ last.0.alt) = ⊎_elim
-        (λ (within : int_le (first.0.alt -ℤ last.0.alt) g.loss ≡ true). absurd (illegal (by_loss.0 within)))
-        (λ (past : int_le (first.0.alt -ℤ last.0.alt) g.loss ≡ false). past-limit (first.0.alt -ℤ last.0.alt) g.loss past)
-        (cases_Bool (int_le (first.0.alt -ℤ last.0.alt) g.loss)) in
+    (λ (within : int_le (first.0.alt -ℤ last.0.alt) g.loss ≡ true). absurd (illegal (by_loss.0 within)))
+    (λ (past : int_le (first.0.alt -ℤ last.0.alt) g.loss ≡ false). past-limit (first.0.alt -ℤ last.0.alt) g.loss past)
+    (cases_Bool (int_le (first.0.alt -ℤ last.0.alt) g.loss)) in
     subst (λ (z : ℤ). g.loss <ℤ z) (λ i. sym (altitude-is g.hulls a first.0 first.2) i -ℤ sym (altitude-is g.hulls e last.0 last.2) i) lost
 
 -- five places in time order are worth the two arms from the third

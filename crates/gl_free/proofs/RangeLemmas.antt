@@ -1,5 +1,5 @@
 -- A run over a range of altitudes, and what is left to run over.
-use Rattle.std.proofs.Common.{◌≡◌, ◌∙◌, true, false, ap, sym, refl, subst, ℕ, ◌+◌, ◌-◌, ◌*◌, ◌<◌, ◌≤◌, ◌⊎◌, inl, inr, ⊎_elim, List, [], ◌∷◌, ◌++◌, length, take, get_or, Option, None, Some, slice_get, ℤ, pos, neg_ℤ, ◌+ℤ◌, ◌-ℤ◌, ◌<ℤ◌, ◌≤ℤ◌, MatchOption, arith}
+use Rattle.std.proofs.Common.{◌≡◌, ◌∙◌, true, false, ap, sym, subst, ℕ, ◌+◌, ◌<◌, ◌≤◌, ◌⊎◌, inl, inr, ⊎_elim, List, [], ◌∷◌, ◌++◌, length, take, get_or, Option, None, Some, slice_get, ℤ, pos, neg_ℤ, ◌+ℤ◌, ◌-ℤ◌, ◌≤ℤ◌, arith}
 use Rattle.std.specs.Prelude.{Any, int_le}
 use Rattle.std.specs.Int.{int_min}
 use Rattle.std.proofs.lemmas.Bool.{cases_Bool, cases_lt}
@@ -8,7 +8,6 @@ use Rattle.std.proofs.lemmas.List.{length-append}
 use Rattle.std.proofs.Math.ListN.{get_or-append}
 use Rattle.std.proofs.Math.Seq.{get_or-append_seam}
 use Rattle.gl_igc.specs.declared.fix.Fix.{Fix}
-use Rattle.gl_hull.specs.Near.{IsPlaceOf}
 use Rattle.gl_free.specs.declared.altitudes.Altitudes.{Altitudes}
 use Rattle.gl_free.specs.declared.arm.Part.{Part}
 use Rattle.gl_free.specs.declared.candidate.Candidate.{Candidate}
@@ -16,13 +15,11 @@ use Rattle.gl_free.specs.declared.ends.Sides.{Sides}
 use Rattle.gl_free.specs.declared.pair.Pair.{Pair}
 use Rattle.gl_free.specs.declared.side.Side.{Side}
 use Rattle.gl_free.specs.declared.side.Side.TheVariants.{Before, After}
-use Rattle.gl_free.specs.Arms.{IsArm, arm_length}
-use Rattle.gl_free.specs.Candidates.{IsAmong, Starts}
-use Rattle.gl_free.specs.Choices.{AreInOrder}
-use Rattle.gl_free.specs.Ends.{IsAllowed, Stands}
+use Rattle.gl_free.specs.Candidates.{Starts}
+use Rattle.gl_free.specs.Ends.{Stands}
 use Rattle.gl_free.specs.Places.{altitude_at, altitude_of}
-use Rattle.gl_free.specs.Ranges.{AreLeft, IsBetterChoice, IsIn, IsLost, IsRun, IsSplit, turns_of}
-use Rattle.gl_free.specs.Search.{AreBelow, AreFound, AreSides, IsBetter, IsOver, IsTooLow}
+use Rattle.gl_free.specs.Ranges.{AreLeft, IsBetterChoice, IsIn, IsRun, IsSplit}
+use Rattle.gl_free.specs.Search.{AreFound, AreSides, IsBetter, IsOver}
 
 -- at the start the whole holds each better choice
 pub starts-found : (fixes : List Fix) (sides : Sides) (middle : ℕ × ℕ) (found : ℕ) (before_list after_list : List Candidate) (before after : Part) → Starts fixes sides.before middle before_list before → Starts fixes sides.after middle after_list after → AreFound fixes sides middle found (take before.to before_list) before.from (take after.to after_list) after.from
@@ -101,9 +98,9 @@ any-pushed P ranges range found =
     ⊎_elim
     (λ (early : found.0 < length ranges). inl (found.0, found.1, early, sym (get_or-append ranges (range ∷ []) found.1 found.0 early) ∙ found.3, found.4))
     (λ (late : length ranges ≤ found.0).
-      let last : found.0 ≡ length ranges = omega (arith, found.2) in
-      let same : found.1 ≡ range = sym found.3 ∙ ap (λ (n : ℕ). get_or (ranges ++ range ∷ []) n found.1) last ∙ get_or-append_seam ranges range [] found.1 in
-      inr (subst P same found.4))
+    let last : found.0 ≡ length ranges = omega (arith, found.2) in
+    let same : found.1 ≡ range = sym found.3 ∙ ap (λ (n : ℕ). get_or (ranges ++ range ∷ []) n found.1) last ∙ get_or-append_seam ranges range [] found.1 in
+    inr (subst P same found.4))
     (cases_lt found.0 (length ranges))
 
 any-earlier : (P : Altitudes → Type 0) (ranges : List Altitudes) (range : Altitudes) → Any P ranges → Any P (ranges ++ range ∷ [])
@@ -141,12 +138,12 @@ left-split fixes loss found more ranges with_upper with_both range lower upper o
     let all : with_both ≡ (ranges ++ upper ∷ []) ++ lower ∷ [] = both_is ∙ ap (λ (list : List Altitudes). list ++ lower ∷ []) upper_is in
     subst Q (sym all)
     (⊎_elim
-      (λ (others : Any P ranges). any-earlier P (ranges ++ upper ∷ []) lower (any-earlier P ranges upper others))
-      (λ (here : P range). ⊎_elim
-        (λ (in_lower : P lower). any-last P (ranges ++ upper ∷ []) lower in_lower)
-        (λ (in_upper : P upper). any-earlier P (ranges ++ upper ∷ []) lower (any-last P ranges upper in_upper))
-        (split.parts (altitude_at fixes better.first) here))
-      (any-pushed P ranges range (left (choice-earlier fixes loss more found order better))))
+    (λ (others : Any P ranges). any-earlier P (ranges ++ upper ∷ []) lower (any-earlier P ranges upper others))
+    (λ (here : P range). ⊎_elim
+    (λ (in_lower : P lower). any-last P (ranges ++ upper ∷ []) lower in_lower)
+    (λ (in_upper : P upper). any-earlier P (ranges ++ upper ∷ []) lower (any-last P ranges upper in_upper))
+    (split.parts (altitude_at fixes better.first) here))
+    (any-pushed P ranges range (left (choice-earlier fixes loss more found order better))))
 
 not-above : (altitude between : ℤ) → int_le altitude between ≡ true → altitude ≤ℤ between
 not-above altitude between is = grind (arith, ints)

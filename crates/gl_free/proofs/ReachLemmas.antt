@@ -1,26 +1,20 @@
 -- The reach of the ends in a span, and the farthest of them.
-use Rattle.std.proofs.Common.{◌≡◌, ◌∙◌, ap, sym, refl, subst, ℕ, suc, ◌+◌, ◌-◌, ◌<◌, ◌≤◌, ◌≤ℤ◌, List, length, ℤ, ◌⊎◌, inl, inr, ⊎_elim, arith}
+use Rattle.std.proofs.Common.{◌≡◌, ◌∙◌, ap, sym, subst, ℕ, ◌+◌, ◌-◌, ◌<◌, ◌≤◌, ◌≤ℤ◌, List, length, ℤ, ⊎_elim, arith}
 use Rattle.std.proofs.lemmas.Bool.{cases_lt}
 use Rattle.std.proofs.lemmas.Int.{ints}
 use Rattle.gl_sphere.proofs.Arcs.{written_distance-mono}
 use Rattle.gl_sphere.specs.Distance.{written_distance}
 use Rattle.gl_igc.specs.declared.fix.Fix.{Fix}
-use Rattle.gl_hull.specs.Box.{Box, IsBetween, fixes_in, hull_of}
-use Rattle.gl_hull.specs.Near.{IsPlaceOf}
+use Rattle.gl_hull.specs.Box.{IsBetween, fixes_in, hull_of}
 use Rattle.gl_free.specs.declared.ends.Ends.{Ends}
 use Rattle.gl_free.specs.declared.far.Far.{Far}
 use Rattle.gl_free.specs.declared.side.Side.{Side}
 use Rattle.gl_free.specs.declared.side.Side.TheVariants.{Before, After}
-use Rattle.gl_free.specs.Ends.{IsAllowed, IsPast, Stands}
-use Rattle.gl_free.specs.Farthest.{IsAbove, IsEndOf, IsFarthest, IsReachedBy}
+use Rattle.gl_free.specs.Ends.{IsPast, Stands}
+use Rattle.gl_free.specs.Farthest.{IsFarthest}
 use Rattle.gl_free.specs.Places.{IsMost, altitude_at, chord, leg}
 use Rattle.gl_free.specs.Reach.{IsReach, Raises}
 use Rattle.gl_free.proofs.PlaceLemmas.{altitude-between, altitude-single}
-
--- no place of a span that lies past another may stand on the side of one there
-pub past-none : (side : Side) (span of_ : ℕ × ℕ) (place inner : ℕ) → IsPast side span of_ → IsPlaceOf span place → IsPlaceOf of_ inner → Stands side place inner → ⊥
-past-none Before span of_ place inner past in_span in_of stands = omega (arith, past, in_span.0, in_of.1, stands)
-past-none After span of_ place inner past in_span in_of stands = omega (arith, past, in_span.1, in_of.0, stands)
 
 -- and a single place that doesn't lie past a single one may
 pub single-stands : (side : Side) (span of_ : ℕ × ℕ) → span.0 ≡ span.1 → of_.0 ≡ of_.1 → (IsPast side span of_ → ⊥) → Stands side span.0 of_.0
@@ -28,12 +22,6 @@ single-stands Before span of_ one other not_past =
     ⊎_elim (λ (past : of_.1 < span.0). absurd (not_past past)) (λ (fits : span.0 ≤ of_.1). omega (arith, fits)) (cases_lt of_.1 span.0)
 single-stands After span of_ one other not_past =
     ⊎_elim (λ (past : span.1 < of_.0). absurd (not_past past)) (λ (fits : of_.0 ≤ span.1). omega (arith, fits)) (cases_lt span.1 of_.0)
-
-pub reach-past : (fixes : List Fix) (allowed : Ends) (span of_ : ℕ × ℕ) → IsPast allowed.side span of_ → IsReach fixes allowed span of_ 0
-reach-past fixes allowed span of_ past = record {
-  above = λ end inner in_span in_of is_end. absurd (past-none allowed.side span of_ end inner past in_span in_of is_end.stands);
-  reached = λ one other some. absurd (omega arith);
-}
 
 -- no fix is an end where the hull meets no altitude that is allowed
 pub reach-missed : (fixes : List Fix) (allowed : Ends) (span of_ : ℕ × ℕ) (lo hi : ℤ) → span.1 < length fixes → (lo, hi) ≡ (hull_of (fixes_in fixes span)).alt → ((allowed.lowest ≤ℤ hi) × (lo ≤ℤ allowed.highest) → ⊥) → IsReach fixes allowed span of_ 0
@@ -50,15 +38,17 @@ reach-met fixes allowed span of_ lo hi most within is not_past met chords = reco
   reached = λ one other some.
       let both = is ∙ altitude-single fixes span one within in
       let low : lo ≡ altitude_at fixes span.0 = ap (λ (ends : ℤ × ℤ). ends.0) both in
-      let high : hi ≡ altitude_at fixes span.0 = ap (λ (ends : ℤ × ℤ). ends.1) both in
-      (record {
-        allowed = record {
-          within = omega arith;
-          not_lower = subst (λ (z : ℤ). allowed.lowest ≤ℤ z) high met.0;
-          not_higher = subst (λ (z : ℤ). z ≤ℤ allowed.highest) low met.1;
-        };
-        stands = single-stands allowed.side span of_ one other not_past;
-      }, omega (arith, chords.single one other));
+      let high : hi ≡ altitude_at fixes span.0 = ap (λ (ends : ℤ × ℤ). ends.1) both in (
+        record {
+          allowed = record {
+            within = omega arith;
+            not_lower = subst (λ (z : ℤ). allowed.lowest ≤ℤ z) high met.0;
+            not_higher = subst (λ (z : ℤ). z ≤ℤ allowed.highest) low met.1;
+          };
+          stands = single-stands allowed.side span of_ one other not_past;
+        },
+        omega (arith, chords.single one other),
+      );
 }
 
 -- where nothing was found over all places, no place is an end

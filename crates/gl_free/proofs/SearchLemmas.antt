@@ -1,6 +1,5 @@
 -- A search of a middle span: what it is refined to, its halves, and a single middle fix.
-use Rattle.std.proofs.Common.{◌≡◌, ◌∙◌, ap, sym, refl, subst, ℕ, ◌+◌, ◌-◌, ◌<◌, ◌≤◌, ◌⊎◌, inl, inr, ⊎_elim, List, length, take, Option, None, Some, ℤ, ◌-ℤ◌, ◌<ℤ◌, MatchOption, arith}
-use Rattle.std.proofs.lemmas.Bool.{cases_lt}
+use Rattle.std.proofs.Common.{◌≡◌, ◌∙◌, ap, sym, refl, subst, ℕ, ◌+◌, ◌-◌, ◌<◌, ◌≤◌, ⊎_elim, List, length, take, Option, None, Some, ℤ, ◌-ℤ◌, ◌<ℤ◌, MatchOption, arith}
 use Rattle.std.proofs.lemmas.List.{length-take, take-take, take_all}
 use Rattle.gl_igc.specs.declared.fix.Fix.{Fix}
 use Rattle.gl_hull.specs.Near.{IsPlaceOf}
@@ -12,14 +11,12 @@ use Rattle.gl_free.specs.declared.ends.Ends.{Ends}
 use Rattle.gl_free.specs.declared.ends.Sides.{Sides}
 use Rattle.gl_free.specs.declared.pair.Pair.{Pair}
 use Rattle.gl_free.specs.declared.search.Search.{Search}
-use Rattle.gl_free.specs.declared.side.Side.{Side}
-use Rattle.gl_free.specs.declared.side.Side.TheVariants.{Before, After}
-use Rattle.gl_free.specs.Arms.{IsArm, IsTop, arm_length}
-use Rattle.gl_free.specs.Candidates.{AreCandidates, IsAmong, IsCandidate, IsPart, Sifts}
-use Rattle.gl_free.specs.Choices.{AreInOrder, IsLow}
-use Rattle.gl_free.specs.Ends.{IsAllowed, Stands}
+use Rattle.gl_free.specs.Arms.{arm_length}
+use Rattle.gl_free.specs.Candidates.{AreCandidates, IsAmong, IsPart, Sifts}
+use Rattle.gl_free.specs.Choices.{IsLow}
+use Rattle.gl_free.specs.Ends.{IsAllowed}
 use Rattle.gl_free.specs.Places.{altitude_at}
-use Rattle.gl_free.specs.Search.{AreBelow, AreFound, AreHalvesOf, AreSides, IsBetter, IsNarrowed, IsOver, IsTooLow, Keeps}
+use Rattle.gl_free.specs.Search.{AreBelow, AreFound, AreHalvesOf, IsBetter, IsNarrowed, IsOver, Keeps}
 
 -- what is above the need is a part of its own
 part-refined : (fixes : List Fix) (allowed : Ends) (middle : ℕ × ℕ) (need : ℕ) (kind : ℕ → Type 0) (part : Part) (old new : List Candidate) (least : ℕ) (arm : Arm) → part.to ≤ length old → Sifts fixes allowed middle need kind (take part.to old) new least arm → IsPart fixes allowed middle new (record { from = part.to; to = length new; most = arm.most })
@@ -140,22 +137,6 @@ none-halves fixes sides middle one other found more halves order not_one not_oth
 pub over-halves : (fixes : List Fix) (sides : Sides) (middle one other : ℕ × ℕ) (loss : ℤ) (found more : ℕ) (stop : Option Pair) → AreHalvesOf middle one other → found ≤ more → ¬ IsBetter fixes sides one found → IsOver fixes sides other loss more stop → IsOver fixes sides middle loss more stop
 over-halves fixes sides middle one other loss found more None halves order not_one over = none-halves fixes sides middle one other found more halves order not_one over
 over-halves fixes sides middle one other loss found more (Some pair) halves order not_one over = over
-
-stands-before : (side : Side) (place of_ : ℕ) → side ≡ Before → Stands side place of_ → place ≤ of_
-stands-before side place of_ is stands = subst (λ (s : Side). Stands s place of_) is stands
-
-stands-after : (side : Side) (place of_ : ℕ) → side ≡ After → Stands side place of_ → of_ ≤ place
-stands-after side place of_ is stands = subst (λ (s : Side). Stands s place of_) is stands
-
--- two arms of one middle fix stand in time order
-pub arms-in_order : (fixes : List Fix) (sides : Sides) (third second first fourth last : ℕ) → AreSides sides → IsArm fixes sides.before third second first → IsArm fixes sides.after third fourth last → AreInOrder (length fixes) first second third fourth last
-arms-in_order fixes sides third second first fourth last are before after = record {
-  second_later = stands-before sides.before.side first second are.before before.is_end.stands;
-  third_later = stands-before sides.before.side second third are.before before.stands;
-  fourth_later = stands-after sides.after.side fourth third are.after after.stands;
-  last_later = stands-after sides.after.side last fourth are.after after.is_end.stands;
-  within = after.is_end.allowed.within;
-}
 
 -- what was chosen at a single middle fix
 pub over-single : (fixes : List Fix) (sides : Sides) (middle : ℕ × ℕ) (loss : ℤ) (found more : ℕ) (search : Search) (before after : Part) (arms : Arms) (stop : Option Pair) → middle.0 ≡ middle.1 → search.best.total ≡ found → found ≤ more → IsNarrowed fixes sides middle search before after arms → MatchOption stop (arm_length fixes middle.0 arms.before.inner arms.before.end + arm_length fixes middle.0 arms.after.inner arms.after.end ≤ more) (IsLow fixes loss arms.before.end arms.after.end) → IsOver fixes sides middle loss more stop

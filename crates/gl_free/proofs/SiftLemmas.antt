@@ -1,5 +1,5 @@
 -- Candidates that are gone over for one side of the middle.
-use Rattle.std.proofs.Common.{◌≡◌, ◌∙◌, ap, sym, refl, subst, ℕ, zero, suc, ◌+◌, ◌<◌, ◌≤◌, ◌⊎◌, inl, inr, ⊎_elim, List, [], ◌∷◌, ◌++◌, length, take, get_or, max, length-append, arith}
+use Rattle.std.proofs.Common.{◌≡◌, ◌∙◌, ap, sym, refl, subst, ℕ, zero, suc, ◌+◌, ◌<◌, ◌≤◌, ◌⊎◌, inl, inr, ⊎_elim, List, [], ◌∷◌, ◌++◌, length, take, get_or, length-append, arith}
 use Rattle.std.proofs.lemmas.Bool.{cases_lt}
 use Rattle.std.proofs.lemmas.List.{get_or-take, get_or_default, length-take, take-take, take_all}
 use Rattle.std.proofs.Math.Seq.{get_or-append_seam, take-append_seam}
@@ -9,14 +9,13 @@ use Rattle.gl_hull.specs.Near.{IsPlaceOf}
 use Rattle.gl_free.specs.declared.arm.Arm.{Arm}
 use Rattle.gl_free.specs.declared.candidate.Candidate.{Candidate}
 use Rattle.gl_free.specs.declared.ends.Ends.{Ends}
-use Rattle.gl_free.specs.declared.far.Far.{Far}
 use Rattle.gl_free.specs.Arms.{IsArm, IsTop, arm_length}
-use Rattle.gl_free.specs.Candidates.{AreCandidates, Grows, IsAmong, IsCandidate, Sifts, Starts}
+use Rattle.gl_free.specs.Candidates.{Grows, IsAmong, IsCandidate, Sifts, Starts}
 use Rattle.gl_free.specs.Ends.{IsPast, Stands}
-use Rattle.gl_free.specs.Farthest.{IsBeyond, IsFarthest}
+use Rattle.gl_free.specs.Farthest.{IsFarthest}
 use Rattle.gl_free.specs.Places.{IsMost, leg}
 use Rattle.gl_free.proofs.PlaceLemmas.{leg-limited}
-use Rattle.gl_free.proofs.ReachLemmas.{past-none, single-stands}
+use Rattle.gl_free.proofs.ReachLemmas.{single-stands}
 
 -- a list that grew keeps what it had
 pub grown-at : (fixes : List Fix) (allowed : Ends) (middle : ℕ × ℕ) (old new : List Candidate) (k : ℕ) (d : Candidate) → Grows fixes allowed middle old new → k < length old → get_or new k d ≡ get_or old k d
@@ -86,27 +85,9 @@ abbrev pub AreShort : List Fix → Ends → ℕ × ℕ → ℕ × ℕ → ℕ �
 AreShort fixes allowed middle span most =
     (inner end third : ℕ) → IsPlaceOf span inner → IsPlaceOf middle third → IsArm fixes allowed third inner end → arm_length fixes third inner end < most
 
-pub short-beyond : (fixes : List Fix) (allowed : Ends) (middle span : ℕ × ℕ) (value most : ℕ) → IsBeyond fixes allowed span value → IsMost (leg fixes) span middle most → AreShort fixes allowed middle span (value + most)
-short-beyond fixes allowed middle span value most beyond legs inner end third inside in_middle arm =
-    omega (arith, beyond end inner inside arm.is_end, legs.at_most inner third inside in_middle)
-
 pub short-candidate : (fixes : List Fix) (allowed : Ends) (middle : ℕ × ℕ) (candidate : Candidate) → IsCandidate fixes allowed middle candidate → AreShort fixes allowed middle (ends candidate.span) candidate.most
 short-candidate fixes allowed middle candidate is inner end third inside in_middle arm =
     omega (arith, is.farthest.above end inner inside arm.is_end, is.at_most inner third inside in_middle)
-
--- no arm stands past the middle
-pub past-short : (fixes : List Fix) (allowed : Ends) (middle span : ℕ × ℕ) (most : ℕ) → IsPast allowed.side span middle → AreShort fixes allowed middle span most
-past-short fixes allowed middle span most past inner end third inside in_middle arm = absurd (past-none allowed.side span middle inner third past inside in_middle arm.stands)
-
--- where all arms by a span are shorter than the floor, nothing has to be kept of it
-pub sifts-none : (fixes : List Fix) (allowed : Ends) (middle span : ℕ × ℕ) (need floor most : ℕ) (list : List Candidate) (arm : Arm) → middle.0 ≤ middle.1 → IsTop fixes allowed middle arm → AreShort fixes allowed middle span most → most ≤ floor → floor ≤ max need arm.most → (middle.0 < middle.1 → floor ≡ need) → Sifts fixes allowed middle need (IsPlaceOf span) list list arm.most arm
-sifts-none fixes allowed middle span need floor most list arm order top short less at_most wide = record {
-  grows = grows-none fixes allowed middle list;
-  top = top;
-  raised = omega arith;
-  shorter = λ inner end third inside in_middle is needed. omega (arith, short inner end third inside in_middle is);
-  found = λ inner end third inside in_middle is needed more. absurd (omega (arith, short inner end third inside in_middle is, wide more));
-}
 
 -- for a single middle place the candidate is a single place, and what it says is exact
 pub record IsExact (fixes : List Fix) (allowed : Ends) (middle : ℕ × ℕ) (candidate : Candidate) : Type 0 where
@@ -129,9 +110,9 @@ pub sifts-kept : (fixes : List Fix) (allowed : Ends) (middle : ℕ × ℕ) (need
 sifts-kept fixes allowed middle need candidate old new arm after order top is exact same pushed greater not_greater =
     let taken : Arm = record { most = candidate.most; inner = candidate.span.lo; end = candidate.far.place } in
     let raised : (arm.most ≤ after.most) × (candidate.most ≤ after.most) = ⊎_elim
-        (λ (more : arm.most < candidate.most). (omega (arith, ap (λ (a : Arm). a.most) (greater more)), omega (arith, ap (λ (a : Arm). a.most) (greater more))))
-        (λ (less : candidate.most ≤ arm.most). (omega (arith, ap (λ (a : Arm). a.most) (not_greater less)), omega (arith, ap (λ (a : Arm). a.most) (not_greater less))))
-        (cases_lt arm.most candidate.most) in
+    (λ (more : arm.most < candidate.most). (omega (arith, ap (λ (a : Arm). a.most) (greater more)), omega (arith, ap (λ (a : Arm). a.most) (greater more))))
+    (λ (less : candidate.most ≤ arm.most). (omega (arith, ap (λ (a : Arm). a.most) (not_greater less)), omega (arith, ap (λ (a : Arm). a.most) (not_greater less))))
+    (cases_lt arm.most candidate.most) in
     record {
       grows = ⊎_elim
           (λ (more : middle.0 < middle.1). subst (Grows fixes allowed middle old) (sym (pushed more)) (grows-pushed fixes allowed middle old candidate is))
@@ -203,9 +184,9 @@ among-next list at from inner candidate below is among =
       inside = among.inside;
     }))
     (λ (late : at ≤ among.at).
-      let last : among.at ≡ at = omega (arith, among.high) in
-      let same : among.candidate ≡ candidate = sym found ∙ ap (λ (n : ℕ). get_or list n among.candidate) last ∙ get_or_default list at among.candidate candidate below ∙ is in
-      inr (subst (λ (c : Candidate). IsPlaceOf (ends c.span) inner) same among.inside))
+    let last : among.at ≡ at = omega (arith, among.high) in
+    let same : among.candidate ≡ candidate = sym found ∙ ap (λ (n : ℕ). get_or list n among.candidate) last ∙ get_or_default list at among.candidate candidate below ∙ is in
+    inr (subst (λ (c : Candidate). IsPlaceOf (ends c.span) inner) same among.inside))
     (cases_lt among.at at)
 
 -- nothing is among no candidates

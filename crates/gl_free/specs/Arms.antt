@@ -18,7 +18,8 @@ pub record IsArm (fixes : List Fix) (allowed_ends : Ends) (middle inner end : �
   pub stands : Stands allowed_ends.side inner middle
 
 -- what was found for a single middle place is an arm there, and its length is one less
-pub record IsTop (fixes : List Fix) (allowed_ends : Ends) (middle : ℕ × ℕ) (arm : Arm) : Type 0 where
+pub record IsTop (fixes : List Fix) (allowed_ends : Ends) (middle : ℕ × ℕ)
+    (arm : Arm) : Type 0 where
   pub inner_in : arm.inner < length fixes
   pub limited : arm.most ≤ 2 ^ 41
   pub reached : middle.0 ≡ middle.1 → 0 < arm.most

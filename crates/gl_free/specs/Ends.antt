@@ -16,6 +16,11 @@ abbrev pub IsPast : Side → ℕ × ℕ → ℕ × ℕ → Type 0
 IsPast Before span of_ = of_.1 < span.0
 IsPast After span of_ = span.1 < of_.0
 
+-- each place of a span may stand on this side of some place of another
+abbrev pub IsInside : Side → ℕ × ℕ → ℕ × ℕ → Type 0
+IsInside Before span of_ = span.1 ≤ of_.1
+IsInside After span of_ = of_.0 ≤ span.0
+
 -- the fix at a place may be an end, by its altitude
 pub record IsAllowed (fixes : List Fix) (ends : Ends) (place : ℕ) : Type 0 where
   pub within : place < length fixes

@@ -40,7 +40,8 @@ IsBeyond fixes allowed_ends of_ value =
     → leg fixes end inner < value
 
 -- and a single place has an end that is one less far
-pub record IsFarthest (fixes : List Fix) (allowed_ends : Ends) (of_ : ℕ × ℕ) (found : Far) : Type 0 where
+pub record IsFarthest (fixes : List Fix) (allowed_ends : Ends) (of_ : ℕ × ℕ)
+    (found : Far) : Type 0 where
   pub above : IsBeyond fixes allowed_ends of_ found.value
   pub reached : IsReachedBy (leg fixes) fixes allowed_ends of_ found
   pub limited : found.value ≤ 2 ^ 40

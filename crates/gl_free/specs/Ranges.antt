@@ -1,6 +1,6 @@
 -- The altitudes of the first fix, in ranges that a search goes through one by one: a range at which
 -- it stopped is split in two.
-use Rattle.std.specs.Prelude.{◌≡◌, ℕ, suc, ◌+◌, ◌*◌, ◌<◌, ◌≤◌, ◌⊎◌, ℤ, ◌+ℤ◌, ◌-ℤ◌, ◌<ℤ◌, ◌≤ℤ◌, List, length, Any, Option, MatchOption, unsigned_abs}
+use Rattle.std.specs.Prelude.{ℕ, suc, ◌+◌, ◌*◌, ◌<◌, ◌⊎◌, ℤ, ◌+ℤ◌, ◌-ℤ◌, ◌<ℤ◌, ◌≤ℤ◌, List, length, Any, Option, MatchOption, unsigned_abs}
 use Rattle.gl_igc.specs.declared.fix.Fix.{Fix}
 use Rattle.gl_hull.specs.Box.{IsBetween}
 use Rattle.gl_free.specs.declared.altitudes.Altitudes.{Altitudes}

@@ -6,17 +6,15 @@ use Rattle.gl_igc.specs.declared.fix.Fix.{Fix}
 use Rattle.gl_hull.specs.Near.{IsPlaceOf}
 use Rattle.gl_goal.specs.Rule.{Rule, IsReached}
 use Rattle.gl_plain.specs.declared.found.Best.{Best}
-use Rattle.gl_free.specs.declared.arm.Arm.{Arm}
 use Rattle.gl_free.specs.declared.arm.Arms.{Arms}
 use Rattle.gl_free.specs.declared.arm.Part.{Part}
 use Rattle.gl_free.specs.declared.candidate.Candidate.{Candidate}
-use Rattle.gl_free.specs.declared.ends.Ends.{Ends}
 use Rattle.gl_free.specs.declared.ends.Sides.{Sides}
 use Rattle.gl_free.specs.declared.pair.Pair.{Pair}
 use Rattle.gl_free.specs.declared.search.Search.{Search}
 use Rattle.gl_free.specs.declared.side.Side.TheVariants.{Before, After}
 use Rattle.gl_free.specs.Arms.{IsArm, IsTop, arm_length}
-use Rattle.gl_free.specs.Candidates.{Grows, IsAmong, IsFlank, IsPart}
+use Rattle.gl_free.specs.Candidates.{IsAmong, IsFlank, IsPart}
 use Rattle.gl_free.specs.Ends.{IsAllowed}
 use Rattle.gl_free.specs.Places.{altitude_at}
 
@@ -56,7 +54,8 @@ AreBelow fixes sides middle found before after =
     × (arm_length fixes better.third better.fourth better.last < after)
 
 -- the second and the fourth fix of each better choice are among the candidates
-abbrev pub AreFound : List Fix → Sides → ℕ × ℕ → ℕ → List Candidate → ℕ → List Candidate → ℕ → Type 0
+abbrev pub AreFound : List Fix → Sides → ℕ × ℕ → ℕ → List Candidate → ℕ → List Candidate → ℕ
+    → Type 0
 AreFound fixes sides middle found before from_before after from_after =
     (better : IsBetter fixes sides middle found)
     → IsAmong before from_before better.second × IsAmong after from_after better.fourth
@@ -74,9 +73,17 @@ pub record IsNarrowed (fixes : List Fix) (sides : Sides) (middle : ℕ × ℕ) (
   pub before_some : 0 < arms.before.most
   pub after_some : 0 < arms.after.most
   pub part_before : IsPart fixes sides.before middle search.before.candidates.items
-      (record { from = before.to; to = length search.before.candidates.items; most = arms.before.most })
+      (record {
+        from = before.to;
+        to = length search.before.candidates.items;
+        most = arms.before.most;
+      })
   pub part_after : IsPart fixes sides.after middle search.after.candidates.items
-      (record { from = after.to; to = length search.after.candidates.items; most = arms.after.most })
+      (record {
+        from = after.to;
+        to = length search.after.candidates.items;
+        most = arms.after.most;
+      })
   pub below : AreBelow fixes sides middle search.best.total arms.before.most arms.after.most
   pub found : middle.0 < middle.1
       → AreFound fixes sides middle search.best.total search.before.candidates.items before.to

@@ -38,7 +38,8 @@ fn all_altitudes(hulls: &Hulls) -> Altitudes
 /// The greatest free distance of a goal, with a tuple that reaches it. Keeps no boxes. The only
 /// error is want of memory.
 pub fn best_free(alloc: Global, goal: &FreeGoal) -> Result<Best, AllocError>
-    ensures reached { IfOk result (λ best. IsReached (rule_of goal.now) best.total (places_of best.tuple)) }
+    ensures reached { IfOk result
+        (λ best. IsReached (rule_of goal.now) best.total (places_of best.tuple)) }
     ensures optimum { IfOk result (λ best. IsOptimum (rule_of goal.now) (Some best.total)) }
 {
     let hulls = goal.hulls();

@@ -23,7 +23,8 @@ pub(crate) fn tuple_of(places: [u32; 5]) -> Tuple
     }
 }
 
-/// Keeps a choice where it is legal and worth more than what was found. Answers whether it is legal.
+/// Keeps a choice where it is legal and worth more than what was found. Answers whether it is
+/// legal.
 pub(crate) fn keep(goal: &FreeGoal, tuple: &Tuple, best: &mut Best) -> bool
     requires fits { IsTuple (rule_of goal.now).axes (places_of tuple.now) }
     requires valid { IsValid (rule_of goal.now) best.old }

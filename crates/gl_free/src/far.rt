@@ -10,7 +10,8 @@ use gl_box::Span;
 use gl_hull::{Hulls, max_sq};
 use gl_sphere::{GREATEST_SQUARE, dist};
 
-/// A place, and one more than how far it is: 0 where there is none.
+/// A place, and one more than how far it is, by a distance or by a squared chord: 0 where there is
+/// none.
 #[derive(Clone, Copy, Debug)]
 pub(crate) struct Far {
     pub value: u64,
@@ -56,8 +57,10 @@ fn search(hulls: &Hulls, allowed: &Ends, span: Span, of: &Node, most: u64, found
     requires reach { IsReach hulls.now allowed.now (ends span) (ends of.now.span) most }
     requires bound { most ≤ GREATEST_SQUARE + 1 }
     requires limited { found.old.value ≤ GREATEST_SQUARE + 1 }
-    requires reached { IsReachedBy (chord hulls.now) hulls.now allowed.now (ends of.now.span) found.old }
-    ensures raises { Raises hulls.now allowed.now (ends span) (ends of.now.span) found.old found.new }
+    requires reached { IsReachedBy (chord hulls.now) hulls.now allowed.now (ends of.now.span)
+        found.old }
+    ensures raises { Raises hulls.now allowed.now (ends span) (ends of.now.span) found.old
+        found.new }
     ensures limited { found.new.value ≤ GREATEST_SQUARE + 1 }
 {
     if most <= found.value {
@@ -86,7 +89,8 @@ fn search(hulls: &Hulls, allowed: &Ends, span: Span, of: &Node, most: u64, found
 #[inline]
 fn guessed(hulls: &Hulls, allowed: &Ends, of: &Node, guess: u32) -> Far
     requires { IsNode hulls.now of.now }
-    ensures reached { IsReachedBy (chord hulls.now) hulls.now allowed.now (ends of.now.span) result }
+    ensures reached { IsReachedBy (chord hulls.now) hulls.now allowed.now (ends of.now.span)
+        result }
     ensures bound { result.value ≤ GREATEST_SQUARE + 1 }
 {
     if guess as usize >= hulls.len() {

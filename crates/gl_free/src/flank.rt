@@ -104,21 +104,16 @@ impl Flank {
     /// Keeps a candidate: among the others, where the middle has more places than one, and as the
     /// greatest, where it is. The only error is want of memory.
     #[inline]
-    fn keep(
-        &mut self,
-        middle: &Node,
-        candidate: Candidate,
-        arm: &mut Arm,
-    ) -> Result<(), AllocError>
+    fn keep(&mut self, middle: &Node, candidate: Candidate, arm: &mut Arm) -> Result<(), AllocError>
         ensures known { self.new.known ≡ self.old.known }
         ensures single { OnOk result (middle.now.span.lo ≡ middle.now.span.hi
             → self.new.candidates.items ≡ self.old.candidates.items) }
         ensures wide { OnOk result (middle.now.span.lo < middle.now.span.hi
             → self.new.candidates.items ≡ self.old.candidates.items ++ candidate ∷ []) }
         ensures greater { arm.old.most < candidate.most → arm.new ≡ record {
-            most = candidate.most;
-            inner = candidate.span.lo;
-            end = candidate.far.place;
+          most = candidate.most;
+          inner = candidate.span.lo;
+          end = candidate.far.place;
         } }
         ensures not_greater { candidate.most ≤ arm.old.most → arm.new ≡ arm.old }
     {
@@ -176,8 +171,22 @@ impl Flank {
             return Ok(());
         }
         let (lower, upper) = halves(span);
-        self.put(hulls, allowed, middle, need, Inner { span: lower, far }, arm)?;
-        self.put(hulls, allowed, middle, need, Inner { span: upper, far }, arm)?;
+        self.put(
+            hulls,
+            allowed,
+            middle,
+            need,
+            Inner { span: lower, far },
+            arm,
+        )?;
+        self.put(
+            hulls,
+            allowed,
+            middle,
+            need,
+            Inner { span: upper, far },
+            arm,
+        )?;
         Ok(())
     }
 
@@ -208,8 +217,22 @@ impl Flank {
         }
         if span.width() > middle.span.width() {
             let (lower, upper) = halves(span);
-            self.put(hulls, allowed, middle, need, Inner { span: lower, far }, arm)?;
-            self.put(hulls, allowed, middle, need, Inner { span: upper, far }, arm)?;
+            self.put(
+                hulls,
+                allowed,
+                middle,
+                need,
+                Inner { span: lower, far },
+                arm,
+            )?;
+            self.put(
+                hulls,
+                allowed,
+                middle,
+                need,
+                Inner { span: upper, far },
+                arm,
+            )?;
             return Ok(());
         }
         let most = far.value + middle.leg_from(hulls, span);
@@ -252,8 +275,8 @@ impl Flank {
         Ok(arm)
     }
 
-    /// Starts with the whole as the only candidate, if it has an end that is allowed. The only error
-    /// is want of memory.
+    /// Starts with the whole as the only candidate, if it has an end that is allowed. The only
+    /// error is want of memory.
     pub(crate) fn start(
         &mut self,
         hulls: &Hulls,

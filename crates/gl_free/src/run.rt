@@ -17,8 +17,8 @@ use std::alloc::AllocError;
 /// More metres than any two altitudes differ by.
 const MOST_LOSS: i32 = 50_000;
 
-/// The ends that are allowed where the first fix has one of some altitudes: the last fix is no lower
-/// than the lowest of them allows.
+/// The ends that are allowed where the first fix has an altitude in a range: the last fix is no
+/// lower than the lowest of them allows.
 fn sides_of(range: Altitudes, loss: i32) -> Sides
     requires { pos 0 ≤ℤ loss }
     ensures sides { AreSides result }

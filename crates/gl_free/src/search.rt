@@ -87,7 +87,9 @@ impl Search {
             return Ok(None);
         }
         let need = most.saturating_sub(after.most);
-        let before = self.before.refine(hulls, &sides.before, middle, before, need)?;
+        let before = self
+            .before
+            .refine(hulls, &sides.before, middle, before, need)?;
         if before.most == 0 {
             return Ok(None);
         }

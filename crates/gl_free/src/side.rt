@@ -1,6 +1,6 @@
 ghost use Rattle.std.specs.Prelude.{◌↔◌, IsTrue};
 ghost use Rattle.gl_box.specs.Cell.{ends};
-ghost use Rattle.gl_free.specs.Ends.{IsPast};
+ghost use Rattle.gl_free.specs.Ends.{IsInside, IsPast};
 
 use gl_box::Span;
 
@@ -25,7 +25,9 @@ impl Side {
 
     /// Whether each place of a span may stand on this side of some place of another.
     #[inline]
-    pub(crate) fn is_inside(self, span: Span, of: Span) -> bool {
+    pub(crate) fn is_inside(self, span: Span, of: Span) -> bool
+        ensures { IsTrue result ↔ IsInside self (ends span) (ends of) }
+    {
         match self {
             Side::Before => span.hi <= of.hi,
             Side::After => span.lo >= of.lo,

@@ -21,8 +21,8 @@ pub(crate) struct Stages {
     ghost rows: { vec_len legs ≡ 256 },
 }
 
-/// The places of the five fixes, and one more than the sum of the legs between those from one of them
-/// on: 0 where there is no way.
+/// The places of the five fixes, and one more than the sum of the legs between those from one of
+/// them on: 0 where there is no way.
 #[derive(Clone, Copy, Debug)]
 pub(crate) struct Way {
     pub length: u64,
@@ -141,7 +141,8 @@ impl Stages {
         earlier
     }
 
-    /// The longest way from each place of the first fix, to a last fix that isn't below an altitude.
+    /// The longest way from each place of the first fix, to a last fix that isn't below an
+    /// altitude.
     pub(crate) fn ways(&self, hulls: &Hulls, lowest: i32) -> [Way; MOST_PLACES] {
         let mut ways = [last_of(hulls, 0, lowest); MOST_PLACES];
         for index in 0..self.count {

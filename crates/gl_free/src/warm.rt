@@ -65,8 +65,8 @@ fn raise(goal: &FreeGoal, stages: &Stages, best: &mut Best)
     }
 }
 
-/// A legal choice and its value, a good one if there is one to be found soon. The only error is want
-/// of memory.
+/// A legal choice and its value, a good one if there is one to be found soon. The only error is
+/// want of memory.
 pub(crate) fn warm_start(alloc: Global, goal: &FreeGoal) -> Result<Best, AllocError>
     ensures { IfOk result (IsValid (rule_of goal.now)) }
 {

@@ -1,4 +1,4 @@
-use Rattle.std.proofs.Common.{◌≡◌, ◌∙◌, ap, sym, refl, subst, ◌+◌, ◌≤◌, [], ◌∷◌, arith}
+use Rattle.std.proofs.Common.{ap, sym, refl, subst, arith}
 use Rattle.gl_goal.specs.FreeGoal.{rule_of}
 use Rattle.gl_goal.specs.Rule.{IsLegal, IsTuple, value}
 use Rattle.gl_free.proofs.ChoiceLemmas.{chosen-worth, illegal-low, order-tuple}

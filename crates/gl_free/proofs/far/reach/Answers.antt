@@ -1,4 +1,4 @@
-use Rattle.std.proofs.Common.{◌≡◌, ◌∙◌, ap, ◌≤◌, ◌≤ℤ◌, arith, ℤ}
+use Rattle.std.proofs.Common.{◌∙◌, ap, arith}
 use Rattle.gl_box.specs.Cell.{ends}
 use Rattle.gl_hull.specs.Box.{Box}
 use Rattle.gl_hull.specs.Chords.{greatest_chord}

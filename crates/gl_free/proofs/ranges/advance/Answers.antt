@@ -1,4 +1,4 @@
-use Rattle.std.proofs.Common.{arith, rules}
+use Rattle.std.proofs.Common.{rules}
 use Rattle.gl_free.specs.Ranges.{IsIn, IsBetterChoice}
 use Rattle.gl_free.specs.Places.{altitude_at}
 use Rattle.gl_free.proofs.RangeLemmas.{left-done, left-split}

@@ -1,4 +1,4 @@
-use Rattle.std.proofs.Common.{[], ◌∷◌, sym, subst, arith}
+use Rattle.std.proofs.Common.{sym, subst, arith}
 use Rattle.gl_goal.specs.FreeGoal.{rule_of}
 use Rattle.gl_goal.specs.Rule.{IsTuple}
 use Rattle.gl_free.proofs.ChoiceLemmas.{count-is, stay-valid, within-tuple}

@@ -1,4 +1,4 @@
-use Rattle.std.proofs.Common.{◌≡◌, ◌∙◌, ap, sym, subst, ◌+◌, ◌<◌, ◌≤◌, ◌⊎◌, ℕ, List, length, take, get_or, arith}
+use Rattle.std.proofs.Common.{◌≡◌, ◌∙◌, sym, subst, ◌+◌, ◌<◌, ℕ, List, length, take, get_or, arith}
 use Rattle.std.proofs.lemmas.List.{get_or-take, length-take}
 use Rattle.gl_box.specs.Cell.{ends}
 use Rattle.gl_hull.specs.Near.{IsPlaceOf}

@@ -1,4 +1,4 @@
-use Rattle.std.proofs.Common.{◌≡◌, ◌+◌, arith}
+use Rattle.std.proofs.Common.{◌+◌, arith}
 use Rattle.gl_box.specs.Cell.{ends}
 use Rattle.gl_hull.specs.Near.{IsPlaceOf}
 use Rattle.gl_free.specs.declared.candidate.Candidate.{Candidate}

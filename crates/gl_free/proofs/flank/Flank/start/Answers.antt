@@ -1,4 +1,4 @@
-use Rattle.std.proofs.Common.{◌≡◌, ◌∙◌, ap, [], ◌∷◌, ◌++◌, List, arith}
+use Rattle.std.proofs.Common.{◌∙◌, ap, [], ◌∷◌, ◌++◌, List, arith}
 use Rattle.gl_free.specs.declared.candidate.Candidate.{Candidate}
 use Rattle.gl_free.proofs.SiftLemmas.{starts-whole}
 use Rattle.gl_free.proofs.flank.Flank.start.Goals as goal

@@ -1,13 +1,12 @@
-use Rattle.std.proofs.Common.{◌≡◌, ◌∙◌, ap, sym, subst, inl, inr, ◌+◌, ◌<◌, ◌≤◌, ℕ, List, length, take, MatchOption, arith, rules}
+use Rattle.std.proofs.Common.{◌≡◌, sym, subst, inl, inr, ◌+◌, ◌<◌, ◌≤◌, List, length, MatchOption, arith, rules}
 use Rattle.gl_box.specs.Cell.{ends}
 use Rattle.gl_igc.specs.declared.fix.Fix.{Fix}
-use Rattle.gl_plain.specs.declared.found.Best.{Best}
 use Rattle.gl_goal.specs.FreeGoal.{rule_of}
 use Rattle.gl_free.specs.declared.arm.Part.{Part}
 use Rattle.gl_free.specs.Arms.{arm_length}
-use Rattle.gl_free.specs.Choices.{AreInOrder, IsLow}
+use Rattle.gl_free.specs.Choices.{IsLow}
 use Rattle.gl_free.specs.Search.{IsBetter, IsNarrowed, IsValid}
-use Rattle.gl_free.proofs.SearchLemmas.{arms-in_order, keeps-all, keeps-through, over-halves, over-single, ready-half, ready-narrowed}
+use Rattle.gl_free.proofs.SearchLemmas.{keeps-all, keeps-through, over-halves, over-single, ready-half, ready-narrowed}
 use Rattle.gl_free.proofs.search.Search.+middle.Goals as goal
 
 pub returns-then-is_single-clause-over : goal.returns-then-is_single-clause-over
@@ -35,8 +34,8 @@ middle-requires t c =
     let to_before : c.len.result ≡ length kept.before.candidates.items = omega (arith, c.len.ensures, kept.before.candidates.ok.0) in
     let to_after : c.len-2.result ≡ length kept.after.candidates.items = omega (arith, c.len-2.ensures, kept.after.candidates.ok.0) in
     let ready = ready-half fixes sides span (ends half) kept.best.total kept.best.total kept.before.candidates.items kept.before.candidates.items kept.after.candidates.items kept.after.candidates.items before after
-        (λ place inside. c.ordered.ensures.inside place (inl inside)) (omega arith) (keeps-all before kept.before.candidates.items (omega arith)) (keeps-all after kept.after.candidates.items (omega arith))
-        (ready-narrowed fixes sides span kept c.args.before c.args.after arms c.len.result c.len-2.result to_before to_after wide is) in
+    (λ place inside. c.ordered.ensures.inside place (inl inside)) (omega arith) (keeps-all before kept.before.candidates.items (omega arith)) (keeps-all after kept.after.candidates.items (omega arith))
+    (ready-narrowed fixes sides span kept c.args.before c.args.after arms c.len.result c.len-2.result to_before to_after wide is) in
     (search rules, (c.requires.same, (subst (IsValid (rule_of c.args.goal.now)) (sym c.narrow.ensures.best) c.requires.valid, (c.requires.sides, (omega (arith, c.ordered.ensures.one_in, c.requires.inside), (c.in_ok-arms.ensures.flanks, (ready.part_before, (ready.part_after, (ready.below, ready.among)))))))))
 
 pub middle-requires-2 : goal.middle-requires-2
@@ -55,8 +54,8 @@ middle-requires-2 t c =
     let to_before : c.len.result ≡ length kept.before.candidates.items = omega (arith, c.len.ensures, kept.before.candidates.ok.0) in
     let to_after : c.len-2.result ≡ length kept.after.candidates.items = omega (arith, c.len-2.ensures, kept.after.candidates.ok.0) in
     let ready = ready-half fixes sides span (ends half) kept.best.total new.best.total kept.before.candidates.items new.before.candidates.items kept.after.candidates.items new.after.candidates.items before after
-        (λ place inside. c.ordered.ensures.inside place (inr inside)) c.in_ok-pair.ensures.raised c.in_ok-pair.ensures.kept_before c.in_ok-pair.ensures.kept_after
-        (ready-narrowed fixes sides span kept c.args.before c.args.after arms c.len.result c.len-2.result to_before to_after wide is) in
+    (λ place inside. c.ordered.ensures.inside place (inr inside)) c.in_ok-pair.ensures.raised c.in_ok-pair.ensures.kept_before c.in_ok-pair.ensures.kept_after
+    (ready-narrowed fixes sides span kept c.args.before c.args.after arms c.len.result c.len-2.result to_before to_after wide is) in
     (search rules, (c.requires.same, (c.in_ok-pair.ensures.valid, (c.requires.sides, (omega (arith, c.ordered.ensures.other_in, c.requires.inside), (c.in_ok-pair.ensures.flanks, (ready.part_before, (ready.part_after, (ready.below, ready.among)))))))))
 
 pub returns-in-Some-2-clause-kept_before : goal.returns-in-Some-2-clause-kept_before

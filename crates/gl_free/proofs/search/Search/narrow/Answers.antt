@@ -1,4 +1,4 @@
-use Rattle.std.proofs.Common.{◌+◌, refl, arith}
+use Rattle.std.proofs.Common.{refl, arith}
 use Rattle.gl_box.specs.Cell.{ends}
 use Rattle.gl_free.proofs.SearchLemmas.{narrowed}
 use Rattle.gl_free.proofs.search.Search.narrow.Goals as goal

@@ -1,4 +1,4 @@
-use Rattle.std.proofs.Common.{◌∙◌, ap, ◌+◌, ◌-◌, ℤ, pos, ◌-ℤ◌, w32, refl, arith, rules}
+use Rattle.std.proofs.Common.{◌∙◌, ap, ◌-◌, ℤ, pos, ◌-ℤ◌, w32, refl, arith, rules}
 use Rattle.std.specs.Prelude.{FitsSigned}
 use Rattle.std.specs.Int.{int_min}
 use Rattle.std.proofs.lemmas.Int.{to_z-of_z}
