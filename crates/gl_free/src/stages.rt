@@ -90,7 +90,7 @@ impl Stages {
     fn measure_leg(&mut self, hulls: &Hulls, axis: usize)
         requires { axis ≤ 3 }
     {
-        for from in 0..MOST_PLACES {
+        for from in 0..self.count {
             let near = self.places[axis][from];
             let mut row = [0; MOST_PLACES];
             for to in 0..self.count {
