@@ -171,22 +171,10 @@ impl Flank {
             return Ok(());
         }
         let (lower, upper) = halves(span);
-        self.put(
-            hulls,
-            allowed,
-            middle,
-            need,
-            Inner { span: lower, far },
-            arm,
-        )?;
-        self.put(
-            hulls,
-            allowed,
-            middle,
-            need,
-            Inner { span: upper, far },
-            arm,
-        )?;
+        let lower = Inner { span: lower, far };
+        let upper = Inner { span: upper, far };
+        self.put(hulls, allowed, middle, need, lower, arm)?;
+        self.put(hulls, allowed, middle, need, upper, arm)?;
         Ok(())
     }
 
@@ -217,22 +205,10 @@ impl Flank {
         }
         if span.width() > middle.span.width() {
             let (lower, upper) = halves(span);
-            self.put(
-                hulls,
-                allowed,
-                middle,
-                need,
-                Inner { span: lower, far },
-                arm,
-            )?;
-            self.put(
-                hulls,
-                allowed,
-                middle,
-                need,
-                Inner { span: upper, far },
-                arm,
-            )?;
+            let lower = Inner { span: lower, far };
+            let upper = Inner { span: upper, far };
+            self.put(hulls, allowed, middle, need, lower, arm)?;
+            self.put(hulls, allowed, middle, need, upper, arm)?;
             return Ok(());
         }
         let most = far.value + middle.leg_from(hulls, span);
