@@ -138,7 +138,6 @@ places_dealt workers lone dealt piles places count same are_dealt many are_piles
     let deques : deques_of places ≡ map hand_deque lone =
     sym (map-map hand_deque (λ (place : Place). place.hand) places) ∙ ap (map hand_deque) hands ∙ same in
     let dealt_many : length dealt ≡ workers = omega (arith, length-map places (λ (place : Place). place.hand), ap length hands) in
-    let lone_many : length (deques_of places) ≡ workers = omega (arith, length-map places (λ (place : Place). hand_deque place.hand)) in
     record {
       one_each = length_is;
       place = λ worker d less. record {
@@ -146,7 +145,7 @@ places_dealt workers lone dealt piles places count same are_dealt many are_piles
             ap hand_view (sym (get_or-map (λ (place : Place). place.hand) places worker d d.hand (omega arith)) ∙ ap (λ hs. get_or hs worker d.hand) hands)
             ∙ are_dealt worker d.hand (omega arith)
             ∙ all_dealt (length lone) worker (omega arith)
-            ∙ ap (new_hand worker) (count ∙ sym lone_many);
+            ∙ ap (new_hand worker) count;
         passes =
             ap (λ (pile : Vec Pass Global). map end_of pile.items) (sym (get_or-map (λ (place : Place). place.passes) places worker d d.passes (omega arith)) ∙ ap (λ ps. get_or ps worker d.passes) passes)
             ∙ are_piles worker d.passes (omega arith)

@@ -14,9 +14,10 @@ use Rattle.gl_deal.specs.Tokens.{Deque, end_of, hand_deque, hand_view}
 abbrev pub passes_to : ℕ → List Deque → List (Deque × PassView)
 passes_to worker deques = map (λ deque. (deque, new_pass (worker ∷ []))) (remove deques worker)
 
--- the place of a worker: its own hand, which has put, taken and gathered nothing, and its passes
-pub record IsPlace (deques : List Deque) (worker : ℕ) (place : Place) : Type 0 where
-  pub hand : hand_view place.hand ≡ new_hand worker (length deques)
+-- The place of one of so many workers: its own hand, which has put, taken and gathered nothing, and
+-- its passes to the other deques
+pub record IsPlace (workers : ℕ) (deques : List Deque) (worker : ℕ) (place : Place) : Type 0 where
+  pub hand : hand_view place.hand ≡ new_hand worker workers
   pub passes : map end_of place.passes.items ≡ passes_to worker deques
 
 -- the deques of some places, in their order
@@ -27,7 +28,7 @@ deques_of places = map (λ place. hand_deque place.hand) places
 pub record IsDeal (workers : ℕ) (places : List Place) : Type 0 where
   pub one_each : length places ≡ workers
   pub place : (worker : ℕ) (d : Place) → worker < workers
-      → IsPlace (deques_of places) worker (slice_index_or places worker d)
+      → IsPlace workers (deques_of places) worker (slice_index_or places worker d)
 
 -- the hands of all owners once the first workers, so many of them, have their passes
 abbrev pub AreDealt : ℕ → List Hand → Type 0

@@ -15,6 +15,9 @@ const TRIES: u32 = 1_000;
 /// How many cells cross a deque between two threads.
 const CELLS: u32 = 1_000_000;
 
+/// How many turns the owner waits for the thief at most.
+const TURNS: u32 = 100_000_000;
+
 /// Takes what a worker can be given.
 fn give<T: Send>(_value: &T) {}
 
@@ -80,8 +83,20 @@ fn newest_is_taken_and_oldest_is_stolen(rt: HostRuntime) -> Result<(), Fail> {
     Ok(())
 }
 
-/// Puts all cells, takes one after every third, and then takes what is left.
-fn own(mut hand: Hand, taken: &mut Vec<u32>) -> Result<(), AllocError> {
+/// What the two threads tell each other.
+#[derive(Drop)]
+struct Flags {
+    thief_is_there: AtomicBool,
+    owner_is_done: AtomicBool,
+}
+
+/// Waits for the thief, puts all cells, takes one after every third, and then takes what is left.
+fn own(mut hand: Hand, flags: &Flags, taken: &mut Vec<u32>) -> Result<(), AllocError> {
+    for _ in 0..TURNS {
+        if flags.thief_is_there.load(Ordering::SeqCst) {
+            break;
+        }
+    }
     for place in 0..CELLS {
         if let Err(back) = hand.put(single(place)) {
             taken.push(back.spans[0].lo)?;
@@ -102,9 +117,10 @@ fn own(mut hand: Hand, taken: &mut Vec<u32>) -> Result<(), AllocError> {
 }
 
 /// Steals until the owner is done and nothing is left.
-fn rob(mut pass: Pass, done: &AtomicBool, taken: &mut Vec<u32>) -> Result<(), AllocError> {
+fn rob(mut pass: Pass, flags: &Flags, taken: &mut Vec<u32>) -> Result<(), AllocError> {
+    flags.thief_is_there.store(true, Ordering::SeqCst);
     for _ in 0..u64::MAX {
-        let last = done.load(Ordering::SeqCst);
+        let last = flags.owner_is_done.load(Ordering::SeqCst);
         match pass.steal() {
             Steal::Got(cell) => taken.push(cell.spans[0].lo)?,
             Steal::Empty if last => return Ok(()),
@@ -121,18 +137,21 @@ fn race<R: Threads + Sync>(
     hand: Hand,
     pass: Pass,
 ) -> Result<(Vec<u32>, Vec<u32>), AllocError> {
-    let done = AtomicBool::new(false);
-    let flag = &done;
+    let both = Flags {
+        thief_is_there: AtomicBool::new(false),
+        owner_is_done: AtomicBool::new(false),
+    };
+    let flags = &both;
     let mut own_cells = Vec::new(alloc);
     let mut stolen = Vec::new(alloc);
     let (owned, robbed) = thread::join(
         rt,
         || {
-            let owned = own(hand, &mut own_cells);
-            flag.store(true, Ordering::SeqCst);
+            let owned = own(hand, flags, &mut own_cells);
+            flags.owner_is_done.store(true, Ordering::SeqCst);
             owned
         },
-        || rob(pass, flag, &mut stolen),
+        || rob(pass, flags, &mut stolen),
     );
     owned?;
     robbed?;
