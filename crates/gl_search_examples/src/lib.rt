@@ -3,6 +3,8 @@
 #![tactic(auto)]
 
 #[cfg(test)]
+mod both_searches;
+#[cfg(test)]
 mod cells;
 #[cfg(test)]
 mod checked;
