@@ -58,14 +58,6 @@ pub fn joined(alloc: Global, parts: &[&str]) -> Result<String, AllocError> {
     Ok(text)
 }
 
-/// A text in which the first place of a part has another.
-pub fn replaced(alloc: Global, text: &str, old: &str, new: &str) -> Result<String, AllocError> {
-    match text.split_once(old) {
-        Some((front, back)) => joined(alloc, &[front, new, back]),
-        None => joined(alloc, &[text]),
-    }
-}
-
 /// A file whose text has these parts.
 pub fn make_file(alloc: Global, name: &'static str, parts: &[&str]) -> Result<File, AllocError> {
     let text = joined(alloc, parts)?;
@@ -120,13 +112,7 @@ fn words(alloc: Global, line: &str) -> Result<Vec<Name>, AllocError> {
 
 /// Runs the words of the line in a folder of these files; the proof is `P.TXT`. The k-th call of the
 /// desk fails where k isn't 0.
-pub fn run_with(
-    alloc: Global,
-    line: &str,
-    files: &[File],
-    failing: u64,
-    stewards: &mut Vec<Box<dyn Steward>>,
-) -> Result<Ended, Fail> {
+pub fn run(alloc: Global, line: &str, files: &[File], failing: u64) -> Result<Ended, Fail> {
     let made = files.len() as u64;
     let mut failures = Vec::new(alloc);
     if failing > 0 {
@@ -135,21 +121,16 @@ pub fn run_with(
     let mut desk = MemDesk::new(alloc, Vec::new(alloc), failures)?;
     fill(alloc, &mut desk, files)?;
     let words = words(alloc, line)?;
-    let status = run_single(alloc, &words, &mut desk, stewards);
+    let mut stewards: Vec<Box<dyn Steward>> = Vec::new(alloc);
+    stewards.push(Box::new(alloc, Ceiling::new())?)?;
+    stewards.push(Box::new(alloc, EngineNoise::new())?)?;
+    let status = run_single(alloc, &words, &mut desk, &mut stewards);
     Ok(Ended {
         status,
         said: String::from_utf8(Vec::from_slice(alloc, desk.printed())?)?,
         proof: text_of(alloc, &desk, "P.TXT")?,
         calls: desk.calls().saturating_sub(made),
     })
-}
-
-/// The same with the two stewards of the program.
-pub fn run(alloc: Global, line: &str, files: &[File], failing: u64) -> Result<Ended, Fail> {
-    let mut stewards: Vec<Box<dyn Steward>> = Vec::new(alloc);
-    stewards.push(Box::new(alloc, Ceiling::new())?)?;
-    stewards.push(Box::new(alloc, EngineNoise::new())?)?;
-    run_with(alloc, line, files, failing, &mut stewards)
 }
 
 /// The run says this and ends with this status.
@@ -165,31 +146,4 @@ pub fn expect(
     assert_eq!(rt; ended.said.as_str(), said);
     assert_eq!(rt; ended.status, status);
     Ok(ended)
-}
-
-/// `score` says this sheet and appends a proof with these lines between its heading and its end, and
-/// `check` says this of it.
-pub fn expect_day(
-    rt: &impl Abort,
-    alloc: Global,
-    mut files: Vec<File>,
-    sheet: &str,
-    claims: &str,
-    said: &str,
-) -> Result<(), Fail> {
-    let line = "score DAY.TOML P.TXT 1";
-    let ended = expect(rt, alloc, line, &files, Status::Done, sheet)?;
-    let proof = ended.proof.unwrap_or(String::new(alloc));
-    let whole = joined(alloc, &["GLIDEPROOF 1\n", claims, "END\n"])?;
-    assert_eq!(rt; proof.as_str(), whole.as_str());
-    files.push(make_file(alloc, "P.TXT", &[whole.as_str()])?)?;
-    expect(
-        rt,
-        alloc,
-        "check DAY.TOML P.TXT",
-        &files,
-        Status::Done,
-        said,
-    )?;
-    Ok(())
 }

@@ -1,9 +1,7 @@
-//! Worked days: whole runs of `score` and `check` over folders in memory, with sheets, proofs and
-//! refusals that were computed by hand.
+//! What of whole days isn't one answer: each call of the desk failing in turn, each first part of a
+//! proof, and generated days, whose `demo` says what `score` says of their files.
 #![tactic(auto)]
 
-#[cfg(test)]
-mod areas;
 #[cfg(test)]
 mod checks;
 #[cfg(test)]
@@ -13,6 +11,4 @@ mod failures;
 #[cfg(test)]
 mod folder;
 #[cfg(test)]
-mod races;
-#[cfg(test)]
-mod refusals;
+mod status;

@@ -1,0 +1,96 @@
+use anyhow::{Context, Result};
+use gl_desk::{Desk, MemDesk, Name};
+use std::alloc::{AllocError, Global};
+use std::fs;
+
+/// The place of every fix of a long recording, as recordings write it.
+const ORIGIN: &str = "0000000N00000000E";
+
+/// An empty folder, whose call with this number fails. Its calls are counted from 1.
+pub fn fresh(alloc: Global, failing: u64) -> Result<MemDesk, AllocError> {
+    let mut failures = Vec::new(alloc);
+    if failing > 0 {
+        failures.push(failing)?;
+    }
+    MemDesk::new(alloc, Vec::new(alloc), failures)
+}
+
+/// The text, in which `\n` and `\r` stand for the ends of lines.
+fn unescaped(alloc: Global, text: &str) -> Result<String, AllocError> {
+    text.replace(alloc, "\\n", "\n")?
+        .as_str()
+        .replace(alloc, "\\r", "\r")
+}
+
+/// Appends a text to a file by one call.
+fn append(alloc: Global, desk: &mut MemDesk, name: &str, text: &str) -> Result<()> {
+    let name = Name::from_text(alloc, name)?;
+    desk.append(alloc, &name, text.as_bytes())?;
+    Ok(())
+}
+
+/// `add NAME TEXT` appends the text to the file.
+pub fn add(rt: &HostRuntime, desk: &mut MemDesk, rest: &str) -> Result<()> {
+    let (name, text) = rest.split_once(' ').context("a name and a text")?;
+    let text = unescaped(rt.alloc(), text)?;
+    append(rt.alloc(), desk, name, text.as_str())
+}
+
+/// `copy NAME FILE` appends what a file of `data/` has.
+pub fn copy(rt: &HostRuntime, desk: &mut MemDesk, rest: &str) -> Result<()> {
+    let (name, file) = rest.split_once(' ').context("a name and a file")?;
+    let text = fs::read_to_string(rt, file)?;
+    append(rt.alloc(), desk, name, text.as_str())
+}
+
+/// `change NAME FILE OLD -> NEW` appends what a file of `data/` has, with its first part that is `OLD`
+/// replaced.
+pub fn change(rt: &HostRuntime, desk: &mut MemDesk, rest: &str) -> Result<()> {
+    let (name, rest) = rest.split_once(' ').context("a name")?;
+    let (file, rest) = rest.split_once(' ').context("a file")?;
+    let (old, new) = rest.split_once(" -> ").context("two texts")?;
+    let old = unescaped(rt.alloc(), old)?;
+    let new = unescaped(rt.alloc(), new)?;
+    let text = fs::read_to_string(rt, file)?;
+    let (before, after) = text
+        .as_str()
+        .split_once(old.as_str())
+        .context("no such part")?;
+    let changed = format!(in rt.alloc(); "{before}{new}{after}")?;
+    append(rt.alloc(), desk, name, changed.as_str())
+}
+
+/// `times COUNT NAME TEXT` appends the text so many times by one call.
+pub fn times(rt: &HostRuntime, desk: &mut MemDesk, rest: &str) -> Result<()> {
+    let (count, rest) = rest.split_once(' ').context("a count")?;
+    let (name, text) = rest.split_once(' ').context("a name and a text")?;
+    let text = unescaped(rt.alloc(), text)?;
+    let mut all = String::new(rt.alloc());
+    for _ in 0..count.parse::<u32>()? {
+        all.push_str(text.as_str())?;
+    }
+    append(rt.alloc(), desk, name, all.as_str())
+}
+
+/// `seconds COUNT NAME` appends so many fixes a second apart from midnight on, across the next one, at
+/// one place.
+pub fn seconds(rt: &HostRuntime, desk: &mut MemDesk, rest: &str) -> Result<()> {
+    let (count, name) = rest.split_once(' ').context("a count and a name")?;
+    let mut all = String::new(rt.alloc());
+    for second in 0..count.parse::<u32>()? {
+        let time = second % 86_400;
+        let (hour, minute, second) = (time / 3_600, time / 60 % 60, time % 60);
+        let line = format!(in rt.alloc(); "B{hour:02}{minute:02}{second:02}{ORIGIN}A0100001000\n")?;
+        all.push_str(line.as_str())?;
+    }
+    append(rt.alloc(), desk, name, all.as_str())
+}
+
+/// `show NAME` says what the file has, if it is there.
+pub fn show(rt: &HostRuntime, desk: &MemDesk, name: &str) -> Result<()> {
+    match desk.file(&Name::from_text(rt.alloc(), name)?) {
+        Some(bytes) => println!(rt; "{name}: {:?}", str::from_utf8(bytes)?)?,
+        None => println!(rt; "{name}: none")?,
+    }
+    Ok(())
+}

@@ -1,0 +1,53 @@
+//! Worked runs of the commands over folders in memory, as a program: each line of `stdin` begins a
+//! folder, gives it a file or runs words in it, and the program says what came of it. The gate
+//! compares that with `stdout`, whose answers were computed by hand or by an independent program.
+#![tactic(auto)]
+
+mod folder;
+mod runs;
+
+use anyhow::{Result, bail};
+use gl_desk::MemDesk;
+use std::io;
+
+/// Carries out a line that gives the folder a file.
+fn give(rt: &HostRuntime, desk: &mut MemDesk, word: &str, rest: &str) -> Result<()> {
+    match word {
+        "add" => folder::add(rt, desk, rest),
+        "copy" => folder::copy(rt, desk, rest),
+        "change" => folder::change(rt, desk, rest),
+        "times" => folder::times(rt, desk, rest),
+        "seconds" => folder::seconds(rt, desk, rest),
+        _ => bail!("no line begins with {word}"),
+    }
+}
+
+/// Carries out a line.
+fn obey(rt: &HostRuntime, desk: &mut MemDesk, word: &str, rest: &str) -> Result<()> {
+    match word {
+        "show" => folder::show(rt, desk, rest),
+        "run" => runs::run(rt, desk, rest),
+        "count" => runs::count(rt, desk, rest),
+        "first" => runs::first(rt, desk, rest),
+        "among" => runs::among(rt, desk, rest),
+        "bare" => runs::bare(rt, desk, rest),
+        _ => give(rt, desk, word, rest),
+    }
+}
+
+fn main(rt: HostRuntime) -> Result<()> {
+    let script = io::read_to_string(rt.alloc(), rt.reader())?;
+    let mut desk = folder::fresh(rt.alloc(), 0)?;
+    for line in script.as_str().lines() {
+        let (word, rest) = line.split_once(' ').unwrap_or((line, ""));
+        match word {
+            "#" => {
+                println!(rt; "{line}")?;
+                desk = folder::fresh(rt.alloc(), 0)?;
+            }
+            "failing" => desk = folder::fresh(rt.alloc(), rest.parse::<u64>()?)?,
+            _ => obey(&rt, &mut desk, word, rest)?,
+        }
+    }
+    Ok(())
+}
