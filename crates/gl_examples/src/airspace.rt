@@ -12,9 +12,6 @@ const SQUARE: &str =
     "AC R\nAN Box\nAL SFC\nAH 2000m\nDP 0:30:00 N 0:30:00 W\nDP 0:30:00 N 0:30:00 E\n\
     DP 1:30:00 N 0:30:00 E\nDP 1:30:00 N 0:30:00 W\n";
 
-/// A circle of 60 nautical miles and as many thousandths as a text says.
-const ROUND: &str = "AC Q\nAL 1000 m\nAH 3281 ft\nV X=0:0 N 0:0 E\nDC 60.";
-
 /// A place in 1/100,000 minute.
 fn grid(rt: &impl Abort, lat: i32, lon: i32) -> Grid {
     assert!(rt; lat >= -540_000_000);
@@ -45,202 +42,113 @@ fn fix(rt: &impl Abort, lat: i32, lon: i32, alt: i32) -> Fix {
     fix_over(grid(rt, lat, lon), alt)
 }
 
-/// How many volumes a text has, or why it is refused.
-fn volumes(alloc: Global, text: &str) -> Result<usize, AirError> {
-    let air = read_openair(alloc, text.as_bytes())?;
-    Ok(air.volumes.len())
+/// How many volumes a text has, or why it is refused, in words.
+fn answer(alloc: Global, text: &str) -> Result<String, AllocError> {
+    match read_openair(alloc, text.as_bytes()) {
+        Ok(air) => format!(in alloc; "{} volumes", air.volumes.len()),
+        Err(AirError::Line(line)) => format!(in alloc; "line {line}"),
+        Err(AirError::TooMany(line)) => format!(in alloc; "too many {line}"),
+        Err(AirError::Memory) => Err(AllocError),
+    }
 }
 
-/// A line behind the first of a volume: where it reads, the volume isn't complete and so its first
-/// line is the one that doesn't read.
-fn is_read(alloc: Global, before: &str, line: &str, number: u32) -> Result<Option<bool>, Fail> {
-    let text = format!(in alloc; "{before}{line}\r\n")?;
-    Ok(match volumes(alloc, text.as_str()) {
-        Err(AirError::Line(1)) => Some(true),
-        Err(AirError::Line(n)) if n == number => Some(false),
-        _ => None,
-    })
-}
-
-#[test]
-fn lines_that_read(rt: HostRuntime) -> Result<(), Fail> {
-    let lines = [
-        "AN Box",
-        "an  box",
-        "AN \u{e9}",
-        "AL SFC",
-        "AL GND",
-        "AH UNL",
-        "AH unlim",
-        "AH FL100",
-        "ah fl000095",
-        "AL 1000",
-        "AL 1000FT",
-        "AL 1000 ft",
-        "AL 1000ft MSL",
-        "AL 1000 FT AMSL",
-        "AH 999999m",
-        "AH 500 M msl",
-        "AL\t 1000 \t ft  ",
-        "V X=48:00:00 N 011:00:00 E",
-        "v x=1:2n1:2e",
-        "DP 0:0 N 0:0 E",
-        "DP 90:00:00 S180:00:00 W",
-        "DP 1:59.999 N 1:59:59.999 E",
-        "* comment",
-        "",
-        "   ",
-        "\t",
-        "AT 1:2 N",
-        "ATxyz",
-        "SPLIT",
-        "sb 1,2,3",
-    ];
-    for line in lines {
+/// Compares the answer of each text of a table. In a text `|` stands for the end of a line, and `#`
+/// for the filling.
+fn compare(rt: &impl Abort, alloc: Global, filling: &str, table: &str) -> Result<(), Fail> {
+    for row in table.lines() {
+        let (expected, text) = row.split_once(": ").ok_or("no text")?;
+        let lines = text.replace(alloc, "|", "\n")?;
+        let text = lines.as_str().replace(alloc, "#", filling)?;
         assert_eq!(rt;
-            is_read(rt.alloc(), "AC R\n", line, 2)?,
-            Some(true),
-            "at {line}"
+            answer(alloc, text.as_str())?.as_str(),
+            expected,
+            "at {row}"
         );
     }
-    let circles = ["DC 5", "DC 500", "dc 0.5", "DC 500.000", "DC 000"];
-    for line in circles {
-        let before = "AC R\nV X=0:0 N 0:0 E\n";
+    Ok(())
+}
+
+/// Compares the answer of a volume with each of the lines behind its first ones: where the line reads,
+/// the volume isn't complete and so its first line is the one that doesn't read.
+fn compare_lines(
+    rt: &impl Abort,
+    alloc: Global,
+    before: &str,
+    lines: &str,
+    expected: &str,
+) -> Result<(), Fail> {
+    for line in lines.split('\n') {
+        let text = format!(in alloc; "{before}{line}\r\n")?;
         assert_eq!(rt;
-            is_read(rt.alloc(), before, line, 3)?,
-            Some(true),
+            answer(alloc, text.as_str())?.as_str(),
+            expected,
             "at {line}"
         );
     }
     Ok(())
 }
 
+/// The first lines of a volume of corners, and of one that is a circle.
+const CORNERS: &str = "AC R\n";
+
+const CIRCLE: &str = "AC R\nV X=0:0 N 0:0 E\n";
+
+/// Lines that read.
+const LINES: &str = "AN Box\nan  box\nAN \u{e9}\nAL SFC\nAL GND\nAH UNL\nAH unlim\nAH FL100\n\
+    ah fl000095\nAL 1000\nAL 1000FT\nAL 1000 ft\nAL 1000ft MSL\nAL 1000 FT AMSL\nAH 999999m\n\
+    AH 500 M msl\nAL\t 1000 \t ft  \nV X=48:00:00 N 011:00:00 E\nv x=1:2n1:2e\nDP 0:0 N 0:0 E\n\
+    DP 90:00:00 S180:00:00 W\nDP 1:59.999 N 1:59:59.999 E\n* comment\n\n   \n\t\nAT 1:2 N\n\
+    ATxyz\nSPLIT\nsb 1,2,3";
+
+/// Radii that read.
+const RADII: &str = "DC 5\nDC 500\ndc 0.5\nDC 500.000\nDC 000";
+
+/// Lines that don't read.
+const BAD_LINES: &str = "AC\nAC  \nAN\nAL\n AL SFC\nALSFC\nAL AGL\nAL 500 AGL\nAL 500FT AGL\n\
+    AL 1000 MSL\nAL FL\nAL FL 100\nAL FL100 MSL\nAL SFC MSL\nAL 1234567\nAL FL1234567\nAL -5\n\
+    AL 10.5\nAL 100 mm\nAL 1000ftx\nDC 5\nDP 0:0\nDP 0 N 0 E\nDP 0:60 N 0:0 E\n\
+    DP 0:59:60 N 0:0 E\nDP 0:60:00 N 0:0 E\nDP 91:0 N 0:0 E\nDP 90:00.001 N 0:0 E\n\
+    DP 0:0 N 180:00:00.001 E\nDP 0:0 E 0:0 N\nDP 1234:0 N 0:0 E\nDP 0:123 N 0:0 E\n\
+    DP 0:1.1234 N 0:0 E\nDP 0:1. N 0:0 E\nDP 0:1.5:2 N 0:0 E\nDP 0:0 N 0:0 E x\nDP 0:0 N, 0:0 E\n\
+    V X= 0:0 N 0:0 E\nV X:0:0 N 0:0 E\nV D=+\nDA 10,270,290\nDB 1,2\nAY UNK\nHELLO\nA\n\u{e9}";
+
+/// Radii that don't read.
+const BAD_RADII: &str = "DC 500.001\nDC 501\nDC 1234\nDC\nDC 5 NM\nDC .5\nDC 5.1234";
+
 #[test]
-fn lines_that_do_not_read(rt: HostRuntime) -> Result<(), Fail> {
-    let lines = [
-        "AC",
-        "AC  ",
-        "AN",
-        "AL",
-        " AL SFC",
-        "ALSFC",
-        "AL AGL",
-        "AL 500 AGL",
-        "AL 500FT AGL",
-        "AL 1000 MSL",
-        "AL FL",
-        "AL FL 100",
-        "AL FL100 MSL",
-        "AL SFC MSL",
-        "AL 1234567",
-        "AL FL1234567",
-        "AL -5",
-        "AL 10.5",
-        "AL 100 mm",
-        "AL 1000ftx",
-        "DC 5",
-        "DP 0:0",
-        "DP 0 N 0 E",
-        "DP 0:60 N 0:0 E",
-        "DP 0:59:60 N 0:0 E",
-        "DP 0:60:00 N 0:0 E",
-        "DP 91:0 N 0:0 E",
-        "DP 90:00.001 N 0:0 E",
-        "DP 0:0 N 180:00:00.001 E",
-        "DP 0:0 E 0:0 N",
-        "DP 1234:0 N 0:0 E",
-        "DP 0:123 N 0:0 E",
-        "DP 0:1.1234 N 0:0 E",
-        "DP 0:1. N 0:0 E",
-        "DP 0:1.5:2 N 0:0 E",
-        "DP 0:0 N 0:0 E x",
-        "DP 0:0 N, 0:0 E",
-        "V X= 0:0 N 0:0 E",
-        "V X:0:0 N 0:0 E",
-        "V D=+",
-        "DA 10,270,290",
-        "DB 1,2",
-        "AY UNK",
-        "HELLO",
-        "A",
-        "\u{e9}",
-    ];
-    for line in lines {
-        assert_eq!(rt;
-            is_read(rt.alloc(), "AC R\n", line, 2)?,
-            Some(false),
-            "at {line}"
-        );
-    }
-    let circles = [
-        "DC 500.001",
-        "DC 501",
-        "DC 1234",
-        "DC",
-        "DC 5 NM",
-        "DC .5",
-        "DC 5.1234",
-    ];
-    for line in circles {
-        let before = "AC R\nV X=0:0 N 0:0 E\n";
-        assert_eq!(rt;
-            is_read(rt.alloc(), before, line, 3)?,
-            Some(false),
-            "at {line}"
-        );
-    }
-    Ok(())
+fn lines_that_read_and_that_do_not(rt: HostRuntime) -> Result<(), Fail> {
+    compare_lines(&rt, rt.alloc(), CORNERS, LINES, "line 1")?;
+    compare_lines(&rt, rt.alloc(), CIRCLE, RADII, "line 1")?;
+    compare_lines(&rt, rt.alloc(), CORNERS, BAD_LINES, "line 2")?;
+    compare_lines(&rt, rt.alloc(), CIRCLE, BAD_RADII, "line 3")
 }
+
+/// Of the last four, two have a first volume without a ceiling: in the one a line of the second
+/// volume doesn't read, in the other a line of the first. In the last a centre of the volume before
+/// doesn't serve.
+const VOLUMES: &str = "0 volumes: \n0 volumes: |* nothing|SP 1,2|\n\
+    1 volumes: #\n\
+    line 1: AL SFC|\n\
+    line 3: *||AN x|AC R|\n\
+    line 1: AC R|AL SFC|AH FL100|DP 0:0 N 0:0 E\n\
+    line 1: AC R|AL SFC|AH 1|DP 0:0 N 0:0 E|DP 0:0 N 0:1 E|\n\
+    line 3: AC R|AL SFC|AL SFC|\n\
+    line 4: AC R|AH UNL|AL SFC|AH UNL|\n\
+    line 4: AC R|V X=0:0 N 0:0 E|DC 5|DP 0:0 N 0:0 E|\n\
+    line 4: AC R|V X=0:0 N 0:0 E|DP 0:0 N 0:0 E|DC 5|\n\
+    line 4: AC R|V X=0:0 N 0:0 E|DC 5|DC 5|\n\
+    line 1: AC R|AL SFC|V X=0:0 N 0:0 E|DC 5|AC Q|HELLO|\n\
+    line 3: AC R|AL SFC|HELLO|AC Q|\n\
+    line 7: AC R|AL SFC|AH UNL|V X=0:0 N 0:0 E|DC 5|AC Q|DC 5|\n";
 
 #[test]
 fn volumes_and_their_refusals(rt: HostRuntime) -> Result<(), Fail> {
-    let texts = [
-        ("", Ok(0)),
-        ("\n* nothing\nSP 1,2\n", Ok(0)),
-        (SQUARE, Ok(1)),
-        ("AL SFC\n", Err(AirError::Line(1))),
-        ("*\n\nAN x\nAC R\n", Err(AirError::Line(3))),
-        (
-            "AC R\nAL SFC\nAH FL100\nDP 0:0 N 0:0 E",
-            Err(AirError::Line(1)),
-        ),
-        (
-            "AC R\nAL SFC\nAH 1\nDP 0:0 N 0:0 E\nDP 0:0 N 0:1 E\n",
-            Err(AirError::Line(1)),
-        ),
-        ("AC R\nAL SFC\nAL SFC\n", Err(AirError::Line(3))),
-        ("AC R\nAH UNL\nAL SFC\nAH UNL\n", Err(AirError::Line(4))),
-        (
-            "AC R\nV X=0:0 N 0:0 E\nDC 5\nDP 0:0 N 0:0 E\n",
-            Err(AirError::Line(4)),
-        ),
-        (
-            "AC R\nV X=0:0 N 0:0 E\nDP 0:0 N 0:0 E\nDC 5\n",
-            Err(AirError::Line(4)),
-        ),
-        (
-            "AC R\nV X=0:0 N 0:0 E\nDC 5\nDC 5\n",
-            Err(AirError::Line(4)),
-        ),
-        // the first volume has no ceiling, and a line of the second doesn't read
-        (
-            "AC R\nAL SFC\nV X=0:0 N 0:0 E\nDC 5\nAC Q\nHELLO\n",
-            Err(AirError::Line(1)),
-        ),
-        // the first volume has no ceiling, but a line of it doesn't read
-        ("AC R\nAL SFC\nHELLO\nAC Q\n", Err(AirError::Line(3))),
-        // a centre of the volume before doesn't serve
-        (
-            "AC R\nAL SFC\nAH UNL\nV X=0:0 N 0:0 E\nDC 5\nAC Q\nDC 5\n",
-            Err(AirError::Line(7)),
-        ),
-    ];
-    for (text, expected) in texts {
-        assert_eq!(rt; volumes(rt.alloc(), text), expected, "at {text}");
-    }
+    compare(&rt, rt.alloc(), SQUARE, VOLUMES)?;
     let bytes = [0xff, 0xfe, 0, 1];
-    let refused = read_openair(rt.alloc(), &bytes).map(|air| air.volumes.len());
-    assert_eq!(rt; refused, Err(AirError::Line(1)));
+    assert_eq!(rt;
+        read_openair(rt.alloc(), &bytes).err(),
+        Some(AirError::Line(1))
+    );
     Ok(())
 }
 
@@ -253,55 +161,57 @@ fn times(alloc: Global, line: &str, count: usize) -> Result<String, AllocError> 
     Ok(text)
 }
 
+/// Behind the 256 volumes stand nothing, a whole volume, one that isn't complete, so that its first
+/// line doesn't read, and one a line of which doesn't read, so that nothing more is tested of it.
 #[test]
 fn at_most_256_volumes(rt: HostRuntime) -> Result<(), Fail> {
-    let volume = "AC R\nAL SFC\nAH UNL\nV X=0:0 N 0:0 E\nDC 1\n";
-    let full = times(rt.alloc(), volume, 256)?;
-    let ends = [
-        ("", Ok(256)),
-        (volume, Err(AirError::TooMany(1281))),
-        // not complete, so its first line doesn't read
-        ("AC R\n", Err(AirError::Line(1281))),
-        // a line of it doesn't read, so nothing more is tested of it
-        ("AC R\nHELLO\n", Err(AirError::TooMany(1281))),
-    ];
-    for (end, expected) in ends {
-        let text = format!(in rt.alloc(); "{full}{end}")?;
-        assert_eq!(rt; volumes(rt.alloc(), text.as_str()), expected, "with {end}");
-    }
-    Ok(())
+    let full = times(
+        rt.alloc(),
+        "AC R\nAL SFC\nAH UNL\nV X=0:0 N 0:0 E\nDC 1\n",
+        256,
+    )?;
+    let table = "256 volumes: #\n\
+        too many 1281: #AC R|AL SFC|AH UNL|V X=0:0 N 0:0 E|DC 1|\n\
+        line 1281: #AC R|\n\
+        too many 1281: #AC R|HELLO|\n";
+    compare(&rt, rt.alloc(), full.as_str(), table)
 }
 
+/// The last volume isn't complete, so its first line doesn't read.
 #[test]
 fn at_most_4096_corners(rt: HostRuntime) -> Result<(), Fail> {
     let corners = times(rt.alloc(), "DP 0:0 N 0:0 E\n", 4_096)?;
-    let cases = [
-        ("AC R\nAL SFC\nAH UNL\n", "", Ok(1)),
-        (
-            "AC R\nAL SFC\nAH UNL\n",
-            "DP 0:0 N 0:0 E\n",
-            Err(AirError::TooMany(4_100)),
-        ),
-        (
-            "AC R\nAL SFC\nAH UNL\n",
-            "DP 0:0 N 0:0 E\nHELLO\n",
-            Err(AirError::TooMany(4_100)),
-        ),
-        (
-            "AC R\nAL SFC\nAH UNL\n",
-            "HELLO\nDP 0:0 N 0:0 E\n",
-            Err(AirError::Line(4_100)),
-        ),
-        // not complete, so its first line doesn't read
-        ("AC R\nAL SFC\n", "DP 0:0 N 0:0 E\n", Err(AirError::Line(1))),
-    ];
-    for (before, behind, expected) in cases {
-        let text = format!(in rt.alloc(); "{before}{corners}{behind}")?;
-        assert_eq!(rt;
-            volumes(rt.alloc(), text.as_str()),
-            expected,
-            "with {behind}"
-        );
+    let table = "1 volumes: AC R|AL SFC|AH UNL|#\n\
+        too many 4100: AC R|AL SFC|AH UNL|#DP 0:0 N 0:0 E|\n\
+        too many 4100: AC R|AL SFC|AH UNL|#DP 0:0 N 0:0 E|HELLO|\n\
+        line 4100: AC R|AL SFC|AH UNL|#HELLO|DP 0:0 N 0:0 E|\n\
+        line 1: AC R|AL SFC|#DP 0:0 N 0:0 E|\n";
+    compare(&rt, rt.alloc(), corners.as_str(), table)
+}
+
+/// The fix at a place in 1/100,000 minute and an altitude in metres, written with spaces between.
+fn written(rt: &impl Abort, text: &str) -> Result<Fix, Fail> {
+    let (lat, rest) = text.split_once(' ').ok_or("no longitude")?;
+    let (lon, alt) = rest.split_once(' ').ok_or("no altitude")?;
+    Ok(fix(
+        rt,
+        lat.parse::<i32>()?,
+        lon.parse::<i32>()?,
+        alt.parse::<i32>()?,
+    ))
+}
+
+/// Compares whether the first volume of a text holds each fix of a table.
+fn compare_fixes(rt: &impl Abort, alloc: Global, text: &str, table: &str) -> Result<(), Fail> {
+    let air = read_openair(alloc, text.as_bytes())?;
+    for row in table.lines() {
+        let (place, expected) = row.split_once(": ").ok_or("no answer")?;
+        let found = match inside(&air, &written(rt, place)?) {
+            Some(0) => "in",
+            Some(_) => "in another",
+            None => "out",
+        };
+        assert_eq!(rt; found, expected, "at {row}");
     }
     Ok(())
 }
@@ -309,45 +219,22 @@ fn at_most_4096_corners(rt: HostRuntime) -> Result<(), Fail> {
 /// The places in and round a square, whose western and southern edges are inside.
 #[test]
 fn inside_of_a_square(rt: HostRuntime) -> Result<(), Fail> {
-    let air = read_openair(rt.alloc(), SQUARE.as_bytes())?;
-    let cases = [
-        (6_000_000, 0, 1_000, true),
-        (6_000_000, 0, 2_000, true),
-        (6_000_000, 0, 2_001, false),
-        (6_000_000, 0, -9_999, true),
-        (0, 0, 1_000, false),
-        (3_000_000, 0, 1_000, true),
-        (2_999_999, 0, 1_000, false),
-        (9_000_000, 0, 1_000, false),
-        (8_999_999, 0, 1_000, true),
-        (6_000_000, -3_000_000, 1_000, true),
-        (6_000_000, -3_000_001, 1_000, false),
-        (6_000_000, 3_000_000, 1_000, false),
-        (6_000_000, 2_999_999, 1_000, true),
-    ];
-    for (lat, lon, alt, expected) in cases {
-        let found = inside(&air, &fix(&rt, lat, lon, alt)).is_some();
-        assert_eq!(rt; found, expected, "at {lat} {lon} {alt}");
-    }
-    Ok(())
+    let table = "6000000 0 1000: in\n6000000 0 2000: in\n6000000 0 2001: out\n\
+        6000000 0 -9999: in\n0 0 1000: out\n3000000 0 1000: in\n2999999 0 1000: out\n\
+        9000000 0 1000: out\n8999999 0 1000: in\n6000000 -3000000 1000: in\n\
+        6000000 -3000001 1000: out\n6000000 3000000 1000: out\n6000000 2999999 1000: in\n";
+    compare_fixes(&rt, rt.alloc(), SQUARE, table)
 }
 
 /// One degree is 11,119,492 cm: less than 60.041 nautical miles, and more than 60.040. 3,281 feet
 /// are 1,000 m.
 #[test]
 fn inside_of_a_circle(rt: HostRuntime) -> Result<(), Fail> {
-    for (decimals, alt, expected) in [
-        ("041", 1_000, Some(0)),
-        ("040", 1_000, None),
-        ("041", 999, None),
-        ("041", 1_001, None),
-    ] {
-        let text = format!(in rt.alloc(); "{ROUND}{decimals}\n")?;
-        let air = read_openair(rt.alloc(), text.as_bytes())?;
-        let found = inside(&air, &fix(&rt, 6_000_000, 0, alt));
-        assert_eq!(rt; found, expected, "at {decimals} {alt}");
-    }
-    Ok(())
+    let wide = "AC Q\nAL 1000 m\nAH 3281 ft\nV X=0:0 N 0:0 E\nDC 60.041\n";
+    let table = "6000000 0 1000: in\n6000000 0 999: out\n6000000 0 1001: out\n";
+    compare_fixes(&rt, rt.alloc(), wide, table)?;
+    let narrow = "AC Q\nAL 1000 m\nAH 3281 ft\nV X=0:0 N 0:0 E\nDC 60.040\n";
+    compare_fixes(&rt, rt.alloc(), narrow, "6000000 0 1000: out\n")
 }
 
 /// A polygon of no area holds nothing, and one that is written across 180 degrees is the long way
@@ -355,15 +242,16 @@ fn inside_of_a_circle(rt: HostRuntime) -> Result<(), Fail> {
 #[test]
 fn odd_polygons(rt: HostRuntime) -> Result<(), Fail> {
     let flat = "AC R\nAL SFC\nAH UNL\nDP 0:0 N 0:0 E\nDP 1:0 N 1:0 E\nDP 0:30 N 0:30 E\n";
-    let flat = read_openair(rt.alloc(), flat.as_bytes())?;
-    assert_eq!(rt; inside(&flat, &fix(&rt, 3_000_000, 3_000_000, 0)), None);
-    assert_eq!(rt; inside(&flat, &fix(&rt, 1_500_000, 1_499_999, 0)), None);
-    let wide =
-        "AC R\nAL SFC\nAH UNL\nDP 0:0 N 179:0 E\nDP 0:0 N 179:0 W\nDP 1:0 N 179:0 W\nDP 1:0 N 179:0 E\n";
-    let wide = read_openair(rt.alloc(), wide.as_bytes())?;
-    assert_eq!(rt; inside(&wide, &fix(&rt, 3_000_000, 0, 0)), Some(0));
-    assert_eq!(rt; inside(&wide, &fix(&rt, 3_000_000, 1_080_000_000, 0)), None);
-    Ok(())
+    let table = "3000000 3000000 0: out\n1500000 1499999 0: out\n";
+    compare_fixes(&rt, rt.alloc(), flat, table)?;
+    let wide = "AC R\nAL SFC\nAH UNL\nDP 0:0 N 179:0 E\nDP 0:0 N 179:0 W\nDP 1:0 N 179:0 W\n\
+        DP 1:0 N 179:0 E\n";
+    compare_fixes(
+        &rt,
+        rt.alloc(),
+        wide,
+        "3000000 0 0: in\n3000000 1080000000 0: out\n",
+    )
 }
 
 /// The number of the first of two volumes, and the cut before the first fix inside.

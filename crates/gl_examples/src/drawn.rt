@@ -1,7 +1,4 @@
-use crate::setting::run;
-use gl_app::Status;
 use std::alloc::{AllocError, Global};
-use std::test::Fail;
 
 /// Draws whole numbers, the same for the same seed.
 #[derive(Drop)]
@@ -39,22 +36,4 @@ pub fn wandering(alloc: Global, seed: u64, fixes: u64) -> Result<Vec<u8>, AllocE
         text.extend_from_slice(line.as_bytes())?;
     }
     Ok(text)
-}
-
-/// The greatest distances are by an independent program, which goes over every choice of five fixes
-/// in whole numbers without width.
-#[test]
-fn drawn_flights(rt: HostRuntime) -> Result<(), Fail> {
-    let cases = [
-        (1, 60, "FREE 103741.95 m\nFIXES 0 8 20 26 59\n"),
-        (2, 80, "FREE 118406.02 m\nFIXES 2 16 56 77 78\n"),
-        (3, 100, "FREE 120494.23 m\nFIXES 4 38 46 84 99\n"),
-    ];
-    for (seed, fixes, text) in cases {
-        let bytes = wandering(rt.alloc(), seed, fixes)?;
-        let ended = run(rt.alloc(), "free A.IGC", bytes, &[])?;
-        assert_eq!(rt; ended.status, Status::Done, "at seed {seed}");
-        assert_eq!(rt; ended.said.as_str(), text, "at seed {seed}");
-    }
-    Ok(())
 }

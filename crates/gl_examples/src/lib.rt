@@ -1,5 +1,6 @@
-//! Worked examples: whole runs of the commands over folders in memory, with the answers that were
-//! computed by hand, and runs of the desks.
+//! Worked examples of airspace texts, of flights through areas and in races, of claims from the search
+//! to the checker, and runs of the desks, with answers that were computed by hand or by an independent
+//! program.
 #![tactic(auto)]
 
 #[cfg(test)]
@@ -12,12 +13,6 @@ mod claims;
 mod desk;
 #[cfg(test)]
 mod drawn;
-#[cfg(test)]
-mod free;
-#[cfg(test)]
-mod setting;
-#[cfg(test)]
-mod status;
 #[cfg(test)]
 mod system;
 #[cfg(test)]
