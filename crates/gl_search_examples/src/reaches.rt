@@ -1,6 +1,9 @@
+ghost use Rattle.std.specs.Prelude.{◌≡◌};
+
 use gl_goal::TriangleGoal;
 use gl_igc::Fix;
 use gl_sphere::{Grid, vector};
+use std::alloc::{AllocError, Global};
 use std::test::Fail;
 
 // The places at the origin, one degree east of it and one degree north.
@@ -27,6 +30,18 @@ fn fix_at(second: i32, grid: Grid) -> Fix {
     }
 }
 
+// How far a flight reaches from each of its fixes, up to the last one.
+fn reaches(alloc: Global, goal: &TriangleGoal, last: u32) -> Result<Vec<u32>, AllocError>
+    requires first { goal.now.first ≡ 0 }
+    requires last { goal.now.last ≡ last }
+{
+    let mut reaches = Vec::new(alloc);
+    for fix in 0..=last {
+        reaches.push(goal.reach(fix))?;
+    }
+    Ok(reaches)
+}
+
 #[test]
 fn reaches_of_five_fixes(rt: HostRuntime) -> Result<(), Fail> {
     let alloc = rt.alloc();
@@ -45,9 +60,8 @@ fn reaches_of_five_fixes(rt: HostRuntime) -> Result<(), Fail> {
     ];
     for (closing, expected) in cases {
         let goal = TriangleGoal::new(alloc, &fixes, 0, 4, closing)?;
-        for (place, reach) in (0..5).zip(expected) {
-            assert_eq!(rt; goal.reach(place), reach);
-        }
+        let found = reaches(alloc, &goal, 4)?;
+        assert_eq!(rt; found.as_slice(), expected.as_slice());
     }
     Ok(())
 }
@@ -88,8 +102,7 @@ fn reaches_over_two_stretches(rt: HostRuntime) -> Result<(), Fail> {
         0, 1, 2, 3, 4, 18, 18, 18, 18, 18, 18, 18, 18, 18, 18, 18, 18, 19, 19, 19,
     ];
     let goal = TriangleGoal::new(alloc, &fixes, 0, 19, 0)?;
-    for (place, reach) in (0..20).zip(expected) {
-        assert_eq!(rt; goal.reach(place), reach);
-    }
+    let found = reaches(alloc, &goal, 19)?;
+    assert_eq!(rt; found.as_slice(), expected.as_slice());
     Ok(())
 }
