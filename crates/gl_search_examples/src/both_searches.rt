@@ -1,5 +1,5 @@
 // The searches that keep no boxes find what the search with boxes finds.
-ghost use Rattle.std.specs.Prelude.{◌≡◌, ◌≤◌, ◌<◌, IfOk, length};
+ghost use Rattle.std.specs.Prelude.{◌≤◌, ◌<◌, length};
 
 use gl_free::best_free;
 use gl_goal::{FreeGoal, TriangleGoal};
@@ -33,9 +33,7 @@ fn drawn_fix(second: u8, draw: u32) -> Fix {
 }
 
 /// A flight of fixes that are drawn, a second apart.
-fn drawn_flight(alloc: Global, seed: u32, count: u8) -> Result<Vec<Fix>, AllocError>
-    ensures { IfOk result (λ fixes. length fixes.items ≡ count) }
-{
+fn drawn_flight(alloc: Global, seed: u32, count: u8) -> Result<Vec<Fix>, AllocError> {
     let mut fixes = Vec::new(alloc);
     let mut draw = seed;
     for second in 0..count {
