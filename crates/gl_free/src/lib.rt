@@ -18,8 +18,6 @@ mod run;
 mod search;
 mod side;
 mod stages;
-#[cfg(test)]
-mod tests;
 mod warm;
 
 pub use best::best_free;

@@ -9,6 +9,8 @@ mod cells;
 #[cfg(test)]
 mod checked;
 #[cfg(test)]
+mod free_alone;
+#[cfg(test)]
 mod free_goals;
 #[cfg(test)]
 mod hulls;
@@ -16,3 +18,5 @@ mod hulls;
 mod proofs_read;
 #[cfg(test)]
 mod reaches;
+#[cfg(test)]
+mod triangle_alone;

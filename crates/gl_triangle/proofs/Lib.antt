@@ -1,3 +1,5 @@
 pub mod Cells
 pub mod Fair
 pub mod Nodes
+pub mod Orders
+pub mod Rounds

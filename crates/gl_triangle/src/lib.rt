@@ -2,15 +2,15 @@
 //! is left out as soon as its hulls show that it holds no better triangle than what was found.
 #![tactic(auto)]
 
+mod by_place;
 mod found;
 mod leg;
 mod legs;
 mod node;
+mod order;
 mod places;
 mod search;
 mod spans;
-#[cfg(test)]
-mod tests;
 mod trial;
 mod warm;
 

@@ -21,7 +21,7 @@ pub(crate) struct Spans {
 }
 
 impl Spans {
-    ghost use Rattle.std.specs.Prelude.{◌≡◌, ◌<◌, ◌≤◌, length, MatchOption, map, slice_set};
+    ghost use Rattle.std.specs.Prelude.{◌≡◌, ◌<◌, ◌≤◌, length, MatchOption, map, max, min, slice_set};
     ghost use Rattle.gl_box.specs.Cell.{ends};
     ghost use Rattle.gl_box.specs.Halves.{IsSingle, span_at};
     ghost use Rattle.gl_triangle.specs.Places.{places_in};
@@ -76,6 +76,22 @@ impl Spans {
                 ..*self
             },
         }
+    }
+
+    /// The least of the three upper ends.
+    #[inline]
+    pub fn least_high(&self) -> u32
+        ensures { result ≡ min (min self.now.first.hi self.now.second.hi) self.now.third.hi }
+    {
+        self.first.hi.min(self.second.hi).min(self.third.hi)
+    }
+
+    /// The greatest of the three lower ends.
+    #[inline]
+    pub fn greatest_low(&self) -> u32
+        ensures { result ≡ max (max self.now.first.lo self.now.second.lo) self.now.third.lo }
+    {
+        self.first.lo.max(self.second.lo).max(self.third.lo)
     }
 
     /// The first place of each span.

@@ -1,5 +1,5 @@
 use Rattle.std.proofs.Common.{arith}
-use Rattle.gl_triangle.proofs.Cells.{length-fixes_of}
+use Rattle.gl_triangle.proofs.Rounds.{length-fixes_of}
 use Rattle.gl_triangle.proofs.trial.try_thirds.Goals as goal
 
 pub closes-requires : goal.closes-requires

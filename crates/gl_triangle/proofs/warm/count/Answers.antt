@@ -1,5 +1,5 @@
 use Rattle.std.proofs.Common.{◌<◌, ◌^◌, ap, length, arith, rules}
-use Rattle.gl_triangle.proofs.Cells.{length-fixes_of}
+use Rattle.gl_triangle.proofs.Rounds.{length-fixes_of}
 use Rattle.gl_triangle.proofs.warm.count.Goals as goal
 
 pub overflow_cast-result : goal.overflow_cast-result

@@ -1,4 +1,5 @@
-use crate::best_free;
+// Free distances without boxes, over flights there and back.
+use gl_free::best_free;
 use gl_goal::FreeGoal;
 use gl_igc::Fix;
 use gl_sphere::{Grid, vector};
