@@ -4,12 +4,16 @@
 
 mod climb;
 mod dive;
+mod error;
 mod found;
+mod schedule;
 mod search;
 mod spaced;
 mod verdict;
 mod warm;
 
+pub use error::StepError;
 pub use found::{Best, Found};
+pub use schedule::{Step, read_steps};
 pub use search::search_one;
 pub use warm::warm_start;
