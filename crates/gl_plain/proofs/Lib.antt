@@ -1,3 +1,4 @@
+pub mod Kept
 pub mod Machines
 pub mod Outcome
 pub mod Roots
@@ -5,3 +6,4 @@ pub mod Stack
 pub mod Places
 pub mod StepLines
 pub mod Totals
+pub mod Turns

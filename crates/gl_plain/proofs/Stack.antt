@@ -100,7 +100,7 @@ pub same_top : {A : Type 0} (xs ys zs : List A) (x y : A) → xs ≡ ys ++ x ∷
 same_top xs ys zs x y one other = (same_from_push ys zs x y (sym one ∙ other)).1
 
 -- a cell of single places is that of its low ends
-single_low : (cell : List (ℕ × ℕ)) → IsSingle cell → cell ≡ point (map (λ span. span.0) cell)
+pub single_low : (cell : List (ℕ × ℕ)) → IsSingle cell → cell ≡ point (map (λ span. span.0) cell)
 single_low [] single = refl
 single_low (s ∷ ss) single =
     let here : s.0 ≡ s.1 = single 0 s (omega arith) in

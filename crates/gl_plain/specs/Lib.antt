@@ -7,3 +7,4 @@ pub mod Schedule
 pub mod Search
 pub mod Steps
 pub mod Verdict
+pub mod Workers

@@ -6,11 +6,13 @@ mod climb;
 mod dive;
 mod error;
 mod found;
+mod machine;
 mod schedule;
 mod search;
 mod spaced;
 mod verdict;
 mod warm;
+mod worker;
 
 pub use error::StepError;
 pub use found::{Best, Found};
