@@ -1,9 +1,10 @@
 pub mod Kept
 pub mod Machines
 pub mod Outcome
+pub mod Partings
+pub mod Places
 pub mod Roots
 pub mod Stack
-pub mod Places
 pub mod StepLines
 pub mod Totals
 pub mod Turns

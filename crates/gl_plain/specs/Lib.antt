@@ -2,6 +2,7 @@ pub mod Candidate
 pub mod Finished
 pub mod Found
 pub mod Machine
+pub mod Order
 pub mod Safe
 pub mod Schedule
 pub mod Search

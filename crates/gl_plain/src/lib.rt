@@ -7,6 +7,7 @@ mod dive;
 mod error;
 mod found;
 mod machine;
+mod order;
 mod schedule;
 mod search;
 mod spaced;
@@ -16,6 +17,7 @@ mod worker;
 
 pub use error::StepError;
 pub use found::{Best, Found};
+pub use order::in_order;
 pub use schedule::{Step, read_steps};
 pub use search::search_one;
 pub use warm::warm_start;
