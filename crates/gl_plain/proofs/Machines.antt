@@ -181,7 +181,7 @@ closes_safe rule word before after closes safe =
       within = safe.within;
     })
 
-closed_seen : (rule : Rule) (seen more : Option ℕ) (boxes : List Box) → IsNoLess seen more → All (λ box. IsClosedFor rule seen box.0 box.1) boxes → All (λ box. IsClosedFor rule more box.0 box.1) boxes
+pub closed_seen : (rule : Rule) (seen more : Option ℕ) (boxes : List Box) → IsNoLess seen more → All (λ box. IsClosedFor rule seen box.0 box.1) boxes → All (λ box. IsClosedFor rule more box.0 box.1) boxes
 closed_seen rule seen more boxes no_less closed = λ k d below. closed_longer rule seen more _ _ no_less (closed k d below)
 
 looks_safe : (rule : Rule) (word : Option ℕ) (before after : Worker) → Looks word before after → IsSafeWorker rule word before → IsSafeWorker rule word after

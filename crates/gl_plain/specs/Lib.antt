@@ -3,6 +3,7 @@ pub mod Finished
 pub mod Found
 pub mod Machine
 pub mod Order
+pub mod Replayed
 pub mod Safe
 pub mod Schedule
 pub mod Search
