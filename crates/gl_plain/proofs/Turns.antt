@@ -1,5 +1,5 @@
 -- What the code does to its workers is what the machine says.
-use Rattle.std.proofs.Common.{◌≡◌, ◌≢◌, ◌∙◌, sym, ap, refl, subst, inl, inr, ℕ, ◌+◌, ◌-◌, ◌<◌, ◌≤◌, true, false, List, [], ◌∷◌, ◌++◌, length, drop, get_or, map, replicate, slice_set, Global, arith}
+use Rattle.std.proofs.Common.{◌≡◌, ◌≢◌, ◌∙◌, sym, ap, refl, subst, inl, inr, ℕ, ◌+◌, ◌-◌, ◌<◌, ◌≤◌, true, false, List, [], ◌∷◌, ◌++◌, length, get_or, map, replicate, slice_set, Global, arith}
 use Rattle.std.specs.Prelude.{◌⊎◌, IfSome, Option, Some, None, option_map, slice_get}
 use Rattle.std.specs.declared.collections.VecDeque.{VecDeque}
 use Rattle.std.specs.Option.{is_some, option_to_list}
@@ -103,13 +103,6 @@ pub empty_hand : (hand : Option Cell) → is_some hand ≡ false → hand ≡ No
 empty_hand None empty = refl
 empty_hand (Some cell) empty = absurd (false≢true (sym empty))
 
--- nothing comes from an empty deque alone
-pub emptied_by : (before after : List Cell) (stolen : Option Cell) → before ≡ option_to_list stolen ++ after → after ≡ drop 1 before → stolen ≡ None → before ≡ []
-emptied_by [] after stolen taken rest none = refl
-emptied_by (cell ∷ cells) after stolen taken rest none =
-    let same : cell ∷ cells ≡ after = taken ∙ ap (λ (o : Option Cell). option_to_list o ++ after) none in
-    absurd (omega (arith, ap length same, ap length rest))
-
 -- what the thief and the victim are, before and after
 pub record IsTheft (workers : List code.Worker) (number other : ℕ) (thief robbed holder victim : code.Worker) (stolen : Option Cell) : Type 0 where
   pub another : number ≢ other
@@ -209,6 +202,9 @@ pub first_worker : (worker : code.Worker) (deque : VecDeque Cell Global) (cell :
 first_worker worker deque cell whole is_idle is is_whole =
     let cells : map spans_of deque.items ≡ whole ∷ [] = ap (map spans_of) is ∙ map-append spans_of worker.deque.items (cell ∷ []) ∙ (λ i. (is_idle i).deque ++ is_whole i ∷ []) in
     λ i. record (is_idle i) { deque = cells i }
+
+pub one_worker : (workers : List code.Worker) (worker : code.Worker) (plain : Worker) → workers ≡ worker ∷ [] → worker_of worker ≡ plain → workers_of workers ≡ plain ∷ replicate (1 - 1) idle
+one_worker workers worker plain one is = ap workers_of one ∙ ap (λ (w : Worker). w ∷ []) is
 
 pub more_idle : (workers : List code.Worker) (worker : code.Worker) (first : Worker) (count : ℕ) → 1 ≤ count → workers_of workers ≡ first ∷ replicate (count - 1) idle → worker_of worker ≡ idle → workers_of (workers ++ worker ∷ []) ≡ first ∷ replicate (count + 1 - 1) idle
 more_idle workers worker first count some before is_idle =

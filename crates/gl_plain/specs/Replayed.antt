@@ -22,8 +22,8 @@ pub record IsLeft (rule : Rule) (workers : ℕ) (steps : List Step) (left : Left
   pub known : IsNoLess state.word (total_of left.known)
 
 -- Some workers come by some steps to one state of the machine. Its closed cells stand among the
--- boxes with their reasons, each as often; each other box lies in a cell that was open then; and the
--- count of closed cells is told.
+-- boxes with their reasons, each as often; each other box lies in a cell that was open then; and
+-- the count of closed cells is told.
 pub record IsReplay (rule : Rule) (workers : ℕ) (steps : List Step)
     (replayed : Replayed) : Type 0 where
   pub state : State

@@ -13,9 +13,9 @@ use Rattle.gl_plain.specs.Search.{IsNoLess}
 abbrev pub worker_cells : Worker → List (List (ℕ × ℕ))
 worker_cells worker = open_cells worker ++ map (λ box. box.0) worker.closed
 
--- The cells of a worker are nodes of the whole cell. What it closed is closed by its reason for what
--- it has seen, which the best word has reached, and so has what it kept, which is a legal tuple and
--- its value.
+-- The cells of a worker are nodes of the whole cell. What it closed is closed by its reason for
+-- what it has seen, which the best word has reached, and so has what it kept, which is a legal tuple
+-- and its value.
 pub record IsSafeWorker (rule : Rule) (word : Option ℕ) (worker : Worker) : Type 0 where
   pub deque : All (IsNode (whole_cell rule.axes)) worker.deque
   pub hand : IfSome worker.hand (IsNode (whole_cell rule.axes))

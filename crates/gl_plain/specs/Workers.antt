@@ -32,7 +32,8 @@ state_of machine = record { workers = workers_of machine.workers.items; word = m
 -- the cells in the hands lie in the whole cell
 abbrev pub AreCovered : Rule → List code.Worker → Type 0
 AreCovered rule workers =
-    All (λ worker. IfSome worker.hand (λ cell. Covers (whole_cell rule.axes) (spans_of cell))) workers
+    All (λ worker. IfSome worker.hand (λ cell. Covers (whole_cell rule.axes) (spans_of cell)))
+    workers
 
 -- a change is made that raises a total, or none can be made and nothing changes
 abbrev pub Raises : {X : Type 0} → (ℕ → X → X → Type 0) → X → X → Option ℕ → Type 0

@@ -37,7 +37,7 @@ fn steal(workers: &mut [Worker], number: u32, other: u32)
     if workers[place].hand.is_some() {
         return;
     }
-    let stolen = workers[from].deque.pop_front();
+    let stolen = workers[from].give();
     workers[place].hand = stolen;
 }
 
@@ -90,8 +90,8 @@ fn keep<G: Goal>(goal: &G, workers: &mut [Worker], number: u32) -> Option<u64>
 }
 
 impl Machine {
-    /// So many workers, the first of which has the whole cell of a goal in its deque. The only error
-    /// is want of memory.
+    /// So many workers, the first of which has the whole cell of a goal in its deque. The only
+    /// error is want of memory.
     pub(crate) fn new<G: Goal>(alloc: Global, goal: &G, workers: u32) -> Result<Machine, AllocError>
         requires { 1 ≤ workers }
         ensures { IfOk result (λ machine. state_of machine ≡ start (G.rule goal.now) workers) }

@@ -43,7 +43,8 @@ struct Left {
 fn best_kept(workers: &[Worker]) -> Option<Best>
     ensures kept { IfSome result
         (λ best. Contains (map (λ worker. worker.kept) workers.now) (Some best)) }
-    ensures no_less { All (λ worker. IsNoLess (total_of worker.kept) (total_of result)) workers.now }
+    ensures no_less { All (λ worker. IsNoLess (total_of worker.kept) (total_of result))
+        workers.now }
 {
     let mut best = None;
     for worker in workers {
@@ -127,13 +128,12 @@ pub fn replay<G: Goal>(
     ensures steps { IfOk result (IsReplay (G.rule goal.now) workers steps.now) }
 {
     let left = work(alloc, goal, workers, steps)?;
+    let by_steps = left.closed.len() as u32;
     let Found { best, mut closed } = finish(alloc, goal, left.known, left.open_cells)?;
     closed.extend_from_slice(left.closed.as_slice())?;
+    let closed = in_order(alloc, &whole(goal), closed)?;
     Ok(Replayed {
-        found: Found {
-            best,
-            closed: in_order(alloc, &whole(goal), closed)?,
-        },
-        by_steps: left.closed.len() as u32,
+        found: Found { best, closed },
+        by_steps,
     })
 }

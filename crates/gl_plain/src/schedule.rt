@@ -35,7 +35,8 @@ pub enum Step {
 
 /// The number of a worker that a text writes.
 fn worker_in(text: &[u8]) -> Option<u32>
-    ensures { MatchOption result ((worker : ℕ) → worker < 2 ^ 32 → text.now ≢ decimal worker)
+    ensures { MatchOption result
+        ((worker : ℕ) → worker < 2 ^ 32 → text.now ≢ decimal worker)
         (λ worker. text.now ≡ decimal worker) }
 {
     u32::try_from(read_u64(text)?).ok()

@@ -80,7 +80,8 @@ fn run<G: Goal>(
     legs: &mut [Leg],
 ) -> Result<(), AllocError>
     ghost roots: { List (List (ℕ × ℕ)) }
-    requires under_way { IsUnderWay (G.rule goal.now) roots best.old cells.old.items boxes.old.items }
+    requires under_way { IsUnderWay (G.rule goal.now) roots best.old cells.old.items
+        boxes.old.items }
     requires legs { G.are_legs goal.now legs.old }
     ensures over { OnOk result (IsUnderWay (G.rule goal.now) roots best.new [] boxes.new.items) }
     ensures grows { OnOk result (IsNoLess (total_of best.old) (total_of best.new)) }
@@ -102,7 +103,8 @@ pub(crate) fn finish<G: Goal>(
     requires sound { IsSound (G.rule goal.now) known }
     requires nodes { All (λ cell. IsNode (whole_cell (G.rule goal.now).axes) (spans_of cell))
         cells.items }
-    ensures { IfOk result (IsFinished (G.rule goal.now) (reverse (map spans_of cells.items)) known) }
+    ensures { IfOk result
+        (IsFinished (G.rule goal.now) (reverse (map spans_of cells.items)) known) }
 {
     let mut measured = measured_legs(alloc, goal)?;
     let legs = measured.as_mut_slice();

@@ -1,4 +1,5 @@
-ghost use Rattle.std.specs.Prelude.{◌≡◌, IfSome, MatchOption, OnOk};
+ghost use Rattle.std.specs.Prelude.{◌≡◌, ◌++◌, [], IfNone, IfSome, MatchOption, OnOk};
+ghost use Rattle.std.specs.Option.{option_to_list};
 ghost use Rattle.gl_box.specs.declared.closed.Why.{Why};
 ghost use Rattle.gl_box.specs.Cell.{Covers, spans_of};
 ghost use Rattle.gl_goal.specs.Rule.{whole_cell};
@@ -78,6 +79,15 @@ impl Worker {
         }
     }
 
+    /// Hands out the first cell of the deque, if there is one.
+    pub(crate) fn give(&mut self) -> Option<Cell>
+        ensures given { self.old.deque.items ≡ option_to_list result ++ self.new.deque.items }
+        ensures none { IfNone result (self.old.deque.items ≡ []) }
+        ensures others { self.new ≡ record self.old { deque = self.new.deque } }
+    {
+        self.deque.pop_front()
+    }
+
     /// Cuts the cell in the hand. The only error is want of memory.
     pub(crate) fn split(&mut self) -> Result<(), AllocError>
         ensures { OnOk result (Tries Splits (worker_of self.old) (worker_of self.new)) }
@@ -121,7 +131,8 @@ impl Worker {
     pub(crate) fn keep<G: Goal>(&mut self, goal: &G) -> Option<u64>
         requires { IfSome self.old.hand
             (λ cell. Covers (whole_cell (G.rule goal.now).axes) (spans_of cell)) }
-        ensures { Raises (Keeps (G.rule goal.now)) (worker_of self.old) (worker_of self.new) result }
+        ensures { Raises (Keeps (G.rule goal.now)) (worker_of self.old) (worker_of self.new)
+            result }
     {
         let cell = self.hand?;
         if split(&cell).is_some() {

@@ -21,10 +21,10 @@ in_order-requires g c =
     let are : boxes ≡ found.closed.items ++ left.closed.items = c.in_ok-extend_from_slice.ensures.items ∙ ap (λ (more : List Closed). found.closed.items ++ more) c.as_slice.ensures.value in
     subst (λ (cell : List (ℕ × ℕ)). AreParts cell (cells_of boxes)) (sym c.whole.ensures) (parts_made rule c.args.workers c.args.steps.now left found boxes c.in_ok-left.ensures c.in_ok-best.ensures are)
 
-pub overflow_cast-result : goal.overflow_cast-result
-overflow_cast-result g c =
+pub overflow_cast-by_steps : goal.overflow_cast-by_steps
+overflow_cast-by_steps g c =
     let few = left_few (g.G.Goal.rule c.args.goal.now) c.args.workers c.args.steps.now c.in_ok-left.left c.in_ok-left.ensures in
-    omega (arith, few, c.len.ensures, c.requires.few, c.in_ok-left.left.closed.ok.0)
+    omega (arith, few, c.len-by_steps.ensures, c.requires.few, c.in_ok-left.left.closed.ok.0)
 
 pub returns-clause-certificate : goal.returns-clause-certificate
 returns-clause-certificate g c =
@@ -33,9 +33,9 @@ returns-clause-certificate g c =
     let found = c.in_ok-best.field-0 in
     let boxes = c.extend_from_slice.new.self.items in
     let are : boxes ≡ found.closed.items ++ left.closed.items = c.in_ok-extend_from_slice.ensures.items ∙ ap (λ (more : List Closed). found.closed.items ++ more) c.as_slice.ensures.value in
-    let answer : Found = record { best = found.best; closed = c.in_ok-in_order.field-0 } in
-    let frontier = subst (λ (cell : List (ℕ × ℕ)). IsFrontier cell (cells_of answer.closed.items)) c.whole.ensures c.in_ok-in_order.ensures.frontier in
-    let certificate = certified rule c.args.workers c.args.steps.now left found answer boxes c.in_ok-left.ensures c.in_ok-best.ensures are refl frontier c.in_ok-in_order.ensures.permutation in
+    let answer : Found = record { best = found.best; closed = c.in_ok-closed.closed } in
+    let frontier = subst (λ (cell : List (ℕ × ℕ)). IsFrontier cell (cells_of answer.closed.items)) c.whole.ensures c.in_ok-closed.ensures.frontier in
+    let certificate = certified rule c.args.workers c.args.steps.now left found answer boxes c.in_ok-left.ensures c.in_ok-best.ensures are refl frontier c.in_ok-closed.ensures.permutation in
     certificate
 
 pub returns-clause-optimum : goal.returns-clause-optimum
@@ -45,9 +45,9 @@ returns-clause-optimum g c =
     let found = c.in_ok-best.field-0 in
     let boxes = c.extend_from_slice.new.self.items in
     let are : boxes ≡ found.closed.items ++ left.closed.items = c.in_ok-extend_from_slice.ensures.items ∙ ap (λ (more : List Closed). found.closed.items ++ more) c.as_slice.ensures.value in
-    let answer : Found = record { best = found.best; closed = c.in_ok-in_order.field-0 } in
-    let frontier = subst (λ (cell : List (ℕ × ℕ)). IsFrontier cell (cells_of answer.closed.items)) c.whole.ensures c.in_ok-in_order.ensures.frontier in
-    let certificate = certified rule c.args.workers c.args.steps.now left found answer boxes c.in_ok-left.ensures c.in_ok-best.ensures are refl frontier c.in_ok-in_order.ensures.permutation in
+    let answer : Found = record { best = found.best; closed = c.in_ok-closed.closed } in
+    let frontier = subst (λ (cell : List (ℕ × ℕ)). IsFrontier cell (cells_of answer.closed.items)) c.whole.ensures c.in_ok-closed.ensures.frontier in
+    let certificate = certified rule c.args.workers c.args.steps.now left found answer boxes c.in_ok-left.ensures c.in_ok-best.ensures are refl frontier c.in_ok-closed.ensures.permutation in
     certificate_optimum rule _ _ _ (g.met.G.Goal.laws c.args.goal.now) certificate
 
 pub returns-clause-none : goal.returns-clause-none
@@ -57,9 +57,9 @@ returns-clause-none g c =
     let found = c.in_ok-best.field-0 in
     let boxes = c.extend_from_slice.new.self.items in
     let are : boxes ≡ found.closed.items ++ left.closed.items = c.in_ok-extend_from_slice.ensures.items ∙ ap (λ (more : List Closed). found.closed.items ++ more) c.as_slice.ensures.value in
-    let answer : Found = record { best = found.best; closed = c.in_ok-in_order.field-0 } in
-    let frontier = subst (λ (cell : List (ℕ × ℕ)). IsFrontier cell (cells_of answer.closed.items)) c.whole.ensures c.in_ok-in_order.ensures.frontier in
-    let certificate = certified rule c.args.workers c.args.steps.now left found answer boxes c.in_ok-left.ensures c.in_ok-best.ensures are refl frontier c.in_ok-in_order.ensures.permutation in
+    let answer : Found = record { best = found.best; closed = c.in_ok-closed.closed } in
+    let frontier = subst (λ (cell : List (ℕ × ℕ)). IsFrontier cell (cells_of answer.closed.items)) c.whole.ensures c.in_ok-closed.ensures.frontier in
+    let certificate = certified rule c.args.workers c.args.steps.now left found answer boxes c.in_ok-left.ensures c.in_ok-best.ensures are refl frontier c.in_ok-closed.ensures.permutation in
     none_exactly rule found.best (certificate_optimum rule _ _ _ (g.met.G.Goal.laws c.args.goal.now) certificate)
 
 pub returns-clause-steps : goal.returns-clause-steps
@@ -69,6 +69,6 @@ returns-clause-steps g c =
     let found = c.in_ok-best.field-0 in
     let boxes = c.extend_from_slice.new.self.items in
     let are : boxes ≡ found.closed.items ++ left.closed.items = c.in_ok-extend_from_slice.ensures.items ∙ ap (λ (more : List Closed). found.closed.items ++ more) c.as_slice.ensures.value in
-    let replayed : Replayed = record { found = record { best = found.best; closed = c.in_ok-in_order.field-0 }; by_steps = c.len.result } in
-    let count : c.len.result ≡ length left.closed.items = omega (arith, c.len.ensures, left.closed.ok.0) in
-    replay_made rule c.args.workers c.args.steps.now left found boxes replayed c.in_ok-left.ensures c.in_ok-best.ensures are c.in_ok-in_order.ensures.permutation count
+    let replayed : Replayed = record { found = record { best = found.best; closed = c.in_ok-closed.closed }; by_steps = c.len-by_steps.result } in
+    let count : c.len-by_steps.result ≡ length left.closed.items = omega (arith, c.len-by_steps.ensures, left.closed.ok.0) in
+    replay_made rule c.args.workers c.args.steps.now left found boxes replayed c.in_ok-left.ensures c.in_ok-best.ensures are c.in_ok-closed.ensures.permutation count
