@@ -14,8 +14,8 @@ abbrev pub worker_cells : Worker → List (List (ℕ × ℕ))
 worker_cells worker = open_cells worker ++ map (λ box. box.0) worker.closed
 
 -- The cells of a worker are nodes of the whole cell. What it closed is closed by its reason for
--- what it has seen, which the best word has reached, and so has what it kept, which is a legal tuple
--- and its value.
+-- what it has seen, which the best word has reached. What it kept is a legal tuple and its value,
+-- which the best word has reached too.
 pub record IsSafeWorker (rule : Rule) (word : Option ℕ) (worker : Worker) : Type 0 where
   pub deque : All (IsNode (whole_cell rule.axes)) worker.deque
   pub hand : IfSome worker.hand (IsNode (whole_cell rule.axes))
