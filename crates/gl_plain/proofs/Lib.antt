@@ -1,2 +1,12 @@
-pub mod Stack
+pub mod Gathered
+pub mod Kept
+pub mod Machines
+pub mod Outcome
+pub mod Partings
 pub mod Places
+pub mod Replays
+pub mod Roots
+pub mod Stack
+pub mod StepLines
+pub mod Totals
+pub mod Turns

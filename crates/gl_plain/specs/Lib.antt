@@ -1,5 +1,12 @@
 pub mod Candidate
+pub mod Finished
 pub mod Found
+pub mod Machine
+pub mod Order
+pub mod Replayed
+pub mod Safe
+pub mod Schedule
 pub mod Search
 pub mod Steps
 pub mod Verdict
+pub mod Workers

@@ -1,28 +1,45 @@
--- A search under way: the closed boxes and then the open cells, the last one first, part all
--- tuples.
-use Rattle.std.specs.Prelude.{◌≡◌, ℕ, ◌⊎◌, List, [], ◌∷◌, ◌++◌, map, reverse, Option, All}
+-- A search under way: the closed boxes and then the open cells, the last one first, part the tuples
+-- of the cells that it began with.
+use Rattle.std.specs.Prelude.{◌≡◌, ℕ, ◌⊎◌, List, [], ◌∷◌, ◌++◌, map, reverse, Option, All, Contains}
 use Rattle.gl_box.specs.declared.cell.Cell.{Cell}
 use Rattle.gl_box.specs.declared.closed.Closed.{Closed}
 use Rattle.gl_box.specs.declared.closed.Why.{Why}
-use Rattle.gl_box.specs.Cell.{spans_of}
+use Rattle.gl_box.specs.Cell.{Covers, spans_of}
 use Rattle.gl_box.specs.Halves.{AreHalves}
-use Rattle.gl_box.specs.Frontier.{IsFrontier}
+use Rattle.gl_box.specs.Frontier.{IsFrontier, IsNode}
 use Rattle.gl_goal.specs.Rule.{Rule, IsOpen, whole_cell}
 use Rattle.gl_goal.specs.Certificate.{IsClosedFor}
 use Rattle.gl_plain.specs.declared.found.Best.{Best}
-use Rattle.gl_plain.specs.Search.{IsNeeded, IsSound, total_of}
+use Rattle.gl_plain.specs.Search.{IsHalfOfOpen, IsSound, total_of}
 
 -- the cells of the boxes, and after them the open cells, the last one first
 abbrev pub in_order : List Cell → List Closed → List (List (ℕ × ℕ))
 in_order open_ closed = map (λ box. spans_of box.cell) closed ++ reverse (map spans_of open_)
 
-pub record IsUnderWay (rule : Rule) (best : Option Best) (cells : List Cell)
-    (boxes : List Closed) : Type 0 where
+-- each of some roots has given way to a frontier of it, one after another
+abbrev pub AreFrontiers : List (List (ℕ × ℕ)) → List (List (ℕ × ℕ)) → Type 0
+AreFrontiers [] cells = cells ≡ []
+AreFrontiers (root ∷ roots) cells =
+    (front : List (List (ℕ × ℕ))) × (back : List (List (ℕ × ℕ))) × IsFrontier root front
+    × AreFrontiers roots back × (cells ≡ front ++ back)
+
+-- a cell lies in one of some cells
+abbrev pub LiesInOne : List (List (ℕ × ℕ)) → List (ℕ × ℕ) → Type 0
+LiesInOne cells part = (cell : List (ℕ × ℕ)) × Contains cells cell × Covers cell part
+
+-- a cell that a search from some roots comes to: a root, or a half of a node that had to be cut
+abbrev pub IsMet : Rule → List (List (ℕ × ℕ)) → List (ℕ × ℕ) → Type 0
+IsMet rule roots cell = Contains roots cell ⊎ IsHalfOfOpen rule cell
+
+-- a search from some roots, which are nodes of the whole cell
+pub record IsUnderWay (rule : Rule) (roots : List (List (ℕ × ℕ))) (best : Option Best)
+    (cells : List Cell) (boxes : List Closed) : Type 0 where
   pub sound : IsSound rule best
-  pub frontier : IsFrontier (whole_cell rule.axes) (in_order cells boxes)
+  pub nodes : All (IsNode (whole_cell rule.axes)) roots
+  pub parted : AreFrontiers roots (in_order cells boxes)
   pub closed : All (λ box. IsClosedFor rule (total_of best) (spans_of box.cell) box.why) boxes
-  pub boxes_needed : All (λ box. IsNeeded rule (spans_of box.cell)) boxes
-  pub cells_needed : All (λ cell. IsNeeded rule (spans_of cell)) cells
+  pub boxes_met : All (λ box. IsMet rule roots (spans_of box.cell)) boxes
+  pub cells_met : All (λ cell. IsMet rule roots (spans_of cell)) cells
 
 -- the last open cell was closed
 pub record Closes (before after : List Cell) (boxes_before boxes_after : List Closed)

@@ -1,4 +1,5 @@
-ghost use Rattle.std.specs.Prelude.{◌≡◌, ◌⊎◌};
+ghost use Rattle.std.specs.Prelude.{◌≡◌, ◌⊎◌, ◌↔◌, ◌<◌, IfSome, IsTrue};
+ghost use Rattle.gl_plain.specs.Search.{IsNoLess, total_of};
 
 use gl_box::{Closed, Tuple};
 
@@ -18,7 +19,9 @@ pub struct Found {
 }
 
 /// Whether a total is above what was found. Anything is, where nothing was.
-pub(crate) fn beats(total: u64, best: &Option<Best>) -> bool {
+pub(crate) fn beats(total: u64, best: &Option<Best>) -> bool
+    ensures { IsTrue result ↔ IfSome best.now (λ known. known.total < total) }
+{
     match best {
         Some(known) => total > known.total,
         None => true,
@@ -27,7 +30,9 @@ pub(crate) fn beats(total: u64, best: &Option<Best>) -> bool {
 
 /// The one that is worth more.
 pub(crate) fn better(one: Option<Best>, other: Option<Best>) -> Option<Best>
-    ensures { (result ≡ one) ⊎ (result ≡ other) }
+    ensures either { (result ≡ one) ⊎ (result ≡ other) }
+    ensures no_less { IsNoLess (total_of one) (total_of result) }
+    ensures no_less_other { IsNoLess (total_of other) (total_of result) }
 {
     match other {
         Some(known) if beats(known.total, &one) => other,

@@ -1,11 +1,13 @@
-ghost use Rattle.std.specs.Prelude.{◌<◌, ◌↔◌, [], All, IfOk, IsNone, OnOk, vec_len};
-ghost use Rattle.gl_box.specs.Cell.{spans_of};
-ghost use Rattle.gl_goal.specs.Rule.{HasNoLegal, IsOptimum};
-ghost use Rattle.gl_plain.specs.Search.{IsNeeded, IsNoLess, IsSound, total_of};
+ghost use Rattle.std.specs.Prelude.{◌<◌, ◌↔◌, [], ℕ, List, All, IfOk, IsNone, OnOk, map, reverse, vec_len};
+ghost use Rattle.gl_box.specs.Cell.{Covers, spans_of};
+ghost use Rattle.gl_box.specs.Frontier.{IsNode};
+ghost use Rattle.gl_goal.specs.Rule.{HasNoLegal, IsOptimum, whole_cell};
+ghost use Rattle.gl_plain.specs.Search.{IsNoLess, IsSound, total_of};
 ghost use Rattle.gl_plain.specs.Steps.{Advances, Closes, IsUnderWay};
+ghost use Rattle.gl_plain.specs.Finished.{IsFinished};
 ghost use Rattle.gl_plain.specs.Found.{AreNeeded, IsCertified};
 
-use crate::found::{Best, Found};
+use crate::found::{Best, Found, better};
 use crate::verdict::{Verdict, test};
 use crate::warm::warm_start;
 use gl_box::{Cell, Closed, Why, halve};
@@ -42,7 +44,8 @@ fn advance<G: Goal>(
     legs: &mut [Leg],
 ) -> Result<(), AllocError>
     requires some { 0 < vec_len cells.old }
-    requires needed { All (λ cell. IsNeeded (G.rule goal.now) (spans_of cell)) cells.old.items }
+    requires covers { All (λ cell. Covers (whole_cell (G.rule goal.now).axes) (spans_of cell))
+        cells.old.items }
     requires sound { IsSound (G.rule goal.now) best.old }
     requires legs { G.are_legs goal.now legs.old }
     ensures step { OnOk result (Advances (G.rule goal.now) (total_of best.new)
@@ -76,14 +79,43 @@ fn run<G: Goal>(
     boxes: &mut Vec<Closed>,
     legs: &mut [Leg],
 ) -> Result<(), AllocError>
-    requires under_way { IsUnderWay (G.rule goal.now) best.old cells.old.items boxes.old.items }
+    ghost roots: { List (List (ℕ × ℕ)) }
+    requires under_way { IsUnderWay (G.rule goal.now) roots best.old cells.old.items
+        boxes.old.items }
     requires legs { G.are_legs goal.now legs.old }
-    ensures { OnOk result (IsUnderWay (G.rule goal.now) best.new [] boxes.new.items) }
+    ensures over { OnOk result (IsUnderWay (G.rule goal.now) roots best.new [] boxes.new.items) }
+    ensures grows { OnOk result (IsNoLess (total_of best.old) (total_of best.new)) }
 {
     while !cells.is_empty() {
         advance(goal, best, cells, boxes, legs)?;
     }
     Ok(())
+}
+
+/// Searches the open cells of a goal until none is open, with a legal tuple that is known, if there
+/// is one, or a better one that is soon found. The only error is want of memory.
+pub(crate) fn finish<G: Goal>(
+    alloc: Global,
+    goal: &G,
+    known: Option<Best>,
+    mut cells: Vec<Cell>,
+) -> Result<Found, AllocError>
+    requires sound { IsSound (G.rule goal.now) known }
+    requires nodes { All (λ cell. IsNode (whole_cell (G.rule goal.now).axes) (spans_of cell))
+        cells.items }
+    ensures { IfOk result
+        (IsFinished (G.rule goal.now) (reverse (map spans_of cells.items)) known) }
+{
+    let mut measured = measured_legs(alloc, goal)?;
+    let legs = measured.as_mut_slice();
+    let warm = warm_start(alloc, goal, legs)?;
+    let mut best = better(known, warm);
+    let mut boxes = Vec::with_capacity(alloc, CLOSED_ROOM)?;
+    run(goal, &mut best, &mut cells, &mut boxes, legs)?;
+    Ok(Found {
+        best,
+        closed: boxes,
+    })
 }
 
 /// The optimum of a goal, and boxes that certify it: in the order of the split tree they are a
@@ -97,14 +129,7 @@ pub fn search_one<G: Goal>(alloc: Global, goal: &G) -> Result<Found, AllocError>
     ensures none { IfOk result (λ found. IsNone found.best ↔ HasNoLegal (G.rule goal.now)) }
     ensures needed { IfOk result (AreNeeded (G.rule goal.now)) }
 {
-    let mut legs = measured_legs(alloc, goal)?;
-    let mut best = warm_start(alloc, goal, legs.as_mut_slice())?;
     let mut cells = Vec::with_capacity(alloc, OPEN_ROOM)?;
-    let mut boxes = Vec::with_capacity(alloc, CLOSED_ROOM)?;
     cells.push(whole(goal))?;
-    run(goal, &mut best, &mut cells, &mut boxes, legs.as_mut_slice())?;
-    Ok(Found {
-        best,
-        closed: boxes,
-    })
+    finish(alloc, goal, None, cells)
 }

@@ -15,8 +15,12 @@ mod free_goals;
 #[cfg(test)]
 mod hulls;
 #[cfg(test)]
+mod ordered;
+#[cfg(test)]
 mod proofs_read;
 #[cfg(test)]
 mod reaches;
+#[cfg(test)]
+mod replays;
 #[cfg(test)]
 mod triangle_alone;

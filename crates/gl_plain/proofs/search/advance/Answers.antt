@@ -2,20 +2,20 @@ use Rattle.std.proofs.Common.{◌≡◌, ◌∙◌, sym, ap, subst, refl, inl, i
 use Rattle.std.proofs.lemmas.List.{get_or-set_same}
 use Rattle.gl_box.specs.declared.cell.Cell.{Cell}
 use Rattle.gl_box.specs.declared.closed.Why.TheVariants.{Bound}
-use Rattle.gl_box.specs.Cell.{spans_of}
-use Rattle.gl_goal.specs.Rule.{IsOpen}
+use Rattle.gl_box.specs.Cell.{Covers, spans_of}
+use Rattle.gl_goal.specs.Rule.{IsOpen, whole_cell}
 use Rattle.gl_goal.specs.Certificate.{IsClosedFor}
-use Rattle.gl_plain.specs.Search.{IsNeeded, total_of}
+use Rattle.gl_plain.specs.Search.{total_of}
 use Rattle.gl_plain.specs.Steps.{Closes}
 use Rattle.gl_plain.specs.Verdict.{Promises}
-use Rattle.gl_plain.proofs.Stack.{needed_covered, same_top, set_top, single_reached, top_is}
+use Rattle.gl_plain.proofs.Stack.{same_top, set_top, single_reached, top_is}
 use Rattle.gl_plain.proofs.search.advance.Goals as goal
 
 pub test-requires-clause-covers : goal.test-requires-clause-covers
 test-requires-clause-covers g c =
     let rule = g.G.Goal.rule c.args.goal.now in
     let below : c.len-top.result - 1 < length c.args.cells.now.items = omega (arith, c.len-top.ensures, c.requires.some, c.args.cells.now.ok.0) in
-    needed_covered rule _ (subst (λ (cell : Cell). IsNeeded rule (spans_of cell)) (sym c.index.ensures) (c.requires.needed (c.len-top.result - 1) c.index.result.now below))
+    subst (λ (cell : Cell). Covers (whole_cell rule.axes) (spans_of cell)) (sym c.index.ensures) (c.requires.covers (c.len-top.result - 1) c.index.result.now below)
 
 pub returns-in_ok-close-in-Closed-clause-step : goal.returns-in_ok-close-in-Closed-clause-step
 returns-in_ok-close-in-Closed-clause-step g c =
@@ -86,7 +86,7 @@ returns-in_ok-close-in-None-clause-sound g c =
     let same = same_top items (take n items) (take n items) c.index.result.now c.index_mut.result.now seen top in
     let read : c.index-in-None.result.now ≡ c.index_mut.result.now = c.index-in-None.ensures ∙ get_or-set_same items n c.halve.new.cell c.index-in-None.result.now below ∙ c.in-None.ensures.same in
     let promises : Promises rule (total_of c.args.best.now) (spans_of c.index.result.now) c.in-Open.bound = c.in-Open.ensures.verdict in
-    let covers = needed_covered rule _ (subst (λ (cell : Cell). IsNeeded rule (spans_of cell)) (sym c.index_mut.ensures.value) (c.requires.needed n c.index_mut.result.now below)) in
+    let covers = subst (λ (cell : Cell). Covers (whole_cell rule.axes) (spans_of cell)) (sym c.index_mut.ensures.value) (c.requires.covers n c.index_mut.result.now below) in
     single_reached rule (total_of c.args.best.now) (spans_of c.index_mut.result.now) c.in-Open.bound _ (g.met.G.Goal.laws c.args.goal.now) covers (c.in-None.ensures.single.0 refl)
     (subst (λ (cell : Cell). Promises rule (total_of c.args.best.now) (spans_of cell) c.in-Open.bound) same promises)
     (c.lowest.ensures ∙ ap (λ (cell : Cell). map (λ (span : ℕ × ℕ). span.0) (spans_of cell)) read)

@@ -1,11 +1,13 @@
+use Rattle.gl_plain.specs.Search.{IsNoLess, total_of}
 use Rattle.gl_plain.specs.Steps.{IsUnderWay}
 use Rattle.gl_plain.proofs.Stack.{work_of}
 use Rattle.gl_plain.proofs.search.run.Given as goal
 
 abbrev pub invariant-loop-best : goal.invariant-loop-best
 invariant-loop-best g l = record {
-  under_way : IsUnderWay (g.G.Goal.rule l.goal) l.best l.cells.items l.boxes.items;
+  under_way : IsUnderWay (g.G.Goal.rule l.goal) g.roots l.best l.cells.items l.boxes.items;
   legs : g.G.Goal.are_legs l.goal l.legs;
+  grows : IsNoLess (total_of l.initial.best) (total_of l.best);
 }
 
 -- the work that the open cells can still make

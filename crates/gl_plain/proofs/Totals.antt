@@ -1,0 +1,28 @@
+-- Totals that were found, one after another.
+use Rattle.std.proofs.Common.{◌≡◌, sym, subst, inl, inr, ℕ, ◌<◌, arith}
+use Rattle.std.specs.Prelude.{◌⊎◌, IfSome, Option, Some, None}
+use Rattle.gl_goal.specs.Rule.{Rule}
+use Rattle.gl_plain.specs.declared.found.Best.{Best}
+use Rattle.gl_plain.specs.Search.{IsNoLess, IsSound, total_of}
+
+pub less_self : (total : Option ℕ) → IsNoLess total total
+less_self None = tt
+less_self (Some total) = omega arith
+
+pub less_through : (a b c : Option ℕ) → IsNoLess a b → IsNoLess b c → IsNoLess a c
+less_through None b c low high = tt
+less_through (Some a) None c low high = absurd low
+less_through (Some a) (Some b) None low high = absurd high
+less_through (Some a) (Some b) (Some c) low high = omega arith
+
+pub beaten_less : (known : Option Best) (total : ℕ) → IfSome known (λ best. best.total < total) → IsNoLess (total_of known) (Some total)
+beaten_less None total beaten = tt
+beaten_less (Some best) total beaten = omega arith
+
+pub unbeaten_less : (known : Option Best) (total : ℕ) → (IfSome known (λ best. best.total < total) → ⊥) → IsNoLess (Some total) (total_of known)
+unbeaten_less None total unbeaten = absurd (unbeaten tt)
+unbeaten_less (Some best) total unbeaten = omega arith
+
+pub either_sound : (rule : Rule) (one other best : Option Best) → (best ≡ one) ⊎ (best ≡ other) → IsSound rule one → IsSound rule other → IsSound rule best
+either_sound rule one other best (inl is) sound sound_other = subst (IsSound rule) (sym is) sound
+either_sound rule one other best (inr is) sound sound_other = subst (IsSound rule) (sym is) sound_other

@@ -1,0 +1,11 @@
+use Rattle.std.proofs.Common.{◌≡◌, ◌-◌, [], ◌∷◌, replicate}
+use Rattle.gl_goal.specs.Rule.{whole_cell}
+use Rattle.gl_plain.specs.Machine.{idle}
+use Rattle.gl_plain.specs.Workers.{workers_of}
+use Rattle.gl_plain.proofs.machine.Machine.new.Given as goal
+
+-- so many workers so far
+abbrev pub invariant-loop : goal.invariant-loop
+invariant-loop g l =
+    workers_of l.list.items
+    ≡ record idle { deque = whole_cell (g.G.Goal.rule l.goal).axes ∷ [] } ∷ replicate (l.counter - 1) idle

@@ -1,0 +1,36 @@
+-- What a written order of steps comes to, and what is answered once the open cells are searched.
+use Rattle.std.specs.Prelude.{◌≡◌, ℕ, List, ◌++◌, length, map, All, IsPermutation}
+use Rattle.gl_box.specs.declared.closed.Why.{Why}
+use Rattle.gl_box.specs.Cell.{spans_of}
+use Rattle.gl_box.specs.Closed.{box_of}
+use Rattle.gl_goal.specs.Rule.{Rule}
+use Rattle.gl_plain.specs.declared.replayed.Left.{Left}
+use Rattle.gl_plain.specs.declared.replayed.Replayed.{Replayed}
+use Rattle.gl_plain.specs.declared.schedule.Step.{Step}
+use Rattle.gl_plain.specs.Machine.{IsAfter, State, closed_in, open_in}
+use Rattle.gl_plain.specs.Search.{IsNoLess, IsSound, total_of}
+use Rattle.gl_plain.specs.Steps.{LiesInOne}
+
+-- what workers left after some steps: their open and their closed cells, and a legal tuple that is
+-- worth what the best word says
+pub record IsLeft (rule : Rule) (workers : ℕ) (steps : List Step) (left : Left) : Type 0 where
+  pub state : State
+  pub after : IsAfter rule workers steps state
+  pub open_ : map spans_of left.open_cells.items ≡ open_in state
+  pub closed : map box_of left.closed.items ≡ closed_in state
+  pub sound : IsSound rule left.known
+  pub known : IsNoLess state.word (total_of left.known)
+
+-- Some workers come by some steps to one state of the machine. Its closed cells stand among the
+-- boxes with their reasons, each as often; each other box lies in a cell that was open then; and
+-- the count of closed cells is told.
+pub record IsReplay (rule : Rule) (workers : ℕ) (steps : List Step)
+    (replayed : Replayed) : Type 0 where
+  pub state : State
+  pub after : IsAfter rule workers steps state
+  pub only : (other : State) → IsAfter rule workers steps other → other ≡ state
+  pub finished : List (List (ℕ × ℕ) × Why)
+  pub boxes :
+      IsPermutation (closed_in state ++ finished) (map box_of replayed.found.closed.items)
+  pub inside : All (λ box. LiesInOne (open_in state) box.0) finished
+  pub by_steps : replayed.by_steps ≡ length (closed_in state)

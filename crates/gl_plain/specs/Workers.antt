@@ -1,0 +1,42 @@
+-- What the code keeps of the machine's state.
+use Rattle.std.specs.Prelude.{◌≡◌, ℕ, List, All, IfSome, map, Option, None, Some, option_map}
+use Rattle.gl_box.specs.Cell.{Covers, spans_of}
+use Rattle.gl_box.specs.Closed.{box_of}
+use Rattle.gl_box.specs.Tuple.{places_of}
+use Rattle.gl_goal.specs.Rule.{Rule, whole_cell}
+use Rattle.gl_plain.specs.declared.found.Best.{Best}
+use Rattle.gl_plain.specs.declared.worker.Worker as code
+use Rattle.gl_plain.specs.declared.machine.Machine.{Machine}
+use Rattle.gl_plain.specs.Machine.{State, Worker}
+
+-- the total and the places of a tuple that was kept
+abbrev pub kept_of : Option Best → Option (ℕ × List ℕ)
+kept_of None = None
+kept_of (Some best) = Some (best.total, places_of best.tuple)
+
+abbrev pub worker_of : code.Worker → Worker
+worker_of worker = record {
+  deque = map spans_of worker.deque.items;
+  hand = option_map spans_of worker.hand;
+  closed = map box_of worker.closed.items;
+  seen = worker.seen;
+  kept = kept_of worker.kept;
+}
+
+abbrev pub workers_of : List code.Worker → List Worker
+workers_of workers = map worker_of workers
+
+abbrev pub state_of : Machine → State
+state_of machine = record { workers = workers_of machine.workers.items; word = machine.word }
+
+-- the cells in the hands lie in the whole cell
+abbrev pub AreCovered : Rule → List code.Worker → Type 0
+AreCovered rule workers =
+    All (λ worker. IfSome worker.hand (λ cell. Covers (whole_cell rule.axes) (spans_of cell)))
+    workers
+
+-- a change is made that raises a total, or none can be made and nothing changes
+abbrev pub Raises : {X : Type 0} → (ℕ → X → X → Type 0) → X → X → Option ℕ → Type 0
+Raises Change before after None =
+    ((total : ℕ) (other : _) → Change total before other → ⊥) × (after ≡ before)
+Raises Change before after (Some total) = Change total before after
