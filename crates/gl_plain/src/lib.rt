@@ -12,4 +12,5 @@ mod warm;
 
 pub use found::{Best, Found};
 pub use search::search_one;
+pub use verdict::{Verdict, test_for};
 pub use warm::warm_start;
