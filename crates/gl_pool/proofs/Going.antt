@@ -43,7 +43,7 @@ pub record HasSame (bench after : Bench) : Type 0 where
   pub strange : after.share.strange.items ≡ bench.share.strange.items
 
 module _ (rule : Rule) (word : BestWord) (call : Call) (place : Place) (seat : Seat) (bench after : Bench) (way : IsUnderWay rule word call place seat bench) where
-  going_same : HasSame bench after → after.share.kept ≡ bench.share.kept → after.seen ≡ bench.seen → IsUnderWay rule word call place seat after
+  pub going_same : HasSame bench after → after.share.kept ≡ bench.share.kept → after.seen ≡ bench.seen → IsUnderWay rule word call place seat after
   going_same same kept seen = record {
     taken = way.taken;
     put = way.put;
@@ -55,7 +55,7 @@ module _ (rule : Rule) (word : BestWord) (call : Call) (place : Place) (seat : S
     seen = seen ∙ way.seen;
   }
 
-  going_closed : (cell : Cell) (why : Why) → bench.cells.items ≡ after.cells.items ++ cell ∷ [] → after.share.closed.items ≡ bench.share.closed.items ++ record { cell = cell; why = why } ∷ [] → after.share.strange.items ≡ bench.share.strange.items → after.share.kept ≡ bench.share.kept → after.seen ≡ bench.seen → IsClosedFor rule bench.seen (spans_of cell) why → IsUnderWay rule word call place seat after
+  pub going_closed : (cell : Cell) (why : Why) → bench.cells.items ≡ after.cells.items ++ cell ∷ [] → after.share.closed.items ≡ bench.share.closed.items ++ record { cell = cell; why = why } ∷ [] → after.share.strange.items ≡ bench.share.strange.items → after.share.kept ≡ bench.share.kept → after.seen ≡ bench.seen → IsClosedFor rule bench.seen (spans_of cell) why → IsUnderWay rule word call place seat after
   going_closed cell why top box strange kept seen reason =
       let closed : Closed = record { cell = cell; why = why } in
       let parts = parted_closed rule (seen_by call.seat) way.taken after.cells.items cell why bench.share.closed.items way.put bench.share.strange.items (subst (λ (cells : List Cell). AreBeingParted rule (seen_by call.seat) way.taken cells bench.share.closed.items way.put bench.share.strange.items) top way.parts) in
@@ -76,7 +76,7 @@ module _ (rule : Rule) (word : BestWord) (call : Call) (place : Place) (seat : S
   above_seen limit above =
       above_before (view_of call.seat).seen (view_of seat).seen limit way.same_seat.no_less (λ total is. above total (way.seen ∙ is))
 
-  going_cut : (rest : List Cell) (cell lower upper : Cell) (bound : ℕ) → bench.cells.items ≡ rest ++ cell ∷ [] → after.cells.items ≡ (rest ++ upper ∷ []) ++ lower ∷ [] → after.share.closed.items ≡ bench.share.closed.items → after.share.strange.items ≡ bench.share.strange.items → after.share.kept ≡ bench.share.kept → after.seen ≡ bench.seen → AreHalves (spans_of cell) (spans_of lower) (spans_of upper) → Promises rule bench.seen (spans_of cell) bound → IsUnderWay rule word call place seat after
+  pub going_cut : (rest : List Cell) (cell lower upper : Cell) (bound : ℕ) → bench.cells.items ≡ rest ++ cell ∷ [] → after.cells.items ≡ (rest ++ upper ∷ []) ++ lower ∷ [] → after.share.closed.items ≡ bench.share.closed.items → after.share.strange.items ≡ bench.share.strange.items → after.share.kept ≡ bench.share.kept → after.seen ≡ bench.seen → AreHalves (spans_of cell) (spans_of lower) (spans_of upper) → Promises rule bench.seen (spans_of cell) bound → IsUnderWay rule word call place seat after
   going_cut rest cell lower upper bound top cut closed strange kept seen halves promises =
       let above = above_seen (rule.bound (spans_of cell)) (λ found is. omega (arith, promises.above found is, promises.is_bound)) in
       let parts = parted_cut rule (seen_by call.seat) way.taken rest cell lower upper bench.share.closed.items way.put bench.share.strange.items halves promises.is_open above (subst (λ (cells : List Cell). AreBeingParted rule (seen_by call.seat) way.taken cells bench.share.closed.items way.put bench.share.strange.items) top way.parts) in
@@ -92,7 +92,7 @@ module _ (rule : Rule) (word : BestWord) (call : Call) (place : Place) (seat : S
       }
 
   -- the seat has seen more, and raised as much
-  going_heard : (hears : Seat) → HasSame bench after → after.share.kept ≡ bench.share.kept → after.seen ≡ seen_by hears → KeepsSeat word seat hears → (view_of hears).raised ≡ (view_of seat).raised → IsUnderWay rule word call place hears after
+  pub going_heard : (hears : Seat) → HasSame bench after → after.share.kept ≡ bench.share.kept → after.seen ≡ seen_by hears → KeepsSeat word seat hears → (view_of hears).raised ≡ (view_of seat).raised → IsUnderWay rule word call place hears after
   going_heard hears same kept seen keeps raised = record {
     taken = way.taken;
     put = way.put;
@@ -105,7 +105,7 @@ module _ (rule : Rule) (word : BestWord) (call : Call) (place : Place) (seat : S
   }
 
   -- a total above what the seat has seen was kept and raised
-  going_kept : (raises : Seat) (best : Best) → HasSame bench after → after.share.kept ≡ Some best → after.seen ≡ seen_by raises → KeepsSeat word seat raises → (view_of raises).raised ≡ max (view_of seat).raised (best.total + 1) → IsReached rule best.total (places_of best.tuple) → ((found : ℕ) → bench.seen ≡ Some found → found < best.total) → IsUnderWay rule word call place raises after
+  pub going_kept : (raises : Seat) (best : Best) → HasSame bench after → after.share.kept ≡ Some best → after.seen ≡ seen_by raises → KeepsSeat word seat raises → (view_of raises).raised ≡ max (view_of seat).raised (best.total + 1) → IsReached rule best.total (places_of best.tuple) → ((found : ℕ) → bench.seen ≡ Some found → found < best.total) → IsUnderWay rule word call place raises after
   going_kept raises best same kept seen keeps raised reached above =
       let below = word_below (view_of seat).seen best.total (λ total is. above total (way.seen ∙ is)) in
       record {
@@ -120,7 +120,7 @@ module _ (rule : Rule) (word : BestWord) (call : Call) (place : Place) (seat : S
       }
 
   -- the first cell of several was put
-  going_put : (next : Place) (cell : Cell) → Moves place next [] (cell ∷ []) → bench.cells.items ≡ cell ∷ after.cells.items → 1 < length bench.cells.items → after.share.closed.items ≡ bench.share.closed.items → after.share.strange.items ≡ bench.share.strange.items → after.share.kept ≡ bench.share.kept → after.seen ≡ bench.seen → IsUnderWay rule word call next seat after
+  pub going_put : (next : Place) (cell : Cell) → Moves place next [] (cell ∷ []) → bench.cells.items ≡ cell ∷ after.cells.items → 1 < length bench.cells.items → after.share.closed.items ≡ bench.share.closed.items → after.share.strange.items ≡ bench.share.strange.items → after.share.kept ≡ bench.share.kept → after.seen ≡ bench.seen → IsUnderWay rule word call next seat after
   going_put next cell moves first many closed strange kept seen =
       let parts = parted_put rule (seen_by call.seat) way.taken after.cells.items cell bench.share.closed.items way.put bench.share.strange.items (omega (arith, ap length first)) (subst (λ (cells : List Cell). AreBeingParted rule (seen_by call.seat) way.taken cells bench.share.closed.items way.put bench.share.strange.items) first way.parts) in
       record {
@@ -135,7 +135,7 @@ module _ (rule : Rule) (word : BestWord) (call : Call) (place : Place) (seat : S
       }
 
   -- a cell was taken that lies inside the whole cell
-  going_inside : (next : Place) (cell : Cell) → Moves place next (cell ∷ []) [] → Covers (whole_cell rule.axes) (spans_of cell) → bench.cells.items ≡ [] → after.cells.items ≡ cell ∷ [] → after.share.closed.items ≡ bench.share.closed.items → after.share.strange.items ≡ bench.share.strange.items → after.share.kept ≡ bench.share.kept → after.seen ≡ bench.seen → IsUnderWay rule word call next seat after
+  pub going_inside : (next : Place) (cell : Cell) → Moves place next (cell ∷ []) [] → Covers (whole_cell rule.axes) (spans_of cell) → bench.cells.items ≡ [] → after.cells.items ≡ cell ∷ [] → after.share.closed.items ≡ bench.share.closed.items → after.share.strange.items ≡ bench.share.strange.items → after.share.kept ≡ bench.share.kept → after.seen ≡ bench.seen → IsUnderWay rule word call next seat after
   going_inside next cell moves inside none one closed strange kept seen =
       let parts = parted_inside rule (seen_by call.seat) way.taken cell bench.share.closed.items way.put bench.share.strange.items inside (subst (λ (cells : List Cell). AreBeingParted rule (seen_by call.seat) way.taken cells bench.share.closed.items way.put bench.share.strange.items) none way.parts) in
       record {
@@ -150,7 +150,7 @@ module _ (rule : Rule) (word : BestWord) (call : Call) (place : Place) (seat : S
       }
 
   -- a cell was taken that doesn't
-  going_outside : (next : Place) (cell : Cell) → Moves place next (cell ∷ []) [] → (Covers (whole_cell rule.axes) (spans_of cell) → ⊥) → bench.cells.items ≡ [] → after.cells.items ≡ bench.cells.items → after.share.closed.items ≡ bench.share.closed.items → after.share.strange.items ≡ bench.share.strange.items ++ cell ∷ [] → after.share.kept ≡ bench.share.kept → after.seen ≡ bench.seen → IsUnderWay rule word call next seat after
+  pub going_outside : (next : Place) (cell : Cell) → Moves place next (cell ∷ []) [] → (Covers (whole_cell rule.axes) (spans_of cell) → ⊥) → bench.cells.items ≡ [] → after.cells.items ≡ bench.cells.items → after.share.closed.items ≡ bench.share.closed.items → after.share.strange.items ≡ bench.share.strange.items ++ cell ∷ [] → after.share.kept ≡ bench.share.kept → after.seen ≡ bench.seen → IsUnderWay rule word call next seat after
   going_outside next cell moves outside none same closed strange kept seen =
       let parts = parted_outside rule (seen_by call.seat) way.taken cell bench.share.closed.items way.put bench.share.strange.items outside (subst (λ (cells : List Cell). AreBeingParted rule (seen_by call.seat) way.taken cells bench.share.closed.items way.put bench.share.strange.items) none way.parts) in
       record {

@@ -53,3 +53,8 @@ kept_on rule one two three (Some best) same kept = (kept.0, same ∙ kept.1, ome
 -- a total above what was seen is kept and raised
 pub kept_new : (rule : Rule) (one two three : View) (best : Best) → IsReached rule best.total (places_of best.tuple) → one.seen ≤ two.seen → two.raised ≤ two.seen → two.seen ≤ best.total → three.raised ≡ max two.raised (best.total + 1) → IsKept rule one three (Some best)
 kept_new rule one two three best reached more raised above is = (reached, omega arith, omega arith)
+
+-- a cell is closed by its bound for a word that was raised to it
+pub closed_by_word : (rule : Rule) (word : ℕ) (cell : List (ℕ × ℕ)) (bound : ℕ) → bound + 1 ≤ word → rule.bound cell ≡ bound → IsClosedFor rule (total_of word) cell Bound
+closed_by_word rule zero cell bound raised is = absurd (omega arith)
+closed_by_word rule (suc word) cell bound raised is = omega arith

@@ -7,8 +7,8 @@ mod gate;
 mod share;
 mod step;
 mod taking;
-mod work;
+mod worker;
 
 pub use gate::{Gate, OpenGate};
 pub use share::Share;
-pub use work::work;
+pub use worker::work;

@@ -1,8 +1,10 @@
-ghost use Rattle.std.specs.Prelude.{◌≡◌, ◌<◌, [], OnOk, vec_len};
+ghost use Rattle.std.specs.Prelude.{◌≡◌, ◌<◌, [], ◌∷◌, OnOk, vec_len};
 ghost use Rattle.gl_goal.specs.Rule.{Rule};
 ghost use Rattle.gl_plain.specs.Steps.{Closes};
+ghost use Rattle.gl_best.specs.declared.word.BestWord.{BestWord};
 ghost use Rattle.gl_best.specs.declared.word.Seat.{Seat};
 ghost use Rattle.gl_deal.specs.declared.place.Place.{Place};
+ghost use Rattle.gl_pool.specs.Taken.{Moves};
 ghost use Rattle.gl_pool.specs.UnderWay.{GoesOn, IsAtWork, Steps};
 
 use crate::bench::Bench;

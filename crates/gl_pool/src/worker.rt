@@ -1,4 +1,4 @@
-ghost use Rattle.std.specs.Prelude.{IfOk};
+ghost use Rattle.std.specs.Prelude.{◌≡◌, [], None, IfOk};
 ghost use Rattle.gl_best.specs.Seats.{IsSeatOf};
 ghost use Rattle.gl_pool.specs.Work.{HasWorked};
 
