@@ -1,6 +1,6 @@
 -- A worker that is under way is so after each step.
-use Rattle.std.proofs.Common.{◌≡◌, ◌∙◌, sym, ap, refl, subst, ℕ, ◌+◌, ◌<◌, ◌≤◌, List, [], ◌∷◌, ◌++◌, length, map, max, arith}
-use Rattle.std.specs.Prelude.{All, Contains, Option, Some, None}
+use Rattle.std.proofs.Common.{◌≡◌, ◌∙◌, sym, ap, refl, subst, ℕ, ◌+◌, ◌<◌, List, [], ◌∷◌, ◌++◌, length, map, max, arith}
+use Rattle.std.specs.Prelude.{Contains, Option, Some, None}
 use Rattle.std.proofs.lemmas.List.Elements.{All-nil, All-push, All-same}
 use Rattle.std.specs.List.{sum_by}
 use Rattle.gl_box.specs.declared.cell.Cell.{Cell}
@@ -15,13 +15,13 @@ use Rattle.gl_plain.specs.declared.found.Best.{Best}
 use Rattle.gl_plain.specs.Verdict.{Promises}
 use Rattle.gl_best.specs.declared.word.BestWord.{BestWord}
 use Rattle.gl_best.specs.declared.word.Seat.{Seat}
-use Rattle.gl_best.specs.Seats.{total_of, view_of}
+use Rattle.gl_best.specs.Seats.{view_of}
 use Rattle.gl_deal.specs.declared.place.Place.{Place}
 use Rattle.gl_deal.specs.declared.view.HandView.{HandView}
-use Rattle.gl_deal.specs.Rule.{HasSettledAll, TookAllItPut}
+use Rattle.gl_deal.specs.Rule.{HasSettledAll}
 use Rattle.gl_deal.specs.Tokens.{hand_view}
 use Rattle.gl_pool.specs.declared.bench.Bench.{Bench}
-use Rattle.gl_pool.specs.Kept.{AreClosedFor, IsKept, KeepsSeat, seen_by}
+use Rattle.gl_pool.specs.Kept.{IsKept, KeepsSeat, seen_by}
 use Rattle.gl_pool.specs.Taken.{FindsNone, Moves, duty_of, stolen_weight}
 use Rattle.gl_pool.specs.UnderWay.{AreBeingParted, Call, IsUnderWay}
 use Rattle.gl_pool.specs.Work.{HasWorked}

@@ -1,6 +1,6 @@
 -- What a seat has seen only grows, and what was closed stays closed.
-use Rattle.std.proofs.Common.{◌≡◌, ◌∙◌, sym, ap, refl, subst, ℕ, zero, suc, ◌+◌, ◌<◌, ◌≤◌, max, arith}
-use Rattle.std.specs.Prelude.{All, List, Option, Some, None}
+use Rattle.std.proofs.Common.{◌≡◌, ◌∙◌, refl, ℕ, zero, suc, ◌+◌, ◌<◌, ◌≤◌, max, arith}
+use Rattle.std.specs.Prelude.{List, Option, Some, None}
 use Rattle.std.proofs.lemmas.List.Elements.{All-weaker}
 use Rattle.gl_box.specs.declared.closed.Closed.{Closed}
 use Rattle.gl_box.specs.declared.closed.Why.{Why}

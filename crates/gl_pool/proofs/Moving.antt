@@ -1,5 +1,5 @@
 -- One move of a place after another.
-use Rattle.std.proofs.Common.{◌≡◌, ◌∙◌, sym, ap, refl, subst, ℕ, ◌+◌, ◌<◌, List, [], ◌∷◌, ◌++◌, Vec, Global, length, get_or, map, set, append_assoc, arith}
+use Rattle.std.proofs.Common.{◌≡◌, ◌∙◌, sym, ap, refl, subst, ℕ, ◌<◌, List, [], ◌∷◌, ◌++◌, Vec, Global, length, get_or, map, set, append_assoc, arith}
 use Rattle.std.proofs.Math.Seq.{map-set_same}
 use Rattle.std.proofs.lemmas.List.{append-nil}
 use Rattle.std.proofs.lemmas.List.Sums.{sum_by-append, sum_by-set}
@@ -11,7 +11,7 @@ use Rattle.gl_deal.specs.declared.view.HandView.{HandView}
 use Rattle.gl_deal.specs.declared.view.PassView.{PassView}
 use Rattle.gl_deal.specs.Tokens.{Deque, end_of, hand_deque, hand_view}
 use Rattle.gl_deal.specs.Views.{with_put, with_stolen, with_taken}
-use Rattle.gl_pool.specs.Taken.{Moves, Steals, duty_of, ends_of, stolen_weight, taken_weight}
+use Rattle.gl_pool.specs.Taken.{Moves, Steals, duty_of, ends_of, stolen_weight}
 
 -- nothing moved
 pub moves_none : (place : Place) → Moves place place [] []

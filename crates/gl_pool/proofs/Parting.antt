@@ -1,20 +1,20 @@
 -- What was taken stays parted with each step.
-use Rattle.std.proofs.Common.{◌≡◌, ◌∙◌, sym, ap, refl, subst, ℕ, suc, ◌+◌, ◌<◌, ◌≤◌, ◌⊎◌, inl, inr, List, [], ◌∷◌, ◌++◌, length, get_or, map, arith}
-use Rattle.std.specs.Prelude.{All, Contains, Option, Some, None}
+use Rattle.std.proofs.Common.{◌≡◌, ◌∙◌, ap, refl, ℕ, suc, ◌+◌, ◌<◌, inl, inr, List, [], ◌∷◌, ◌++◌, length, map, arith}
+use Rattle.std.specs.Prelude.{All, Option, Some}
 use Rattle.std.proofs.lemmas.Bool.{cases_lt}
 use Rattle.std.proofs.lemmas.List.{length-append, map-append}
-use Rattle.std.proofs.lemmas.List.Elements.{All-nil, All-pop, All-push, All-same, All-weaker, Contains-append_left, Contains-push}
+use Rattle.std.proofs.lemmas.List.Elements.{All-nil, All-pop, All-push, All-weaker, Contains-append_left, Contains-push}
 use Rattle.gl_box.specs.declared.cell.Cell.{Cell}
 use Rattle.gl_box.specs.declared.closed.Closed.{Closed}
 use Rattle.gl_box.specs.declared.closed.Why.{Why}
 use Rattle.gl_box.specs.Cell.{Covers, spans_of}
 use Rattle.gl_box.specs.Halves.{AreHalves, IsHalf}
-use Rattle.gl_box.specs.Frontier.{IsNode, mult}
+use Rattle.gl_box.specs.Frontier.{mult}
 use Rattle.gl_box.specs.Frontier.IsNode.{whole, half}
 use Rattle.gl_box.specs.Laws.Nodes.{covers_node, covers_through}
 use Rattle.gl_box.specs.Laws.Parts.{mult-append, mult-halves}
 use Rattle.gl_goal.specs.Rule.{Rule, IsOpen, whole_cell}
-use Rattle.gl_pool.specs.Parts.{ArePartedInto, IsCutFrom, IsFromTaken, IsPartOfTaken, IsStrange, IsTakenInside, times_closed, times_held}
+use Rattle.gl_pool.specs.Parts.{ArePartedInto, IsFromTaken, IsPartOfTaken, IsStrange, IsTakenInside, times_closed, times_held}
 use Rattle.gl_pool.specs.UnderWay.{AreBeingParted}
 
 pub times_held-append : (xs ys : List Cell) (tuple : List ℕ) → times_held (xs ++ ys) tuple ≡ times_held xs tuple + times_held ys tuple

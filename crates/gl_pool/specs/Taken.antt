@@ -1,5 +1,5 @@
 -- What a worker took and put at its place, and what of the place stays.
-use Rattle.std.specs.Prelude.{◌≡◌, ℕ, ◌+◌, List, [], ◌∷◌, ◌++◌, map, sum_by}
+use Rattle.std.specs.Prelude.{◌≡◌, ℕ, ◌+◌, List, ◌++◌, map, sum_by}
 use Rattle.gl_box.specs.declared.cell.Cell.{Cell}
 use Rattle.gl_deal.specs.declared.place.Place.{Place}
 use Rattle.gl_deal.specs.declared.view.PassView.{PassView}

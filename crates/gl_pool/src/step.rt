@@ -124,11 +124,11 @@ pub(crate) fn finish<Rt: Wait, G: Goal>(
         stretch(goal, word, seat, bench)?;
         bench.seen = word.look(seat);
         if bench.cells.is_empty() {
-            break;
+            return Ok(());
         }
         put_oldest(place, bench)?;
     }
-    Ok(())
+    unreachable!()
 }
 
 /// Begins with a cell that was taken. The only error is want of memory.

@@ -15,7 +15,7 @@ fn steal_from(pass: &mut Pass) -> Option<Cell>
     ensures { MatchOption result
         (end_of pass.new ≡ end_of pass.old)
         (λ cell. end_of pass.new
-            ≡ (pass_deque pass.old, with_stolen (pass_view pass.old) (cell ∷ []))) }
+        ≡ (pass_deque pass.old, with_stolen (pass_view pass.old) (cell ∷ []))) }
 {
     match pass.steal() {
         Steal::Got(cell) => Some(cell),

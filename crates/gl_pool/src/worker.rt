@@ -65,11 +65,11 @@ pub fn work<Rt: Threads + Wait + Sync, G: Goal, K: Gate>(
     let mut bench = empty_bench(alloc, goal, seen)?;
     for _ in rt.forever() {
         let Some(cell) = next_cell(place) else {
-            break;
+            let Bench { share, .. } = bench;
+            return Ok(share);
         };
         begin(goal, cell, &mut bench)?;
         finish(rt, goal, word, place, seat, &mut bench)?;
     }
-    let Bench { share, .. } = bench;
-    Ok(share)
+    unreachable!()
 }

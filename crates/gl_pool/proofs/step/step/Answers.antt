@@ -2,9 +2,9 @@ use Rattle.std.proofs.Common.{◌≡◌, ◌∙◌, sym, ap, subst, refl, ℕ, �
 use Rattle.std.proofs.lemmas.List.{get_or-set_same}
 use Rattle.gl_box.specs.declared.cell.Cell.{Cell}
 use Rattle.gl_box.specs.declared.closed.Why.TheVariants.{Bound}
-use Rattle.gl_box.specs.Cell.{Covers, spans_of}
+use Rattle.gl_box.specs.Cell.{spans_of}
 use Rattle.gl_box.specs.Tuple.{places_of}
-use Rattle.gl_goal.specs.Rule.{IsReached, whole_cell}
+use Rattle.gl_goal.specs.Rule.{IsReached}
 use Rattle.gl_goal.specs.Certificate.{IsClosedFor}
 use Rattle.gl_plain.specs.declared.found.Best.{Best}
 use Rattle.gl_plain.specs.Steps.{Closes}
