@@ -48,8 +48,8 @@ abbrev pub times_closed : List Closed → List ℕ → ℕ
 times_closed closed tuple = mult (map (λ box. spans_of box.cell) closed) tuple
 
 -- The cells that were taken hold each tuple as often as those that were closed, those that were put
--- and the strange ones together. A closed cell was taken inside the whole cell, or is a part of such
--- a cell, and one that was put is a part.
+-- and the strange ones together. A closed cell was taken inside the whole cell, or is a part of
+-- such a cell, and one that was put is a part.
 pub record ArePartedInto (rule : Rule) (seen : Option ℕ) (taken : List Cell)
     (closed : List Closed) (put strange : List Cell) : Type 0 where
   pub parted : (tuple : List ℕ)

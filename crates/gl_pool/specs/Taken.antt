@@ -23,9 +23,9 @@ taken_weight weight place =
 abbrev pub duty_of : Deque × PassView → Deque × List ℕ
 duty_of pass = (pass.0, pass.1.serves)
 
--- The hand and the passes of a place took some cells, and the hand put others: what they have taken
--- weighs more by these cells, however cells are weighed. The place keeps its hand and its passes, in
--- their order, each with its deque and its worker, and the hand has gathered no more.
+-- The hand and the passes of a place took some cells, and the hand put others: what they have
+-- taken weighs more by these cells, however cells are weighed. The place keeps its hand and its
+-- passes, in their order, each with its deque and its worker, and the hand has gathered no more.
 pub record Moves (before after : Place) (taken put : List Cell) : Type 0 where
   pub took : (weight : Cell → ℕ)
       → taken_weight weight after ≡ taken_weight weight before + sum_by weight taken
@@ -43,8 +43,8 @@ pub record Steals (before after : List (Deque × PassView)) (cell : Cell) : Type
       → stolen_weight weight after ≡ stolen_weight weight before + weight cell
   pub passes : map duty_of after ≡ map duty_of before
 
--- Nothing was found in any deque. Once the hand has settled the passes of all other workers, it took
--- or gathered all that it put.
+-- Nothing was found in any deque. Once the hand has settled the passes of all other workers, it
+-- took or gathered all that it put.
 pub record FindsNone (before after : Place) : Type 0 where
   pub deque : hand_deque after.hand ≡ hand_deque before.hand
   pub hand : hand_view after.hand ≡ hand_view before.hand

@@ -32,9 +32,9 @@ fn close(cells: &mut Vec<Cell>, closed: &mut Vec<Closed>, why: Why) -> Result<()
     Ok(())
 }
 
-/// One step at the last cell: it is closed, or gives way to its halves, the lower one last. A single
-/// tuple that is worth more than what the seat has seen is kept, and then its total is raised. The
-/// only error is want of memory.
+/// One step at the last cell: it is closed, or gives way to its halves, the lower one last. A
+/// single tuple that is worth more than what the seat has seen is kept, and then its total is
+/// raised. The only error is want of memory.
 #[inline]
 fn step<G: Goal>(
     goal: &G,
@@ -43,9 +43,11 @@ fn step<G: Goal>(
     bench: &mut Bench,
 ) -> Result<(), AllocError>
     requires some { 0 < vec_len bench.old.cells }
-    requires at_work { (place : Place) × IsAtWork (G.rule goal.now) word.now place seat.old bench.old }
+    requires at_work { (place : Place)
+        × IsAtWork (G.rule goal.now) word.now place seat.old bench.old }
     requires legs { G.are_legs goal.now bench.old.legs.items }
-    ensures on { OnOk result (Steps (G.rule goal.now) word.now seat.old seat.new bench.old bench.new) }
+    ensures on { OnOk result
+        (Steps (G.rule goal.now) word.now seat.old seat.new bench.old bench.new) }
     ensures legs { OnOk result (G.are_legs goal.now bench.new.legs.items) }
 {
     let top = bench.cells.len() - 1;
@@ -74,9 +76,11 @@ fn stretch<G: Goal>(
     seat: &mut Seat,
     bench: &mut Bench,
 ) -> Result<(), AllocError>
-    requires at_work { (place : Place) × IsAtWork (G.rule goal.now) word.now place seat.old bench.old }
+    requires at_work { (place : Place)
+        × IsAtWork (G.rule goal.now) word.now place seat.old bench.old }
     requires legs { G.are_legs goal.now bench.old.legs.items }
-    ensures on { OnOk result (Steps (G.rule goal.now) word.now seat.old seat.new bench.old bench.new) }
+    ensures on { OnOk result
+        (Steps (G.rule goal.now) word.now seat.old seat.new bench.old bench.new) }
     ensures legs { OnOk result (G.are_legs goal.now bench.new.legs.items) }
 {
     for _ in 0..STRETCH {
@@ -88,8 +92,8 @@ fn stretch<G: Goal>(
     Ok(())
 }
 
-/// Puts the oldest cell into the deque, for others to steal, where the worker has more than one. The
-/// only error is want of memory.
+/// Puts the oldest cell into the deque, for others to steal, where the worker has more than one.
+/// The only error is want of memory.
 fn put_oldest(place: &mut Place, bench: &mut Bench) -> Result<(), AllocError>
     ensures on { OnOk result ((rule : Rule) (word : BestWord) (seat : Seat)
         → GoesOn rule word place.old place.new seat seat bench.old bench.new) }

@@ -21,8 +21,8 @@ const CELL_ROOM: usize = 512;
 /// Room for closed cells at the start.
 const CLOSED_ROOM: usize = 16_384;
 
-/// A bench with nothing on it, for a worker that has seen a total, if any. The only error is want of
-/// memory.
+/// A bench with nothing on it, for a worker that has seen a total, if any. The only error is want
+/// of memory.
 fn empty_bench<G: Goal>(alloc: Global, goal: &G, seen: Option<u64>) -> Result<Bench, AllocError>
     ensures legs { IfOk result (λ bench. G.are_legs goal.now bench.legs.items) }
     ensures cells { IfOk result (λ bench. bench.cells.items ≡ []) }

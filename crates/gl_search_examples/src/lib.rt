@@ -16,3 +16,5 @@ mod hulls;
 mod proofs_read;
 #[cfg(test)]
 mod reaches;
+#[cfg(test)]
+mod workers;
