@@ -24,3 +24,5 @@ mod reaches;
 mod replays;
 #[cfg(test)]
 mod triangle_alone;
+#[cfg(test)]
+mod workers;
