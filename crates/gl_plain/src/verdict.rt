@@ -20,12 +20,7 @@ pub enum Verdict {
 
 /// Tests a cell against a total that was found, if one was. `legs` are some that were measured.
 #[inline(always)]
-pub fn test_for<G: Goal>(
-    goal: &G,
-    cell: &Cell,
-    total: Option<u64>,
-    legs: &mut [Leg],
-) -> Verdict
+pub fn test_for<G: Goal>(goal: &G, cell: &Cell, total: Option<u64>, legs: &mut [Leg]) -> Verdict
     requires covers { Covers (whole_cell (G.rule goal.now).axes) (spans_of cell.now) }
     requires legs { G.are_legs goal.now legs.old }
     ensures verdict { IsVerdict (G.rule goal.now) total (spans_of cell.now) result }
