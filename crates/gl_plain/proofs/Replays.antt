@@ -217,6 +217,7 @@ replay_made rule workers steps left found boxes replayed of end are moved count 
     record {
       state = of.state;
       after = of.after;
+      safe = left_safe rule workers steps left of;
       only = λ other also. runs_one rule steps (start rule workers) other of.state also of.after;
       finished = finished;
       boxes = subst (λ (cs : List Box). IsPermutation (cs ++ finished) (map box_of replayed.found.closed.items)) of.closed ordered;

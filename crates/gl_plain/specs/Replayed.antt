@@ -8,6 +8,7 @@ use Rattle.gl_plain.specs.declared.replayed.Left.{Left}
 use Rattle.gl_plain.specs.declared.replayed.Replayed.{Replayed}
 use Rattle.gl_plain.specs.declared.schedule.Step.{Step}
 use Rattle.gl_plain.specs.Machine.{IsAfter, State, closed_in, open_in}
+use Rattle.gl_plain.specs.Safe.{IsSafe}
 use Rattle.gl_plain.specs.Search.{IsNoLess, IsSound, total_of}
 use Rattle.gl_plain.specs.Steps.{LiesInOne}
 
@@ -21,14 +22,15 @@ pub record IsLeft (rule : Rule) (workers : ℕ) (steps : List Step) (left : Left
   pub sound : IsSound rule left.known
   pub known : IsNoLess state.word (total_of left.known)
 
--- Some workers come by some steps to one state of the machine. Its closed cells stand among the
--- boxes with their reasons, each as often; each other box lies in a cell that was open then; and
--- the count of closed cells is told.
+-- Some workers come by some steps to one state of the machine, which is safe. Its closed cells
+-- stand among the boxes with their reasons, each as often; each other box lies in a cell that was
+-- open then; and the count of closed cells is told.
 pub record IsReplay (rule : Rule) (workers : ℕ) (steps : List Step)
     (replayed : Replayed) : Type 0 where
   pub state : State
   pub after : IsAfter rule workers steps state
   pub only : (other : State) → IsAfter rule workers steps other → other ≡ state
+  pub safe : IsSafe rule state
   pub finished : List (List (ℕ × ℕ) × Why)
   pub boxes :
       IsPermutation (closed_in state ++ finished) (map box_of replayed.found.closed.items)
