@@ -17,7 +17,7 @@ use std::alloc::AllocError;
 use std::sync::Wait;
 
 /// How many cells a worker tests before it looks at the best word again and puts a cell.
-const STRETCH: u32 = 32;
+const STRETCH: u32 = 64;
 
 /// Closes the last cell. The only error is want of memory.
 #[inline]
