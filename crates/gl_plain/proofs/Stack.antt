@@ -32,7 +32,7 @@ unfoldable pub work_of : List Cell → ℕ
 work_of [] = 0
 work_of (cell ∷ cells) = turns (spread (spans_of cell)) + work_of cells
 
-turns_some : (reach : ℕ) → 0 < turns reach
+pub turns_some : (reach : ℕ) → 0 < turns reach
 unfolding turns
 turns_some zero = omega arith
 turns_some (suc reach) = omega arith
@@ -43,17 +43,17 @@ turns_more zero more order = turns_some more
 turns_more (suc less) zero order = absurd (omega arith)
 turns_more (suc less) (suc more) order = omega (arith, turns_more less more (omega arith))
 
-turns_cut : (lower upper all : ℕ) → lower < all → upper < all → turns lower + turns upper < turns all
+pub turns_cut : (lower upper all : ℕ) → lower < all → upper < all → turns lower + turns upper < turns all
 unfolding turns
 turns_cut lower upper zero low high = absurd (omega arith)
 turns_cut lower upper (suc all) low high = omega (arith, turns_more lower all (omega arith), turns_more upper all (omega arith))
 
-work_of-append : (xs ys : List Cell) → work_of (xs ++ ys) ≡ work_of xs + work_of ys
+pub work_of-append : (xs ys : List Cell) → work_of (xs ++ ys) ≡ work_of xs + work_of ys
 unfolding work_of
 work_of-append [] ys = omega arith
 work_of-append (x ∷ xs) ys = omega (arith, work_of-append xs ys)
 
-work_of-one : (cell : Cell) → work_of (cell ∷ []) ≡ turns (spread (spans_of cell))
+pub work_of-one : (cell : Cell) → work_of (cell ∷ []) ≡ turns (spread (spans_of cell))
 unfolding work_of
 work_of-one cell = omega arith
 
@@ -119,7 +119,7 @@ closed_longer rule (Some old) (Some new) cell Bound more closed = omega arith
 abbrev cell_of : Closed → List (ℕ × ℕ)
 cell_of box = spans_of box.cell
 
-reverse-last : (xs : List Cell) (cell : Cell) → reverse (map spans_of (xs ++ cell ∷ [])) ≡ spans_of cell ∷ reverse (map spans_of xs)
+pub reverse-last : (xs : List Cell) (cell : Cell) → reverse (map spans_of (xs ++ cell ∷ [])) ≡ spans_of cell ∷ reverse (map spans_of xs)
 reverse-last xs cell = ap (λ (cells : List (List (ℕ × ℕ))). reverse cells) (map-append spans_of xs (cell ∷ [])) ∙ reverse-append (map spans_of xs) (spans_of cell ∷ [])
 
 -- a closed box stands where its cell stood
@@ -204,15 +204,15 @@ under_way_start rule best cells boxes cell sound no_box one is =
       cells_needed = All_along (λ (c : Cell). IsNeeded rule (spans_of c)) (cell ∷ []) cells (sym one) (All-cons (λ (c : Cell). IsNeeded rule (spans_of c)) cell [] (inl is) (λ k d below. absurd (omega arith)));
     }
 
-claimed_best : (rule : Rule) (best : Option Best) → IsSound rule best → IsClaimed rule (total_of best) (fixes_of rule best)
+pub claimed_best : (rule : Rule) (best : Option Best) → IsSound rule best → IsClaimed rule (total_of best) (fixes_of rule best)
 claimed_best rule None sound = refl
 claimed_best rule (Some best) sound = (places_of best.tuple, sound, refl)
 
-map-boxes : (boxes : List Closed) → map (λ (box : List (ℕ × ℕ) × Why). box.0) (map box_of boxes) ≡ map cell_of boxes
+pub map-boxes : (boxes : List Closed) → map (λ (box : List (ℕ × ℕ) × Why). box.0) (map box_of boxes) ≡ map cell_of boxes
 map-boxes [] = refl
 map-boxes (box ∷ boxes) = ap (λ (cells : List (List (ℕ × ℕ))). spans_of box.cell ∷ cells) (map-boxes boxes)
 
-closed-boxes : (rule : Rule) (total : Option ℕ) (boxes : List Closed) → All (λ (b : Closed). IsClosedFor rule total (spans_of b.cell) b.why) boxes → All (λ (box : List (ℕ × ℕ) × Why). IsClosedFor rule total box.0 box.1) (map box_of boxes)
+pub closed-boxes : (rule : Rule) (total : Option ℕ) (boxes : List Closed) → All (λ (b : Closed). IsClosedFor rule total (spans_of b.cell) b.why) boxes → All (λ (box : List (ℕ × ℕ) × Why). IsClosedFor rule total box.0 box.1) (map box_of boxes)
 closed-boxes rule total [] closed k d below = absurd (omega arith)
 closed-boxes rule total (box ∷ boxes) closed zero d below = closed 0 box (omega arith)
 closed-boxes rule total (box ∷ boxes) closed (suc k) d below = closed-boxes rule total boxes (λ j e inside. closed (suc j) e (omega arith)) k d (omega arith)

@@ -1,5 +1,6 @@
 pub mod Candidate
 pub mod Found
+pub mod Order
 pub mod Search
 pub mod Steps
 pub mod Verdict

@@ -5,11 +5,13 @@
 mod climb;
 mod dive;
 mod found;
+mod order;
 mod search;
 mod spaced;
 mod verdict;
 mod warm;
 
 pub use found::{Best, Found};
+pub use order::in_order;
 pub use search::search_one;
 pub use warm::warm_start;

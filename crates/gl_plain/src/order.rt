@@ -1,0 +1,110 @@
+ghost use Rattle.std.specs.Prelude.{◌≡◌, ◌≤◌, ℕ, List, [], drop, length, take, All, IfOk, IfSome, IsPermutation, OnOk};
+ghost use Rattle.gl_box.specs.Cell.{Covers, spans_of};
+ghost use Rattle.gl_box.specs.Frontier.{IsFrontier};
+ghost use Rattle.gl_plain.specs.Order.{AreParts, cells_of};
+
+use gl_box::{Cell, Closed, covers, halve};
+use std::alloc::{AllocError, Global};
+
+/// Room for open cells: each cut adds one, and a cell can be cut at most 32 times on each axis.
+const OPEN_ROOM: usize = 512;
+
+/// How many of the first boxes are a frontier of the cell. `None` where they don't begin with one.
+/// `opened` is room to work in. The only error is want of memory.
+fn frontier_len(
+    mut cell: Cell,
+    boxes: &[Closed],
+    opened: &mut Vec<Cell>,
+) -> Result<Option<usize>, AllocError>
+    ensures within { IfOk result (λ count. IfSome count (λ count. count ≤ length boxes.now)) }
+    ensures frontier { IfOk result (λ count. IfSome count
+        (λ count. IsFrontier (spans_of cell) (take count (cells_of boxes.now)))) }
+{
+    opened.clear();
+    let mut count = 0;
+    'halves: while count < boxes.len() {
+        let next = &boxes[count].cell;
+        if *next == cell {
+            count += 1;
+            match opened.pop() {
+                Some(other) => cell = other,
+                None => return Ok(Some(count)),
+            }
+        } else {
+            let Some(lower) = halve(&mut cell) else {
+                return Ok(None);
+            };
+            if !covers(&lower, next) {
+                return Ok(None);
+            }
+            opened.push(cell)?;
+            cell = lower;
+        }
+    }
+    Ok(None)
+}
+
+/// Brings the boxes that a cell covers to the front, and answers how many they are.
+fn part(cell: &Cell, boxes: &mut [Closed]) -> usize
+    ensures within { result ≤ length boxes.new }
+    ensures permutation { IsPermutation boxes.old boxes.new }
+    ensures front { All (λ box. Covers (spans_of cell.now) (spans_of box.cell))
+        (take result boxes.new) }
+    ensures back { All (λ box. Covers (spans_of cell.now) (spans_of box.cell) → ⊥)
+        (drop result boxes.new) }
+{
+    let mut count = 0;
+    for place in 0..boxes.len() {
+        if covers(cell, &boxes[place].cell) {
+            boxes.swap(count, place);
+            count += 1;
+        }
+    }
+    count
+}
+
+/// Puts boxes that part a cell into the order of the split tree. Where those of the lower half come
+/// first and in order, they stay as they are. `opened` is room to work in. The only error is want
+/// of memory.
+fn put_in_order(
+    mut cell: Cell,
+    boxes: &mut [Closed],
+    opened: &mut Vec<Cell>,
+) -> Result<(), AllocError>
+    requires { AreParts (spans_of cell) (cells_of boxes.old) }
+    ensures permutation { OnOk result (IsPermutation boxes.old boxes.new) }
+    ensures frontier { OnOk result (IsFrontier (spans_of cell) (cells_of boxes.new)) }
+{
+    let Some(lower) = halve(&mut cell) else {
+        return Ok(());
+    };
+    if boxes.len() == 1 {
+        return Ok(());
+    }
+    if let Some(count) = frontier_len(lower, boxes, opened)? {
+        let (_, back) = boxes.split_at_mut(count);
+        return put_in_order(cell, back, opened);
+    }
+    let count = part(&lower, boxes);
+    let (front, back) = boxes.split_at_mut(count);
+    put_in_order(lower, front, opened)?;
+    put_in_order(cell, back, opened)
+}
+
+/// The same boxes in the order of the split tree of a cell which they part: each of its tuples lies
+/// in exactly one of them. Boxes that come as a few runs in order take little more than one pass.
+/// The only error is want of memory.
+pub fn in_order(
+    alloc: Global,
+    whole: &Cell,
+    mut closed: Vec<Closed>,
+) -> Result<Vec<Closed>, AllocError>
+    requires { AreParts (spans_of whole.now) (cells_of closed.items) }
+    ensures frontier { IfOk result
+        (λ boxes. IsFrontier (spans_of whole.now) (cells_of boxes.items)) }
+    ensures permutation { IfOk result (λ boxes. IsPermutation closed.items boxes.items) }
+{
+    let mut opened = Vec::with_capacity(alloc, OPEN_ROOM)?;
+    put_in_order(*whole, closed.as_mut_slice(), &mut opened)?;
+    Ok(closed)
+}
