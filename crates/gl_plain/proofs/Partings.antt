@@ -1,5 +1,5 @@
 -- Cells that part a whole: they are the whole alone, or each lies in one of its halves, and those in a half part it.
-use Rattle.std.proofs.Common.{◌≡◌, ◌≢◌, ◌∙◌, sym, ap, refl, subst, ℕ, zero, suc, ◌+◌, ◌/◌, ◌<◌, ◌≤◌, Bool, true, false, true≢false, cond, eqb, ◌&&◌, ◌⊎◌, inl, inr, List, [], ◌∷◌, ◌++◌, length, get_or, take, drop, map, slice_set, append_assoc, arith}
+use Rattle.std.proofs.Common.{◌≡◌, ◌≢◌, ◌∙◌, sym, ap, refl, subst, ℕ, zero, suc, ◌+◌, ◌/◌, ◌<◌, ◌≤◌, Bool, true, false, true≢false, cond, eqb, ◌&&◌, ◌⊎◌, inl, inr, List, [], ◌∷◌, ◌++◌, length, get_or, take, drop, map, slice_set, append_assoc, Option, arith}
 use Rattle.std.specs.Prelude.{All}
 use Rattle.std.specs.List.{SwappedAt}
 use Rattle.std.proofs.lemmas.Bool.{cases_order, eqb-true}
@@ -21,7 +21,13 @@ use Rattle.gl_box.specs.Laws.Held.{holds_whole}
 use Rattle.gl_box.specs.Laws.Nodes.{covers_lower, covers_node, covers_upper, halves_frontier, holds_through, member_node, refined}
 use Rattle.gl_box.specs.Laws.Parts.{halves_parted, mult-append, mult-held}
 use Rattle.gl_box.specs.Laws.Spans.{single-narrow}
+use Rattle.gl_box.specs.Closed.{box_of}
+use Rattle.gl_goal.specs.Rule.{Rule, whole_cell}
+use Rattle.gl_goal.specs.Certificate.{IsCertificate, IsClosedFor}
+use Rattle.gl_plain.specs.declared.found.Best.{Best}
 use Rattle.gl_plain.specs.Order.{AreParts, cells_of}
+use Rattle.gl_plain.specs.Search.{IsSound, fixes_of, total_of}
+use Rattle.gl_plain.proofs.Stack.{claimed_best, closed-boxes, map-boxes}
 
 -- a cell has one widest axis, and so one pair of halves
 widest_unique : (cell : List (ℕ × ℕ)) (a b : ℕ) → IsWidest cell a → IsWidest cell b → a ≡ b
@@ -422,3 +428,16 @@ boxes_single cell boxes parts single = parts-single (spans_of cell) (cells_of bo
 
 pub boxes_one : (cell lower upper : Cell) (boxes : List Closed) → AreParts (spans_of cell) (cells_of boxes) → AreHalves (spans_of cell) (spans_of lower) (spans_of upper) → length boxes ≡ 1 → IsFrontier (spans_of cell) (cells_of boxes)
 boxes_one cell lower upper boxes parts halves one = parts-one (spans_of cell) (spans_of lower) (spans_of upper) (cells_of boxes) parts halves (cell_held lower) (cell_held upper) (length-map boxes cell_of ∙ one)
+
+-- boxes that certify a total, in any order, part the cell that they certify
+pub certified_parts : (rule : Rule) (total : Option ℕ) (fixes : List ℕ) (boxes after : List Closed) → IsCertificate rule total fixes (map box_of boxes) → IsPermutation boxes after → AreParts (whole_cell rule.axes) (cells_of after)
+certified_parts rule total fixes boxes after certificate same =
+    parts-permutation (whole_cell rule.axes) boxes after same (frontier_parts (whole_cell rule.axes) (cells_of boxes) (subst (IsFrontier (whole_cell rule.axes)) (map-boxes boxes) certificate.frontier))
+
+-- boxes that are a frontier of the whole cell, as others that were closed for a total, certify that total
+pub certificate_of : (rule : Rule) (best : Option Best) (closed boxes : List Closed) → IsSound rule best → IsFrontier (whole_cell rule.axes) (cells_of boxes) → IsPermutation closed boxes → All (λ (b : Closed). IsClosedFor rule (total_of best) (spans_of b.cell) b.why) closed → IsCertificate rule (total_of best) (fixes_of rule best) (map box_of boxes)
+certificate_of rule best closed boxes sound frontier same each = record {
+  claimed = claimed_best rule best sound;
+  frontier = subst (IsFrontier (whole_cell rule.axes)) (sym (map-boxes boxes)) frontier;
+  closed = closed-boxes rule (total_of best) boxes (All-permutation (λ (b : Closed). IsClosedFor rule (total_of best) (spans_of b.cell) b.why) closed boxes same each);
+}

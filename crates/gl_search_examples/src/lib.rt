@@ -13,6 +13,8 @@ mod free_goals;
 #[cfg(test)]
 mod hulls;
 #[cfg(test)]
+mod ordered;
+#[cfg(test)]
 mod proofs_read;
 #[cfg(test)]
 mod reaches;

@@ -1,0 +1,25 @@
+use Rattle.std.proofs.Common.{◌≡◌, ◌∙◌, sym, ap, subst, ℕ, List, [], ◌++◌, take, drop, length, arith}
+use Rattle.std.specs.List.Sorted.{IsPermutation}
+use Rattle.std.proofs.lemmas.List.{drop_all}
+use Rattle.std.proofs.lemmas.List.Sorted.{length_permutation}
+use lib.Seq.{take-append_seam}
+use Rattle.gl_box.specs.declared.closed.Closed.{Closed}
+use Rattle.gl_box.specs.Cell.{spans_of}
+use Rattle.gl_plain.specs.Order.{AreParts, cells_of}
+use Rattle.gl_plain.proofs.Partings.{certified_parts}
+use Rattle.gl_search_examples.proofs.ordered.come_back.Goals as goal
+
+-- a list that was lent whole is what stands there
+lent : (many : ℕ) (new old : List Closed) → length new ≡ length old → many ≡ length old → take many (new ++ drop (length new) old) ≡ new
+lent many new old same is =
+    ap (λ (rest : List Closed). take many (new ++ rest)) (drop_all (length new) old (omega arith))
+    ∙ ap (λ (n : ℕ). take n (new ++ [])) (is ∙ sym same)
+    ∙ take-append_seam new []
+
+pub in_order-requires : goal.in_order-requires
+in_order-requires g c =
+    let same = subst (λ (boxes : List Closed). IsPermutation boxes c.disorder.new.boxes) c.deref_mut.ensures.value c.disorder.ensures in
+    let found = c.in_ok-boxes.field-0.closed in
+    let back = lent found.len c.disorder.new.boxes found.items (length_permutation found.items c.disorder.new.boxes same) found.ok.0 in
+    subst (λ (boxes : List Closed). AreParts (spans_of c.whole.result) (cells_of boxes)) (sym back)
+    (subst (λ (all : List (ℕ × ℕ)). AreParts all (cells_of c.disorder.new.boxes)) (sym c.whole.ensures) (certified_parts _ _ _ found.items c.disorder.new.boxes c.in_ok-boxes.ensures.certificate same))
