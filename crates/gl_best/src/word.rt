@@ -1,4 +1,4 @@
-ghost use Rattle.std.specs.Prelude.{◌≡◌, ◌<◌, [], length};
+ghost use Rattle.std.specs.Prelude.{◌≡◌, ◌<◌, ◌≤◌, [], length};
 
 use crate::rule::{Greatest, View};
 use atomic_table::Table;
@@ -17,5 +17,6 @@ pub struct BestWord {
 pub struct Seat {
     pub(crate) seat: atomic_table::Seat<(), View>,
     ghost some_number: { 0 < length seat.me.0.numbers },
+    pub ghost raised_was_seen: { seat.me.0.raised ≤ seat.me.0.seen },
     ghost holds_no_slot: { seat.me.1 ≡ [] },
 }

@@ -14,4 +14,5 @@ mod warm;
 pub use found::{Best, Found};
 pub use order::in_order;
 pub use search::search_one;
+pub use verdict::{Verdict, test_for};
 pub use warm::warm_start;

@@ -10,11 +10,40 @@ use gl_box::{Cell, Tuple, Why};
 use gl_goal::{Goal, Leg};
 
 /// What a goal's tests say of a cell.
-pub(crate) enum Verdict {
+#[derive(Clone, Copy, Debug, PartialEq, Eq)]
+pub enum Verdict {
     /// Nothing in it has to be looked at any more.
     Closed(Why),
     /// It may hold a legal tuple that is worth this much, more than what was found.
     Open(u64),
+}
+
+/// Tests a cell against a total that was found, if one was. `legs` are some that were measured.
+#[inline(always)]
+pub fn test_for<G: Goal>(
+    goal: &G,
+    cell: &Cell,
+    total: Option<u64>,
+    legs: &mut [Leg],
+) -> Verdict
+    requires covers { Covers (whole_cell (G.rule goal.now).axes) (spans_of cell.now) }
+    requires legs { G.are_legs goal.now legs.old }
+    ensures verdict { IsVerdict (G.rule goal.now) total (spans_of cell.now) result }
+    ensures legs { G.are_legs goal.now legs.new }
+{
+    if goal.disordered(cell) {
+        return Verdict::Closed(Why::Disordered);
+    }
+    if goal.shut(cell) {
+        return Verdict::Closed(Why::Shut);
+    }
+    let bound = goal.bound_by(cell, legs);
+    if let Some(total) = total
+        && bound <= total
+    {
+        return Verdict::Closed(Why::Bound);
+    }
+    Verdict::Open(bound)
 }
 
 /// Tests a cell against what was found. `legs` are some that were measured.
@@ -25,19 +54,11 @@ pub(crate) fn test<G: Goal>(goal: &G, cell: &Cell, best: &Option<Best>, legs: &m
     ensures verdict { IsVerdict (G.rule goal.now) (total_of best.now) (spans_of cell.now) result }
     ensures legs { G.are_legs goal.now legs.new }
 {
-    if goal.disordered(cell) {
-        return Verdict::Closed(Why::Disordered);
-    }
-    if goal.shut(cell) {
-        return Verdict::Closed(Why::Shut);
-    }
-    let bound = goal.bound_by(cell, legs);
-    if let Some(known) = best
-        && bound <= known.total
-    {
-        return Verdict::Closed(Why::Bound);
-    }
-    Verdict::Open(bound)
+    let total = match best {
+        Some(known) => Some(known.total),
+        None => None,
+    };
+    test_for(goal, cell, total, legs)
 }
 
 /// Keeps a tuple where it is legal and worth more than what was found.

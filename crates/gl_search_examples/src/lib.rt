@@ -18,3 +18,5 @@ mod ordered;
 mod proofs_read;
 #[cfg(test)]
 mod reaches;
+#[cfg(test)]
+mod workers;

@@ -18,5 +18,6 @@ invariant_of-seat c =
     let it = c.fetch_max.ensures.2 in
     record {
       some_number = subst (λ (numbers : List ℕ). 0 < length numbers) (sym (ap (λ (view : View). view.numbers) it.0.1)) c.args.seat.now.some_number;
+      raised_was_seen = omega (arith, it.0.0, ap (λ (view : View). view.raised) it.0.1, ap (λ (view : View). view.seen) it.0.1, c.args.seat.now.raised_was_seen);
       holds_no_slot = it.1 ∙ c.args.seat.now.holds_no_slot;
     }

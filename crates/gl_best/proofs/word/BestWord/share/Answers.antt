@@ -17,6 +17,7 @@ invariant_of-seat c =
     let before = c.args.seat.now.seat.me.0 in
     record {
       some_number = subst (λ (numbers : List ℕ). 0 < length numbers) (sym (ap (λ me. me.0.numbers) it)) (some_kept (greatest before.numbers) before.numbers c.requires.two);
+      raised_was_seen = omega (arith, ap (λ me. me.0.raised) it, ap (λ me. me.0.seen) it, c.args.seat.now.raised_was_seen);
       holds_no_slot = ap (λ me. me.1) it ∙ c.args.seat.now.holds_no_slot;
     }
 

@@ -1,0 +1,4 @@
+pub mod Parting
+pub mod Moving
+pub mod Hearing
+pub mod Going

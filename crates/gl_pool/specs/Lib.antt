@@ -1,0 +1,5 @@
+pub mod Taken
+pub mod Parts
+pub mod Kept
+pub mod Work
+pub mod UnderWay

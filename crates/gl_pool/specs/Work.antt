@@ -1,0 +1,30 @@
+-- What one worker does in one call.
+use Rattle.std.specs.Prelude.{List}
+use Rattle.gl_box.specs.declared.cell.Cell.{Cell}
+use Rattle.gl_goal.specs.Rule.{Rule}
+use Rattle.gl_best.specs.declared.word.BestWord.{BestWord}
+use Rattle.gl_best.specs.declared.word.Seat.{Seat}
+use Rattle.gl_best.specs.Seats.{view_of}
+use Rattle.gl_deal.specs.declared.place.Place.{Place}
+use Rattle.gl_deal.specs.Rule.{HasSettledAll, TookAllItPut}
+use Rattle.gl_deal.specs.Tokens.{hand_view}
+use Rattle.gl_pool.specs.declared.share.Share.{Share}
+use Rattle.gl_pool.specs.Kept.{AreClosedFor, IsKept, KeepsSeat, seen_by}
+use Rattle.gl_pool.specs.Parts.{ArePartedInto}
+use Rattle.gl_pool.specs.Taken.{Moves}
+
+-- A worker took some cells and put others, and its share is what it has to show for them. What it
+-- cut had a bound above what its seat had seen at the call, and what it closed is closed for what
+-- the seat has seen at the return. Where the passes of all other workers were settled at the call,
+-- the hand took or gathered all that it put.
+pub record HasWorked (rule : Rule) (word : BestWord) (before after : Place)
+    (seat_before seat_after : Seat) (share : Share) : Type 0 where
+  pub taken : List Cell
+  pub put : List Cell
+  pub moves : Moves before after taken put
+  pub parts : ArePartedInto rule (seen_by seat_before) taken share.closed.items put
+      share.strange.items
+  pub seat : KeepsSeat word seat_before seat_after
+  pub reasons : AreClosedFor rule seat_after share.closed.items
+  pub kept : IsKept rule (view_of seat_before) (view_of seat_after) share.kept
+  pub all_put : HasSettledAll (hand_view before.hand) → TookAllItPut (hand_view after.hand)

@@ -1,0 +1,14 @@
+//! A search by several workers: each works on the cells of its own deque, steals from the others
+//! where its own is empty, and hears the best total that any of them found.
+#![tactic(auto)]
+
+mod bench;
+mod gate;
+mod share;
+mod step;
+mod taking;
+mod worker;
+
+pub use gate::{Gate, OpenGate};
+pub use share::Share;
+pub use worker::work;

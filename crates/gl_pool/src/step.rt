@@ -1,0 +1,152 @@
+ghost use Rattle.std.specs.Prelude.{◌≡◌, ◌<◌, [], ◌∷◌, OnOk, vec_len};
+ghost use Rattle.gl_goal.specs.Rule.{Rule};
+ghost use Rattle.gl_plain.specs.Steps.{Closes};
+ghost use Rattle.gl_best.specs.declared.word.BestWord.{BestWord};
+ghost use Rattle.gl_best.specs.declared.word.Seat.{Seat};
+ghost use Rattle.gl_deal.specs.declared.place.Place.{Place};
+ghost use Rattle.gl_pool.specs.Taken.{Moves};
+ghost use Rattle.gl_pool.specs.UnderWay.{GoesOn, IsAtWork, Steps};
+
+use crate::bench::Bench;
+use gl_best::{BestWord, Seat};
+use gl_box::{Cell, Closed, Why, covers, halve};
+use gl_deal::Place;
+use gl_goal::{Goal, whole};
+use gl_plain::{Best, Verdict, test_for};
+use std::alloc::AllocError;
+use std::sync::Wait;
+
+/// How many cells a worker tests before it looks at the best word again and puts a cell.
+const STRETCH: u32 = 32;
+
+/// Closes the last cell. The only error is want of memory.
+#[inline]
+fn close(cells: &mut Vec<Cell>, closed: &mut Vec<Closed>, why: Why) -> Result<(), AllocError>
+    requires { 0 < vec_len cells.old }
+    ensures { OnOk result
+        (Closes cells.old.items cells.new.items closed.old.items closed.new.items why) }
+{
+    if let Some(cell) = cells.pop() {
+        closed.push(Closed { cell, why })?;
+    }
+    Ok(())
+}
+
+/// One step at the last cell: it is closed, or gives way to its halves, the lower one last. A
+/// single tuple that is worth more than what the seat has seen is kept, and then its total is
+/// raised. The only error is want of memory.
+#[inline]
+fn step<G: Goal>(
+    goal: &G,
+    word: &BestWord,
+    seat: &mut Seat,
+    bench: &mut Bench,
+) -> Result<(), AllocError>
+    requires some { 0 < vec_len bench.old.cells }
+    requires at_work { (place : Place)
+        × IsAtWork (G.rule goal.now) word.now place seat.old bench.old }
+    requires legs { G.are_legs goal.now bench.old.legs.items }
+    ensures on { OnOk result
+        (Steps (G.rule goal.now) word.now seat.old seat.new bench.old bench.new) }
+    ensures legs { OnOk result (G.are_legs goal.now bench.new.legs.items) }
+{
+    let top = bench.cells.len() - 1;
+    match test_for(goal, &bench.cells[top], bench.seen, &mut bench.legs) {
+        Verdict::Closed(why) => close(&mut bench.cells, &mut bench.share.closed, why)?,
+        Verdict::Open(bound) => match halve(&mut bench.cells[top]) {
+            Some(lower) => bench.cells.push(lower)?,
+            None => {
+                bench.share.kept = Some(Best {
+                    total: bound,
+                    tuple: bench.cells[top].lowest(),
+                });
+                word.raise(seat, bound);
+                bench.seen = word.look(seat);
+                close(&mut bench.cells, &mut bench.share.closed, Why::Bound)?;
+            }
+        },
+    }
+    Ok(())
+}
+
+/// So many steps, or as many as there are cells for. The only error is want of memory.
+fn stretch<G: Goal>(
+    goal: &G,
+    word: &BestWord,
+    seat: &mut Seat,
+    bench: &mut Bench,
+) -> Result<(), AllocError>
+    requires at_work { (place : Place)
+        × IsAtWork (G.rule goal.now) word.now place seat.old bench.old }
+    requires legs { G.are_legs goal.now bench.old.legs.items }
+    ensures on { OnOk result
+        (Steps (G.rule goal.now) word.now seat.old seat.new bench.old bench.new) }
+    ensures legs { OnOk result (G.are_legs goal.now bench.new.legs.items) }
+{
+    for _ in 0..STRETCH {
+        if bench.cells.is_empty() {
+            return Ok(());
+        }
+        step(goal, word, seat, bench)?;
+    }
+    Ok(())
+}
+
+/// Puts the oldest cell into the deque, for others to steal, where the worker has more than one.
+/// The only error is want of memory.
+fn put_oldest(place: &mut Place, bench: &mut Bench) -> Result<(), AllocError>
+    ensures on { OnOk result ((rule : Rule) (word : BestWord) (seat : Seat)
+        → GoesOn rule word place.old place.new seat seat bench.old bench.new) }
+    ensures legs { bench.new.legs.items ≡ bench.old.legs.items }
+{
+    if bench.cells.len() > 1 {
+        let oldest = bench.cells.remove(0);
+        if let Err(back) = place.hand.put(oldest) {
+            bench.cells.insert(0, back)?;
+        }
+    }
+    Ok(())
+}
+
+/// Goes on until no cell is left but those that were put. The only error is want of memory.
+pub(crate) fn finish<Rt: Wait, G: Goal>(
+    rt: &Rt,
+    goal: &G,
+    word: &BestWord,
+    place: &mut Place,
+    seat: &mut Seat,
+    bench: &mut Bench,
+) -> Result<(), AllocError>
+    requires at_work { IsAtWork (G.rule goal.now) word.now place.old seat.old bench.old }
+    requires legs { G.are_legs goal.now bench.old.legs.items }
+    ensures on { OnOk result (GoesOn (G.rule goal.now) word.now
+        place.old place.new seat.old seat.new bench.old bench.new) }
+    ensures none { OnOk result (bench.new.cells.items ≡ []) }
+    ensures legs { OnOk result (G.are_legs goal.now bench.new.legs.items) }
+{
+    for _ in rt.forever() {
+        stretch(goal, word, seat, bench)?;
+        bench.seen = word.look(seat);
+        if bench.cells.is_empty() {
+            return Ok(());
+        }
+        put_oldest(place, bench)?;
+    }
+    unreachable!()
+}
+
+/// Begins with a cell that was taken. The only error is want of memory.
+pub(crate) fn begin<G: Goal>(goal: &G, cell: Cell, bench: &mut Bench) -> Result<(), AllocError>
+    requires { bench.old.cells.items ≡ [] }
+    ensures on { OnOk result ((word : BestWord) (place place_after : Place) (seat : Seat)
+        → Moves place place_after (cell ∷ []) []
+        → GoesOn (G.rule goal.now) word place place_after seat seat bench.old bench.new) }
+    ensures legs { bench.new.legs.items ≡ bench.old.legs.items }
+{
+    if covers(&whole(goal), &cell) {
+        bench.cells.push(cell)?;
+    } else {
+        bench.share.strange.push(cell)?;
+    }
+    Ok(())
+}

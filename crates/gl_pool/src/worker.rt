@@ -1,0 +1,75 @@
+ghost use Rattle.std.specs.Prelude.{◌≡◌, [], None, IfOk};
+ghost use Rattle.gl_best.specs.Seats.{IsSeatOf};
+ghost use Rattle.gl_pool.specs.Work.{HasWorked};
+
+use crate::bench::Bench;
+use crate::gate::Gate;
+use crate::share::Share;
+use crate::step::{begin, finish};
+use crate::taking::next_cell;
+use gl_best::{BestWord, Seat};
+use gl_deal::Place;
+use gl_goal::{Goal, measured_legs};
+use std::alloc::{AllocError, Global};
+use std::sync::Wait;
+use std::thread::Threads;
+
+/// Room for the cells that a worker has before it: each cut adds one, and a cell can be cut at most
+/// 32 times on each axis.
+const CELL_ROOM: usize = 512;
+
+/// Room for closed cells at the start.
+const CLOSED_ROOM: usize = 16_384;
+
+/// A bench with nothing on it, for a worker that has seen a total, if any. The only error is want
+/// of memory.
+fn empty_bench<G: Goal>(alloc: Global, goal: &G, seen: Option<u64>) -> Result<Bench, AllocError>
+    ensures legs { IfOk result (λ bench. G.are_legs goal.now bench.legs.items) }
+    ensures cells { IfOk result (λ bench. bench.cells.items ≡ []) }
+    ensures seen { IfOk result (λ bench. bench.seen ≡ seen) }
+    ensures kept { IfOk result (λ bench. bench.share.kept ≡ None) }
+    ensures closed { IfOk result (λ bench. bench.share.closed.items ≡ []) }
+    ensures strange { IfOk result (λ bench. bench.share.strange.items ≡ []) }
+{
+    Ok(Bench {
+        cells: Vec::with_capacity(alloc, CELL_ROOM)?,
+        legs: measured_legs(alloc, goal)?,
+        seen,
+        share: Share {
+            kept: None,
+            closed: Vec::with_capacity(alloc, CLOSED_ROOM)?,
+            strange: Vec::new(alloc),
+        },
+    })
+}
+
+/// What one worker does: it passes the gate, and works until its own deque is empty and the others
+/// gave it nothing. It may go on as long as others put cells. The only error is want of memory,
+/// after which nothing is said of its cells.
+pub fn work<Rt: Threads + Wait + Sync, G: Goal, K: Gate>(
+    rt: &Rt,
+    alloc: Global,
+    goal: &G,
+    worker: u32,
+    place: &mut Place,
+    word: &BestWord,
+    seat: &mut Seat,
+    gate: &K,
+) -> Result<Share, AllocError>
+    requires { IsSeatOf word.now seat.old }
+    ensures { IfOk result
+        (HasWorked (G.rule goal.now) word.now place.old place.new seat.old seat.new) }
+{
+    gate.pass(worker);
+    let seen = word.look(seat);
+    let mut bench = empty_bench(alloc, goal, seen)?;
+    for _ in rt.forever() {
+        let Some(cell) = next_cell(place) else {
+            let Bench { share, .. } = bench;
+            return Ok(share);
+        };
+        begin(goal, cell, &mut bench)?;
+        finish(rt, goal, word, place, seat, &mut bench)?;
+    }
+    unreachable!()
+}
