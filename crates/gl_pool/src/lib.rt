@@ -3,10 +3,12 @@
 #![tactic(auto)]
 
 mod bench;
+mod crew;
 mod gate;
 mod share;
 mod step;
 mod taking;
+mod tally;
 mod worker;
 
 pub use gate::{Gate, OpenGate};
