@@ -1,3 +1,4 @@
+pub mod Answer
 pub mod Candidate
 pub mod Found
 pub mod Order

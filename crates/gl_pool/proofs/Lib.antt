@@ -7,3 +7,6 @@ pub mod Tallies
 pub mod Collecting
 pub mod Seating
 pub mod Turning
+pub mod Settling
+pub mod SettlingAll
+pub mod Finishing

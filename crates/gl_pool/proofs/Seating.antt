@@ -53,7 +53,7 @@ still_tally rule word before after still is = record {
   sound = subst (IsSound rule) (sym still.best) is.sound;
   raised = still.raised ∙ is.raised ∙ ap word_of (sym still.best);
   closed = All-same (λ (box : Closed). IsClosedFor rule (seen_by after.seat) (spans_of box.cell) box.why) after.closed.items before.closed.items still.closed
-    (subst (λ (word : ℕ). All (λ (box : Closed). IsClosedFor rule (total_of word) (spans_of box.cell) box.why) before.closed.items) (sym still.seen) is.closed);
+      (subst (λ (word : ℕ). All (λ (box : Closed). IsClosedFor rule (total_of word) (spans_of box.cell) box.why) before.closed.items) (sym still.seen) is.closed);
 }
 
 -- some workers have their seats, and some places are left, with the last one behind them
@@ -80,10 +80,10 @@ place_in worker = worker.place
 pub seating_more : (word : BestWord) (places rest less : List Place) (last : Place) (before tally after : Tally) (workers more : List Worker) (worker : Worker) → rest ≡ worker.place ∷ less → more ≡ workers ++ worker ∷ [] → IsSeatOf word after.seat → IsFresh word worker → after.best ≡ tally.best → after.closed.items ≡ tally.closed.items → view_of after.seat ≡ kept_of (view_of tally.seat) → view_of worker.tally.seat ≡ given_of (view_of tally.seat) → length (view_of after.seat).numbers + 1 ≡ length (view_of tally.seat).numbers → Seating word places rest last before tally workers → Seating word places less last before after more
 seating_more word places rest less last before tally after workers more worker is one seat fresh best closed kept given fewer so_far = record {
   places_are = ap (λ (ws : List Worker). map place_in ws ++ (less ++ last ∷ [])) one
-    ∙ ap (λ (l : List Place). l ++ (less ++ last ∷ [])) (map-append place_in workers (worker ∷ []))
-    ∙ append_assoc (map place_in workers) (worker.place ∷ []) (less ++ last ∷ [])
-    ∙ ap (λ (l : List Place). map place_in workers ++ (l ++ last ∷ [])) (sym is)
-    ∙ so_far.places_are;
+      ∙ ap (λ (l : List Place). l ++ (less ++ last ∷ [])) (map-append place_in workers (worker ∷ []))
+      ∙ append_assoc (map place_in workers) (worker.place ∷ []) (less ++ last ∷ [])
+      ∙ ap (λ (l : List Place). map place_in workers ++ (l ++ last ∷ [])) (sym is)
+      ∙ so_far.places_are;
   still = record {
     is_seat = seat;
     best = best ∙ so_far.still.best;
@@ -110,7 +110,7 @@ seated_all word places rest last before tally workers all worker none place own 
     let still : StillHas word before worker.tally = subst (StillHas word before) (sym own) so_far.still in
     record {
       places_are = ap (map place_in) one ∙ map-append place_in workers (worker ∷ []) ∙ ap (λ (p : Place). map place_in workers ++ p ∷ []) place
-        ∙ ap (λ (l : List Place). map place_in workers ++ (l ++ last ∷ [])) (sym none) ∙ so_far.places_are;
+          ∙ ap (λ (l : List Place). map place_in workers ++ (l ++ last ∷ [])) (sym none) ∙ so_far.places_are;
       tallies = λ rule is. All-same (λ (w : Worker). IsTally rule word w.tally) all (workers ++ worker ∷ []) one
           (All-push (λ (w : Worker). IsTally rule word w.tally) workers worker (All-weaker (IsFresh word) (λ (w : Worker). IsTally rule word w.tally) (fresh_tally rule word) workers so_far.fresh) (still_tally rule word before worker.tally still is));
       nothing = λ empty. All-same (λ (w : Worker). w.tally.closed.items ≡ []) all (workers ++ worker ∷ []) one

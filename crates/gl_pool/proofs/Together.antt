@@ -20,11 +20,8 @@ use Rattle.gl_goal.specs.Rule.{Rule, whole_cell}
 use Rattle.gl_plain.specs.Search.{IsNeeded}
 use Rattle.gl_plain.specs.Order.{AreParts, cells_of}
 use Rattle.gl_plain.proofs.Stack.{needed_covered, needed_node}
+use Rattle.gl_pool.specs.Many.{CameToAll, WeighSame}
 use Rattle.gl_pool.specs.Parts.{ArePartedInto, IsCutFrom, IsFromTaken, IsPartOfTaken, IsStrange, IsTakenInside, times_closed, times_held}
-
--- two lists of cells weigh the same, however cells are weighed
-pub record WeighSame (cells others : List Cell) : Type 0 where
-  pub weighs : (weight : Cell → ℕ) → sum_by weight cells ≡ sum_by weight others
 
 -- what is inside a list that grows
 inside_more : (rule : Rule) (taken more : List Cell) (cell : Cell) → ((c : Cell) → Contains taken c → Contains more c) → IsTakenInside rule taken cell → IsTakenInside rule more cell
@@ -158,12 +155,6 @@ taken_node (suc far) rule first taken put k d is same halves below near = elim (
       let root = taken_node far rule first taken put at.0 part.root is same halves at.1 (omega (arith, reach, further.0, further.1)) in
       half (whole_cell rule.axes) part.is_cut.node (spans_of (get_or taken k d)) (part_node rule taken (get_or taken k d) part (subst (λ (c : Cell). IsNode (whole_cell rule.axes) (spans_of c)) at.2 root)) part.is_cut.is_half
 ]
-
--- what all calls together came to: all that was put, the whole cell first, was taken
-pub record CameToAll (rule : Rule) (first : Cell) (taken put : List Cell) (closed : List Closed) (strange : List Cell) : Type 0 where
-  pub is_whole : spans_of first ≡ whole_cell rule.axes
-  pub balanced : WeighSame taken (first ∷ put)
-  pub worked : ArePartedInto rule None taken closed put strange
 
 contained_node : (rule : Rule) (first : Cell) (taken put : List Cell) (closed : List Closed) (strange : List Cell) (cell : Cell) → CameToAll rule first taken put closed strange → Contains taken cell → IsNode (whole_cell rule.axes) (spans_of cell)
 contained_node rule first taken put closed strange cell all at =

@@ -5,3 +5,5 @@ pub mod Work
 pub mod UnderWay
 pub mod Tally
 pub mod Crew
+pub mod Settle
+pub mod Many

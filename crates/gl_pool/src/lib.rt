@@ -5,6 +5,8 @@
 mod bench;
 mod crew;
 mod gate;
+mod many;
+mod settle;
 mod share;
 mod step;
 mod taking;
@@ -12,5 +14,6 @@ mod tally;
 mod worker;
 
 pub use gate::{Gate, OpenGate};
+pub use many::search_many;
 pub use share::Share;
 pub use worker::work;

@@ -15,8 +15,8 @@ others-init c =
       seats = all.0;
       seat = subst (has_seat c.args.word.now) c.in_ok-place.was all.1;
       so_far = collecting_start c.args.word.now c.args.workers.items c.pop.new.self.items c.push.new.self.items last
-        (c.in-Some.ensures.items ∙ ap (λ (r : Result Worker AllocError). c.pop.new.self.items ++ r ∷ []) c.in_ok-place.was)
-        (c.in_ok-push.ensures.items ∙ ap (λ (l : List Place). l ++ last.place ∷ []) c.in_ok-places.ensures.items);
+          (c.in-Some.ensures.items ∙ ap (λ (r : Result Worker AllocError). c.pop.new.self.items ++ r ∷ []) c.in_ok-place.was)
+          (c.in_ok-push.ensures.items ∙ ap (λ (l : List Place). l ++ last.place ∷ []) c.in_ok-places.ensures.items);
     }
 
 pub gather-requires-clause-other : goal.gather-requires-clause-other
@@ -32,7 +32,7 @@ others-preserved c =
       seats = all.0;
       seat = c.in_ok-gather.ensures.is_seat;
       so_far = collecting_more c.args.word.now c.args.workers.items c.others.workers.items c.pop-in-others.new.self.items c.others.places.items c.push-in-Some-pop.new.self.items c.others.tally c.gather.new.tally worker
-        (c.in-Some-pop.ensures.items ∙ ap (λ (r : Result Worker AllocError). c.pop-in-others.new.self.items ++ r ∷ []) c.in_ok-place-2.was)
-        c.in_ok-push-2.ensures.items
-        c.in_ok-gather.ensures c.others.invariant.so_far;
+          (c.in-Some-pop.ensures.items ∙ ap (λ (r : Result Worker AllocError). c.pop-in-others.new.self.items ++ r ∷ []) c.in_ok-place-2.was)
+          c.in_ok-push-2.ensures.items
+          c.in_ok-gather.ensures c.others.invariant.so_far;
     }

@@ -21,8 +21,8 @@ returns-clause-tally g c =
     let worked = c.in_ok-worked.worked.items in
     let each : (k : ℕ) (d : Result Worker AllocError) (e : Worker) → k < length workers → IfOk (get_or worked k d) (HasTurned rule c.args.word.now (get_or workers k e)) =
     λ k d e below.
-        let gives = (c.in_ok-worked.ensures.each k d below).1 in
-        subst (λ (w : Worker). IfOk (get_or worked k d) (HasTurned rule c.args.word.now w)) (sym (gives.job_is e)) gives.call.met in
+    let gives = (c.in_ok-worked.ensures.each k d below).1 in
+    subst (λ (w : Worker). IfOk (get_or worked k d) (HasTurned rule c.args.word.now w)) (sym (gives.job_is e)) gives.call.met in
     IfOk-weaker c.collected.result _ _
     (λ all collects. (worked_all rule c.args.word.now c.args.places.items all.0.items c.args.tally all.1 workers worked c.requires.tally c.requires.nothing c.in_ok-workers.ensures (omega (arith, c.in_ok-worked.ensures.len, c.in_ok-workers.workers.ok.0, c.in_ok-worked.worked.ok.0)) each collects).0)
     c.collected.ensures
@@ -34,8 +34,8 @@ returns-clause-worked g c =
     let worked = c.in_ok-worked.worked.items in
     let each : (k : ℕ) (d : Result Worker AllocError) (e : Worker) → k < length workers → IfOk (get_or worked k d) (HasTurned rule c.args.word.now (get_or workers k e)) =
     λ k d e below.
-        let gives = (c.in_ok-worked.ensures.each k d below).1 in
-        subst (λ (w : Worker). IfOk (get_or worked k d) (HasTurned rule c.args.word.now w)) (sym (gives.job_is e)) gives.call.met in
+    let gives = (c.in_ok-worked.ensures.each k d below).1 in
+    subst (λ (w : Worker). IfOk (get_or worked k d) (HasTurned rule c.args.word.now w)) (sym (gives.job_is e)) gives.call.met in
     IfOk-weaker c.collected.result _ _
     (λ all collects. (worked_all rule c.args.word.now c.args.places.items all.0.items c.args.tally all.1 workers worked c.requires.tally c.requires.nothing c.in_ok-workers.ensures (omega (arith, c.in_ok-worked.ensures.len, c.in_ok-workers.workers.ok.0, c.in_ok-worked.worked.ok.0)) each collects).1)
     c.collected.ensures
