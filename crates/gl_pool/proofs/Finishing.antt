@@ -100,7 +100,7 @@ finishing_more rule before places tally tally_now tally_after count place after 
       numbers = turn.numbers ∙ so_far.numbers;
     }
 
-pub comes_to_all : (rule : Rule) (before places : List Place) (tally tally_now : Tally) (count : ℕ) → length places ≤ count → Finishing rule before places tally tally_now count → ComesToAll rule tally tally_now
+pub comes_to_all : (rule : Rule) (before places : List Place) (tally tally_now : Tally) (count : ℕ) → length places ≤ count → Finishing rule before places tally tally_now count → ComesToAll rule tally_now
 comes_to_all rule before places tally tally_now count all so_far =
     let none : drop count places ≡ [] = drop_all count places all in
     record {
@@ -113,5 +113,4 @@ comes_to_all rule before places tally tally_now count all so_far =
         balanced = record { weighs = λ weight. omega (arith, so_far.balanced weight, ap (put_weight weight) none, ap (got_weight weight) none, sum_by-cons weight so_far.first so_far.put) };
         worked = so_far.parts;
       };
-      numbers = so_far.numbers;
     }

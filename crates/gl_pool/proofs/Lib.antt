@@ -10,3 +10,5 @@ pub mod Turning
 pub mod Settling
 pub mod SettlingAll
 pub mod Finishing
+pub mod Dealing
+pub mod Answering
