@@ -1,5 +1,5 @@
 -- What is dealt to the workers, and what their places hold once they came back.
-use Rattle.std.proofs.Common.{◌≡◌, ◌≢◌, ◌∙◌, sym, ap, refl, subst, ℕ, zero, suc, ◌+◌, ◌<◌, ◌≤◌, List, [], ◌∷◌, ◌++◌, length, get_or, map, slice_set, Option, None, arith}
+use Rattle.std.proofs.Common.{◌≡◌, ◌≢◌, ◌∙◌, sym, ap, refl, ℕ, zero, suc, ◌+◌, ◌<◌, List, [], ◌∷◌, ◌++◌, length, get_or, map, slice_set, arith}
 use Rattle.std.specs.List.{remove, sum_by}
 use Rattle.std.proofs.Math.Seq.{map-set_same}
 use Rattle.std.proofs.lemmas.List.{get_or-map, get_or-set_other, get_or-set_same, length-map, length-set}
@@ -10,11 +10,11 @@ use Rattle.gl_goal.specs.Rule.{Rule, whole_cell}
 use Rattle.gl_deal.specs.declared.place.Place.{Place}
 use Rattle.gl_deal.specs.declared.view.HandView.{HandView}
 use Rattle.gl_deal.specs.declared.view.PassView.{PassView}
-use Rattle.gl_deal.specs.Deal.{IsDeal, deques_of, passes_to}
+use Rattle.gl_deal.specs.Deal.{IsDeal, deques_of}
 use Rattle.gl_deal.specs.Tokens.{Deque, hand_deque, hand_view}
 use Rattle.gl_deal.specs.Views.{new_pass, with_put}
 use Rattle.gl_pool.specs.declared.tally.Tally.{Tally}
-use Rattle.gl_pool.specs.Crew.{MoveAll, Post, WorkedAll, got_weight, post_of, put_weight}
+use Rattle.gl_pool.specs.Crew.{MoveAll, Post, WorkedAll, post_of, put_weight}
 use Rattle.gl_pool.specs.Many.{IsDealt, IsLeft}
 use Rattle.gl_pool.specs.Settle.{SettlesAll, Stand, StandReady, duties, place_at, stand_of}
 use Rattle.gl_pool.specs.Taken.{duty_of, ends_of, stolen_weight, taken_weight}

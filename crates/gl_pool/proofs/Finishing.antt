@@ -1,5 +1,5 @@
 -- The places are worked at in turn, once their passes are settled.
-use Rattle.std.proofs.Common.{◌≡◌, ◌∙◌, sym, ap, refl, subst, ℕ, ◌+◌, ◌<◌, ◌≤◌, List, [], ◌∷◌, ◌++◌, length, get_or, drop, map, slice_set, Option, None, arith}
+use Rattle.std.proofs.Common.{◌≡◌, ◌∙◌, sym, ap, refl, subst, ℕ, ◌+◌, ◌<◌, ◌≤◌, List, [], ◌++◌, length, get_or, drop, slice_set, None, arith}
 use Rattle.std.specs.List.{sum_by}
 use Rattle.std.proofs.lemmas.List.{drop-drop, drop-set-lt, drop_all, get_or-drop, length-map, length-set, nil_from_length}
 use Rattle.std.proofs.lemmas.List.Sums.{sum_by-append, sum_by-cons, sum_by-drop_more}
@@ -13,9 +13,8 @@ use Rattle.gl_deal.specs.Rule.{HasSettledAll}
 use Rattle.gl_deal.specs.Tokens.{hand_view}
 use Rattle.gl_pool.specs.declared.tally.Tally.{Tally}
 use Rattle.gl_pool.specs.Crew.{got_weight, put_weight}
-use Rattle.gl_pool.specs.Many.{CameToAll, ComesToAll, IsLeft}
+use Rattle.gl_pool.specs.Many.{ComesToAll, IsLeft}
 use Rattle.gl_pool.specs.Parts.{ArePartedInto}
-use Rattle.gl_pool.specs.Settle.{place_at}
 use Rattle.gl_pool.specs.Taken.{duty_of, ends_of, stolen_weight, taken_weight}
 use Rattle.gl_pool.specs.Tally.{Turns}
 use Rattle.gl_pool.proofs.Together.{worked_both}

@@ -1,15 +1,13 @@
 -- Workers that are given their seats one after the other, the last one that of what was found before.
-use Rattle.std.proofs.Common.{◌≡◌, ◌∙◌, sym, ap, refl, subst, ℕ, zero, suc, ◌+◌, ◌<◌, ◌≤◌, List, [], ◌∷◌, ◌++◌, length, get_or, map, append_assoc, Option, None, arith}
+use Rattle.std.proofs.Common.{◌≡◌, ◌∙◌, sym, ap, refl, subst, ℕ, ◌+◌, ◌<◌, ◌≤◌, List, [], ◌∷◌, ◌++◌, length, map, append_assoc, None, arith}
 use Rattle.std.specs.Prelude.{All}
-use Rattle.std.specs.List.{sum_by}
-use Rattle.std.proofs.lemmas.List.{append-nil, length-append, map-append}
-use Rattle.std.proofs.lemmas.List.Elements.{All-append, All-cons, All-nil, All-push, All-same, All-weaker}
+use Rattle.std.proofs.lemmas.List.{length-append, map-append}
+use Rattle.std.proofs.lemmas.List.Elements.{All-nil, All-push, All-same, All-weaker}
 use Rattle.std.proofs.lemmas.List.Sums.{sum_by-append, sum_by-cons}
 use Rattle.gl_box.specs.declared.closed.Closed.{Closed}
 use Rattle.gl_box.specs.Cell.{spans_of}
 use Rattle.gl_goal.specs.Rule.{Rule}
 use Rattle.gl_goal.specs.Certificate.{IsClosedFor}
-use Rattle.gl_plain.specs.declared.found.Best.{Best}
 use Rattle.gl_plain.specs.Search.{IsSound}
 use Rattle.gl_best.specs.declared.rule.View.{View}
 use Rattle.gl_best.specs.declared.word.BestWord.{BestWord}
@@ -21,7 +19,7 @@ use Rattle.gl_deal.specs.declared.place.Place.{Place}
 use Rattle.gl_pool.specs.declared.crew.Worker.{Worker}
 use Rattle.gl_pool.specs.declared.tally.Tally.{Tally}
 use Rattle.gl_pool.specs.Crew.{AreSeated, times_seated}
-use Rattle.gl_pool.specs.Kept.{AreClosedFor, seen_by}
+use Rattle.gl_pool.specs.Kept.{seen_by}
 use Rattle.gl_pool.specs.Tally.{IsTally, word_of}
 
 -- a worker with a seat that is shared, who has found and closed nothing

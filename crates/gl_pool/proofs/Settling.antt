@@ -1,24 +1,22 @@
 -- Passes that are taken in one after the other, the last one first.
-use Rattle.std.proofs.Common.{◌≡◌, ◌≢◌, ◌∙◌, sym, ap, refl, subst, ℕ, zero, suc, ◌+◌, ◌-◌, ◌<◌, ◌≤◌, Bool, true, false, cond, ltb, ◌⊎◌, inl, inr, List, [], ◌∷◌, ◌++◌, length, get_or, drop, map, slice_set, append_assoc, arith}
-use Rattle.std.specs.Prelude.{All, Contains}
+use Rattle.std.proofs.Common.{◌≡◌, ◌≢◌, ◌∙◌, sym, ap, refl, subst, ℕ, ◌+◌, ◌<◌, ◌≤◌, Bool, cond, inl, inr, List, [], ◌∷◌, ◌++◌, length, get_or, drop, map, slice_set, append_assoc, arith}
+use Rattle.std.specs.Prelude.{Contains}
 use Rattle.std.specs.List.{remove, sum_by}
 use Rattle.std.proofs.Math.Seq.{map-set_same}
 use Rattle.std.proofs.lemmas.Bool.{cases_lt, cases_order, le-ltb, lt-ltb}
-use Rattle.std.proofs.lemmas.List.{append-nil, get_or-map, get_or-set_other, get_or-set_same, get_or_at, length-append, length-map, length-set, map-append}
+use Rattle.std.proofs.lemmas.List.{append-nil, get_or-map, get_or-set_other, get_or-set_same, get_or_at, length-append, length-map}
 use Rattle.std.proofs.lemmas.List.Edits.{get_or-remove_above, get_or-remove_below, length-remove}
 use Rattle.std.proofs.lemmas.List.Elements.{Contains-append_left, Contains-push}
 use Rattle.std.proofs.lemmas.List.Sums.{sum_by-append, sum_by-cons, sum_by-set}
 use Rattle.gl_box.specs.declared.cell.Cell.{Cell}
-use Rattle.gl_deal.specs.declared.hand.Hand.{Hand}
-use Rattle.gl_deal.specs.declared.pass.Pass.{Pass}
 use Rattle.gl_deal.specs.declared.place.Place.{Place}
 use Rattle.gl_deal.specs.declared.view.HandView.{HandView}
 use Rattle.gl_deal.specs.declared.view.PassView.{PassView}
 use Rattle.gl_deal.specs.Deal.{deques_of}
-use Rattle.gl_deal.specs.Tokens.{Deque, end_of, hand_deque, hand_view, pass_deque, pass_view}
+use Rattle.gl_deal.specs.Tokens.{Deque, hand_deque, hand_view}
 use Rattle.gl_deal.specs.Views.{with_settled}
 use Rattle.gl_pool.specs.Crew.{got_weight}
-use Rattle.gl_pool.specs.Settle.{ArePassesOf, Settles, Stand, duties, owner_at, place_at, settled_at, stand_of}
+use Rattle.gl_pool.specs.Settle.{ArePassesOf, Settles, Stand, owner_at, place_at, settled_at, stand_of}
 use Rattle.gl_pool.specs.Taken.{duty_of, ends_of, stolen_weight, taken_weight}
 
 -- some passes at the end of a list are taken in

@@ -1,17 +1,14 @@
 -- The passes of one worker after the other are taken in.
-use Rattle.std.proofs.Common.{◌≡◌, ◌≢◌, ◌∙◌, sym, ap, refl, subst, ℕ, ◌+◌, ◌<◌, ◌≤◌, ◌⊎◌, inl, inr, List, [], ◌∷◌, ◌++◌, length, get_or, map, slice_set, arith}
+use Rattle.std.proofs.Common.{◌≡◌, ◌≢◌, ◌∙◌, sym, ap, refl, subst, ℕ, ◌+◌, ◌<◌, ◌≤◌, inl, inr, List, [], length, get_or, map, slice_set, arith}
 use Rattle.std.specs.Prelude.{Contains}
 use Rattle.std.specs.List.{sum_by}
 use Rattle.std.proofs.Math.Seq.{map-set_same}
 use Rattle.std.proofs.lemmas.Bool.{cases_order}
-use Rattle.std.proofs.lemmas.List.{get_or-map, get_or-set_other, get_or-set_same, get_or_default, length-map, length-set}
+use Rattle.std.proofs.lemmas.List.{get_or-map, get_or-set_other, get_or-set_same, length-set}
 use Rattle.std.proofs.lemmas.List.Sums.{sum_by-set}
 use Rattle.gl_box.specs.declared.cell.Cell.{Cell}
 use Rattle.gl_deal.specs.declared.place.Place.{Place}
-use Rattle.gl_deal.specs.declared.view.PassView.{PassView}
-use Rattle.gl_deal.specs.Deal.{deques_of}
-use Rattle.gl_deal.specs.Rule.{HasSettledAll}
-use Rattle.gl_deal.specs.Tokens.{Deque, end_of, hand_view}
+use Rattle.gl_deal.specs.Tokens.{Deque, hand_view}
 use Rattle.gl_pool.specs.Crew.{got_weight}
 use Rattle.gl_pool.specs.Settle.{ArePassesOf, Settles, SettlesAll, Stand, StandReady, duties, place_at, settled_at, stand_of}
 use Rattle.gl_pool.specs.Taken.{duty_of, ends_of, stolen_weight, taken_weight}

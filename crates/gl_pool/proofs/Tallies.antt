@@ -1,9 +1,7 @@
 -- What a turn and a gathering leave of a tally.
-use Rattle.std.proofs.Common.{◌≡◌, ◌∙◌, sym, ap, refl, subst, ℕ, ◌+◌, ◌<◌, ◌≤◌, ◌⊎◌, inl, inr, List, [], ◌∷◌, ◌++◌, length, get_or, Option, Some, None, arith}
-use Rattle.std.specs.Prelude.{All}
+use Rattle.std.proofs.Common.{◌≡◌, ◌∙◌, sym, ap, subst, ◌++◌, Option, Some, None}
 use Rattle.std.specs.Option.{option_or}
 use Rattle.std.proofs.lemmas.List.Elements.{All-append, All-same}
-use Rattle.gl_box.specs.declared.cell.Cell.{Cell}
 use Rattle.gl_box.specs.declared.closed.Closed.{Closed}
 use Rattle.gl_box.specs.Cell.{spans_of}
 use Rattle.gl_goal.specs.Rule.{Rule}

@@ -1,15 +1,15 @@
 -- What the calls of several workers took, put and closed together: where all that was put was taken, no cell is strange, and the closed cells part the whole one.
-use Rattle.std.proofs.Common.{◌≡◌, ◌∙◌, sym, ap, refl, subst, ℕ, zero, suc, ◌+◌, ◌-◌, ◌<◌, ◌≤◌, Bool, true, false, cond, ◌⊎◌, inl, inr, List, [], ◌∷◌, ◌++◌, length, get_or, map, Option, Some, None, arith}
+use Rattle.std.proofs.Common.{◌≡◌, ◌∙◌, sym, ap, refl, subst, ℕ, zero, suc, ◌+◌, ◌-◌, ◌<◌, ◌≤◌, Bool, true, false, cond, ◌⊎◌, inl, inr, List, [], ◌∷◌, ◌++◌, length, get_or, map, Option, None, arith}
 use Rattle.std.specs.Prelude.{All, Contains}
 use Rattle.std.specs.List.{sum_by}
 use Rattle.std.proofs.lemmas.List.{map-append}
 use Rattle.std.proofs.Math.Nat.{eq-zero-or-pos}
 use Rattle.std.proofs.lemmas.List.Elements.{All-append, All-map, Contains-append_left, Contains-append_right}
-use Rattle.std.proofs.lemmas.List.Sums.{get_or-le-sum_by, sum_by-append, sum_by-cons}
+use Rattle.std.proofs.lemmas.List.Sums.{get_or-le-sum_by, sum_by-cons}
 use Rattle.gl_box.specs.declared.cell.Cell.{Cell}
 use Rattle.gl_box.specs.declared.closed.Closed.{Closed}
-use Rattle.gl_box.specs.Cell.{Covers, Holds, holds, spans_of}
-use Rattle.gl_box.specs.Halves.{IsHalf, width}
+use Rattle.gl_box.specs.Cell.{Covers, holds, spans_of}
+use Rattle.gl_box.specs.Halves.{IsHalf}
 use Rattle.gl_box.specs.Frontier.{IsNode, mult}
 use Rattle.gl_box.specs.Frontier.IsNode.{whole, half}
 use Rattle.gl_box.specs.Laws.Nodes.{covers_node, node_through, spread, spread-lower, spread-upper}
@@ -19,7 +19,7 @@ use Rattle.gl_deal.specs.Laws.{is-same, same-is}
 use Rattle.gl_goal.specs.Rule.{Rule, whole_cell}
 use Rattle.gl_plain.specs.Search.{IsNeeded}
 use Rattle.gl_plain.specs.Order.{AreParts, cells_of}
-use Rattle.gl_plain.proofs.Stack.{needed_covered, needed_node}
+use Rattle.gl_plain.proofs.Stack.{needed_node}
 use Rattle.gl_pool.specs.Many.{CameToAll, WeighSame}
 use Rattle.gl_pool.specs.Parts.{ArePartedInto, IsCutFrom, IsFromTaken, IsPartOfTaken, IsStrange, IsTakenInside, times_closed, times_held}
 

@@ -1,9 +1,9 @@
 -- What all workers did, from what each of them did.
-use Rattle.std.proofs.Common.{◌≡◌, ◌∙◌, sym, ap, refl, subst, ℕ, zero, suc, ◌+◌, ◌<◌, ◌≤◌, List, [], ◌∷◌, ◌++◌, length, get_or, map, Option, None, Result, Ok, Err, arith}
+use Rattle.std.proofs.Common.{◌≡◌, ◌∙◌, sym, ap, refl, subst, ℕ, suc, ◌+◌, ◌<◌, List, [], ◌∷◌, ◌++◌, length, get_or, map, None, Result, Ok, arith}
 use Rattle.std.specs.Prelude.{All, IfOk}
 use Rattle.std.specs.List.{sum_by}
 use Rattle.std.specs.declared.alloc.AllocError.{AllocError}
-use Rattle.std.proofs.lemmas.List.{append-nil, get_or-map, length-map}
+use Rattle.std.proofs.lemmas.List.{get_or-map, length-map}
 use Rattle.std.proofs.lemmas.List.Elements.{All-cons, All-head, All-nil, All-tail}
 use Rattle.std.proofs.lemmas.List.Sums.{sum_by-append, sum_by-cons}
 use Rattle.gl_box.specs.declared.cell.Cell.{Cell}
@@ -16,7 +16,7 @@ use Rattle.gl_deal.specs.declared.place.Place.{Place}
 use Rattle.gl_deal.specs.Tokens.{hand_view}
 use Rattle.gl_pool.specs.declared.crew.Worker.{Worker}
 use Rattle.gl_pool.specs.declared.tally.Tally.{Tally}
-use Rattle.gl_pool.specs.Crew.{AreSeated, Collects, HasTurned, MoveAll, WorkedAll, closed_by, got_weight, post_of, put_weight, times_seated}
+use Rattle.gl_pool.specs.Crew.{AreSeated, Collects, HasTurned, MoveAll, WorkedAll, closed_by, post_of, times_seated}
 use Rattle.gl_pool.specs.Parts.{ArePartedInto, IsFromTaken, IsPartOfTaken, IsStrange}
 use Rattle.gl_pool.specs.Taken.{Moves, taken_weight}
 use Rattle.gl_pool.specs.Tally.{IsTally}

@@ -1,7 +1,6 @@
-use Rattle.std.proofs.Common.{◌≡◌, ◌∙◌, sym, ap, subst, refl, [], ◌∷◌, ◌++◌, ℕ, ◌+◌, ◌<◌, ◌≤◌, ◌^◌, List, length, map, arith}
+use Rattle.std.proofs.Common.{◌≡◌, ◌∙◌, sym, ap, refl, [], ◌∷◌, ◌++◌, ◌<◌, List, length, map, arith}
 use Rattle.std.proofs.lemmas.List.{length-append, length-map, nil_from_length}
 use Rattle.gl_best.specs.declared.word.BestWord.{BestWord}
-use Rattle.gl_best.specs.Seats.{view_of}
 use Rattle.gl_deal.specs.declared.place.Place.{Place}
 use Rattle.gl_pool.specs.declared.crew.Worker.{Worker}
 use Rattle.gl_pool.specs.declared.tally.Tally.{Tally}

@@ -1,4 +1,4 @@
-use Rattle.std.proofs.Common.{◌≡◌, ◌∙◌, sym, ap, refl, ◌<◌, length, get_or, arith}
+use Rattle.std.proofs.Common.{◌∙◌, sym, refl, ◌<◌, length, arith}
 use Rattle.std.proofs.lemmas.List.{get_or_default}
 use Rattle.gl_pool.proofs.Dealing.{dealt}
 use Rattle.gl_pool.proofs.many.dealt.Goals as goal

@@ -1,4 +1,4 @@
-use Rattle.std.proofs.Common.{◌≡◌, ◌∙◌, sym, ap, ◌<◌, ◌≤◌, length, get_or, arith}
+use Rattle.std.proofs.Common.{◌<◌, length, get_or, arith}
 use Rattle.std.proofs.lemmas.List.{get_or_default}
 use Rattle.gl_pool.proofs.Finishing.{comes_to_all, finishing_more, finishing_start}
 use Rattle.gl_pool.proofs.many.finish.Goals as goal

@@ -1,4 +1,4 @@
-use Rattle.std.proofs.Common.{◌≡◌, ◌∙◌, sym, ap, subst, List, Option, Vec, Global}
+use Rattle.std.proofs.Common.{◌∙◌, sym, ap, subst, List, Option, Vec, Global}
 use Rattle.std.specs.Prelude.{IfSome}
 use Rattle.gl_best.specs.declared.rule.View.{View}
 use Rattle.gl_deal.specs.declared.place.Place.{Place}

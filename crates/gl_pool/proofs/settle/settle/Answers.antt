@@ -1,6 +1,5 @@
-use Rattle.std.proofs.Common.{◌≡◌, ◌∙◌, sym, ap, subst, refl, [], ◌∷◌, ◌++◌, ℕ, ◌<◌, List, length, map, get_or, slice_set, arith}
+use Rattle.std.proofs.Common.{◌≡◌, ◌∙◌, sym, ap, subst, refl, [], ◌∷◌, ℕ, ◌<◌, length, map, get_or, slice_set, arith}
 use Rattle.std.proofs.lemmas.List.{get_or_default, length-map, map-append, nil_from_length}
-use Rattle.gl_deal.specs.declared.pass.Pass.{Pass}
 use Rattle.gl_deal.specs.declared.place.Place.{Place}
 use Rattle.gl_deal.specs.Tokens.{end_of}
 use Rattle.gl_pool.specs.Settle.{owner_at}

@@ -1,4 +1,4 @@
-use Rattle.std.proofs.Common.{◌≡◌, ◌∙◌, sym, ap, subst, refl, [], ℕ, ◌<◌, List, length, map, get_or, slice_set, Vec, Global, arith}
+use Rattle.std.proofs.Common.{◌≡◌, ◌∙◌, sym, ap, subst, refl, [], ◌<◌, List, length, map, get_or, slice_set, Vec, Global, arith}
 use Rattle.std.proofs.lemmas.List.{get_or_default}
 use Rattle.gl_deal.specs.declared.pass.Pass.{Pass}
 use Rattle.gl_deal.specs.declared.place.Place.{Place}

@@ -1,5 +1,3 @@
-use Rattle.std.proofs.Common.{◌≡◌, ◌∙◌, sym, ap, refl}
-use Rattle.std.specs.Prelude.{OnOk}
 use Rattle.std.proofs.lemmas.Result.{on_ok_weaker}
 use Rattle.gl_pool.proofs.Tallies.{tally_on, turns_on}
 use Rattle.gl_pool.proofs.tally.take_turn.Goals as goal
