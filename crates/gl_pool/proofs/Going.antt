@@ -21,6 +21,7 @@ use Rattle.gl_deal.specs.declared.view.HandView.{HandView}
 use Rattle.gl_deal.specs.Rule.{HasSettledAll}
 use Rattle.gl_deal.specs.Tokens.{hand_view}
 use Rattle.gl_pool.specs.declared.bench.Bench.{Bench}
+use Rattle.gl_pool.specs.declared.share.Share.{Share}
 use Rattle.gl_pool.specs.Kept.{IsKept, KeepsSeat, seen_by}
 use Rattle.gl_pool.specs.Taken.{FindsNone, Moves, duty_of, stolen_weight}
 use Rattle.gl_pool.specs.UnderWay.{AreBeingParted, Call, IsUnderWay}
@@ -208,4 +209,20 @@ going_end rule word call place next seat bench way none found =
       reasons = way.reasons;
       kept = way.kept;
       all_put = λ settled. found.all_put (settled_since call.place next way.taken way.put moves settled);
+    }
+
+-- a worker that found nothing has nothing to show
+pub going_none : (rule : Rule) (word : BestWord) (place next : Place) (given seat : Seat) (share : Share) → share.closed.items ≡ [] → share.strange.items ≡ [] → share.kept ≡ None → KeepsSeat word given seat → (view_of seat).raised ≡ (view_of given).raised → FindsNone place next → HasWorked rule word place next given seat share
+going_none rule word place next given seat share closed strange kept keeps raised found =
+    let moves = moves_found place place next [] [] (moves_none place) found in
+    let parts = parted_along rule (seen_by given) [] _ _ _ _ [] _ _ refl (sym closed) (sym strange) (parted_start rule (seen_by given)) in
+    record {
+      taken = [];
+      put = [];
+      moves = moves;
+      parts = parted_done rule (seen_by given) [] share.closed.items [] share.strange.items parts;
+      seat = keeps;
+      reasons = All-same (λ (b : Closed). IsClosedFor rule (seen_by seat) (spans_of b.cell) b.why) _ _ closed (All-nil _);
+      kept = subst (IsKept rule (view_of given) (view_of seat)) (sym kept) raised;
+      all_put = λ settled. found.all_put (settled_since place next [] [] moves settled);
     }

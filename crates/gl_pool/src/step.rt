@@ -17,7 +17,10 @@ use std::alloc::AllocError;
 use std::sync::Wait;
 
 /// How many cells a worker tests before it looks at the best word again and puts a cell.
-const STRETCH: u32 = 32;
+const STRETCH: u32 = 64;
+
+/// How many cells a worker keeps to itself at least.
+const KEPT_CELLS: usize = 1;
 
 /// Closes the last cell. The only error is want of memory.
 #[inline]
@@ -92,14 +95,14 @@ fn stretch<G: Goal>(
     Ok(())
 }
 
-/// Puts the oldest cell into the deque, for others to steal, where the worker has more than one.
-/// The only error is want of memory.
+/// Puts the oldest cell into the deque, for others to steal, where the worker has more than it
+/// keeps. The only error is want of memory.
 fn put_oldest(place: &mut Place, bench: &mut Bench) -> Result<(), AllocError>
     ensures on { OnOk result ((rule : Rule) (word : BestWord) (seat : Seat)
         → GoesOn rule word place.old place.new seat seat bench.old bench.new) }
     ensures legs { bench.new.legs.items ≡ bench.old.legs.items }
 {
-    if bench.cells.len() > 1 {
+    if bench.cells.len() > KEPT_CELLS {
         let oldest = bench.cells.remove(0);
         if let Err(back) = place.hand.put(oldest) {
             bench.cells.insert(0, back)?;

@@ -36,9 +36,8 @@ fn empty_bench<G: Goal>(alloc: Global, goal: &G, seen: Option<u64>) -> Result<Be
         legs: measured_legs(alloc, goal)?,
         seen,
         share: Share {
-            kept: None,
             closed: Vec::with_capacity(alloc, CLOSED_ROOM)?,
-            strange: Vec::new(alloc),
+            ..Share::empty(alloc)
         },
     })
 }
@@ -62,14 +61,18 @@ pub fn work<Rt: Threads + Wait + Sync, G: Goal, K: Gate>(
 {
     gate.pass(worker);
     let seen = word.look(seat);
+    let Some(mut cell) = next_cell(place) else {
+        return Ok(Share::empty(alloc));
+    };
     let mut bench = empty_bench(alloc, goal, seen)?;
     for _ in rt.forever() {
-        let Some(cell) = next_cell(place) else {
+        begin(goal, cell, &mut bench)?;
+        finish(rt, goal, word, place, seat, &mut bench)?;
+        let Some(next) = next_cell(place) else {
             let Bench { share, .. } = bench;
             return Ok(share);
         };
-        begin(goal, cell, &mut bench)?;
-        finish(rt, goal, word, place, seat, &mut bench)?;
+        cell = next;
     }
     unreachable!()
 }

@@ -1,11 +1,15 @@
 // What one worker of a search by several does, with nobody beside it.
 use gl_best::BestWord;
+use gl_box::Closed;
+use gl_check::{Verdict, check_claim};
 use gl_deal::{Place, deal};
+use gl_desk::Name;
 use gl_goal::{FreeGoal, whole};
 use gl_igc::Fix;
 use gl_pool::{OpenGate, Share, work};
+use gl_proof::{Claim, ClaimKind};
 use gl_sphere::{Grid, vector};
-use std::alloc::Global;
+use std::alloc::{AllocError, Global};
 use std::sync::Wait;
 use std::test::Fail;
 use std::thread::Threads;
@@ -53,6 +57,20 @@ fn share_at<Rt: Threads + Wait + Sync>(
     Ok(share)
 }
 
+/// What the checker says of boxes for the distance of one degree, from the first fix to the second.
+fn verdict_on(alloc: Global, goal: &FreeGoal, boxes: Vec<Closed>) -> Result<Verdict, AllocError> {
+    let mut fixes = vec![in alloc; 0; 5]?;
+    fixes[4] = 1;
+    let claim = Claim {
+        number: Name::from_text(alloc, "EE")?,
+        kind: ClaimKind::Free,
+        total: Some(DEGREE),
+        fixes,
+        cells: boxes,
+    };
+    check_claim(alloc, goal, &claim)
+}
+
 #[test]
 fn a_worker_keeps_only_what_it_has_not_heard_of(rt: HostRuntime) -> Result<(), Fail> {
     let goal = one_degree(rt.alloc())?;
@@ -63,6 +81,8 @@ fn a_worker_keeps_only_what_it_has_not_heard_of(rt: HostRuntime) -> Result<(), F
         assert_eq!(rt; share.kept.map(|best| best.total), kept);
         assert!(rt; share.strange.is_empty());
         assert_eq!(rt; place.hand.take(), None);
+        let verdict = verdict_on(rt.alloc(), &goal, share.closed)?;
+        assert_eq!(rt; verdict, Verdict::Yes);
     }
     Ok(())
 }

@@ -21,6 +21,6 @@ returns-in_default-clause-on c rule word seat call way =
     let next : Place = record { hand = c.put.new.self; passes = place.passes } in
     let rest : Bench = record { cells = c.remove-oldest.new.self; legs = bench.legs; seen = bench.seen; share = bench.share } in
     let moves : Moves place next [] (cell ∷ []) = moves_by_put place next cell refl c.put.ensures.deque c.in_default.ensures.view in
-    let many : 1 < length bench.cells.items = omega (arith, c.if-len-gt1.true, c.len.ensures, bench.cells.ok.0) in
+    let many : 1 < length bench.cells.items = omega (arith, c.if-len-gt-KEPT_CELLS.true, c.len.ensures, bench.cells.ok.0) in
     let first : bench.cells.items ≡ cell ∷ c.remove-oldest.new.self.items = first_and_rest bench.cells.items cell (omega arith) c.remove-oldest.ensures.value ∙ ap (λ (cells : List Cell). cell ∷ cells) (sym c.remove-oldest.ensures.items) in
     going_put rule word call place seat bench rest way next cell moves first many refl refl refl refl

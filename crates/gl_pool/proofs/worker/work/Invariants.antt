@@ -1,10 +1,15 @@
-use Rattle.std.proofs.Common.{◌≡◌, []}
+use Rattle.std.proofs.Common.{◌≡◌, [], ◌∷◌}
+use Rattle.gl_deal.specs.declared.place.Place.{Place}
+use Rattle.gl_pool.specs.Taken.{Moves}
 use Rattle.gl_pool.specs.UnderWay.{IsUnderWay}
 use Rattle.gl_pool.proofs.worker.work.Given as goal
 
+-- the cell in hand was taken since the worker was under way at a place
 abbrev pub invariant-loop : goal.invariant-loop
 invariant-loop g l = record {
-  on : IsUnderWay (g.G.Goal.rule l.goal) l.word (record { place = l.fn.place; seat = l.fn.seat }) l.place l.seat l.bench;
+  before : Place;
+  on : IsUnderWay (g.G.Goal.rule l.goal) l.word (record { place = l.fn.place; seat = l.fn.seat }) before l.seat l.bench;
+  moved : Moves before l.place (l.cell ∷ []) [];
   none : l.bench.cells.items ≡ [];
   legs : g.G.Goal.are_legs l.goal l.bench.legs.items;
 }
