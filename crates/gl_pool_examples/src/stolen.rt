@@ -6,34 +6,42 @@ use gl_pool::{Gate, search_many};
 use std::sync::atomic::{AtomicBool, Ordering};
 use std::test::Fail;
 
-/// A gate that holds the first worker until a cell is tested.
+/// A gate that holds the first worker until a cell is tested, and lets no other one pass before.
+#[derive(Drop)]
 struct Barrier {
     holds: AtomicBool,
     was_asked: AtomicBool,
 }
 
+/// Waits until a flag is up, or the turns are over.
+fn wait_for(flag: &AtomicBool) {
+    for _ in 0..TURNS {
+        if flag.load(Ordering::SeqCst) {
+            return;
+        }
+    }
+}
+
 impl Gate for Barrier {
     fn pass(&self, worker: u32) {
         if worker > 0 {
+            wait_for(&self.holds);
             return;
         }
         self.holds.store(true, Ordering::SeqCst);
-        for _ in 0..TURNS {
-            if self.was_asked.load(Ordering::SeqCst) {
-                break;
-            }
-        }
+        wait_for(&self.was_asked);
         self.holds.store(false, Ordering::SeqCst);
     }
 }
 
 /// A goal that tells the gate when it is asked for a test while that holds the first worker.
+#[derive(Drop)]
 struct Watched<'a, G> {
     goal: G,
     gate: &'a Barrier,
 }
 
-impl<'a, G: Goal> Goal for Watched<'a, G> {
+impl<'a, G: Goal + Drop> Goal for Watched<'a, G> {
     ghost rule = { λ watched. G.rule watched.goal };
 
     ghost are_legs = { λ watched legs. G.are_legs watched.goal legs };

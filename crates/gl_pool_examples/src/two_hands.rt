@@ -6,6 +6,7 @@ use std::sync::atomic::{AtomicBool, Ordering};
 use std::test::Fail;
 
 /// What one of two workers shows at the gate: that it is there, and that it has seen the other.
+#[derive(Drop)]
 struct Hand {
     is_up: AtomicBool,
     has_seen: AtomicBool,
@@ -32,6 +33,7 @@ impl Hand {
 }
 
 /// A gate at which two workers wait for each other.
+#[derive(Drop)]
 struct Meeting {
     first: Hand,
     second: Hand,
@@ -58,6 +60,9 @@ fn two_workers_see_each_other_at_the_gate(rt: HostRuntime) -> Result<(), Fail> {
     assert!(rt; gate.first.has_seen.load(Ordering::SeqCst));
     assert!(rt; gate.second.has_seen.load(Ordering::SeqCst));
     let alone = search_one(rt.alloc(), &goal)?;
-    assert_eq!(rt; found.best.map(|best| best.total), alone.best.map(|best| best.total));
+    assert_eq!(rt;
+        found.best.map(|best| best.total),
+        alone.best.map(|best| best.total)
+    );
     Ok(())
 }
