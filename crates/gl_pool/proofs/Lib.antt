@@ -2,3 +2,13 @@ pub mod Parting
 pub mod Moving
 pub mod Hearing
 pub mod Going
+pub mod Together
+pub mod Tallies
+pub mod Collecting
+pub mod Seating
+pub mod Turning
+pub mod Settling
+pub mod SettlingAll
+pub mod Finishing
+pub mod Dealing
+pub mod Answering

@@ -3,3 +3,7 @@ pub mod Parts
 pub mod Kept
 pub mod Work
 pub mod UnderWay
+pub mod Tally
+pub mod Crew
+pub mod Settle
+pub mod Many

@@ -3,12 +3,17 @@
 #![tactic(auto)]
 
 mod bench;
+mod crew;
 mod gate;
+mod many;
+mod settle;
 mod share;
 mod step;
 mod taking;
+mod tally;
 mod worker;
 
 pub use gate::{Gate, OpenGate};
+pub use many::search_many;
 pub use share::Share;
 pub use worker::work;

@@ -1,0 +1,80 @@
+-- What is answered once all cells are closed.
+use Rattle.std.proofs.Common.{◌≡◌, sym, ap, refl, subst, ℕ, zero, suc, ◌<◌, ◌≤◌, List, get_or, Option, None, Some, add-one, arith}
+use Rattle.std.specs.Prelude.{All}
+use Rattle.std.specs.List.Sorted.{IsPermutation}
+use Rattle.std.proofs.lemmas.List.Sorted.{All-permutation}
+use Rattle.gl_box.specs.declared.cell.Cell.{Cell}
+use Rattle.gl_box.specs.declared.closed.Closed.{Closed}
+use Rattle.gl_box.specs.Cell.{spans_of}
+use Rattle.gl_box.specs.Frontier.{IsFrontier}
+use Rattle.gl_goal.specs.Rule.{Rule, IsGoal, whole_cell}
+use Rattle.gl_goal.specs.Certificate.{IsClosedFor}
+use Rattle.gl_goal.specs.Laws.Optimum.{certificate_optimum}
+use Rattle.gl_plain.specs.declared.found.Best.{Best}
+use Rattle.gl_plain.specs.declared.found.Found.{Found}
+use Rattle.gl_plain.specs.Answer.{IsAnswer}
+use Rattle.gl_plain.specs.Order.{AreParts, cells_of}
+use Rattle.gl_plain.specs.Search.{IsNeeded, fixes_of, total_of as found_total}
+use Rattle.gl_plain.proofs.Partings.{certificate_of}
+use Rattle.gl_plain.proofs.Stack.{none_exactly}
+use Rattle.gl_best.specs.declared.word.BestWord.{BestWord}
+use Rattle.gl_best.specs.Rule.{sixteen, times}
+use Rattle.gl_best.specs.Seats.{HasAll, total_of, view_of}
+use Rattle.gl_deal.specs.declared.place.Place.{Place}
+use Rattle.gl_pool.specs.declared.tally.Tally.{Tally}
+use Rattle.gl_pool.specs.Crew.{WorkedAll}
+use Rattle.gl_pool.specs.Many.{ComesToAll}
+use Rattle.gl_pool.specs.Tally.{IsTally, word_of}
+use Rattle.gl_pool.proofs.Hearing.{closed_longer}
+use Rattle.gl_pool.proofs.Together.{closed_needed, closed_parts}
+
+-- the word for what was found says its total
+total_of-word : (best : Option Best) → total_of (word_of best) ≡ found_total best
+total_of-word None = refl
+total_of-word (Some best) = ap total_of (add-one best.total)
+
+pub parts_to_order : (rule : Rule) (all : Cell) (tally_after : Tally) → spans_of all ≡ whole_cell rule.axes → ComesToAll rule tally_after → AreParts (spans_of all) (cells_of tally_after.closed.items)
+parts_to_order rule all tally_after is comes = subst (λ (c : List (ℕ × ℕ)). AreParts c (cells_of tally_after.closed.items)) (sym is) (closed_parts rule comes.first comes.taken comes.put tally_after.closed.items comes.strange comes.all)
+
+pub answered : (rule : Rule) (word : BestWord) (all : Cell) (tally_after : Tally) (found : Found) → IsGoal rule → spans_of all ≡ whole_cell rule.axes → IsTally rule word tally_after → ComesToAll rule tally_after → (view_of tally_after.seat).seen ≤ (view_of tally_after.seat).raised → found.best ≡ tally_after.best → IsFrontier (spans_of all) (cells_of found.closed.items) → IsPermutation tally_after.closed.items found.closed.items → IsAnswer rule found
+answered rule word all tally_after found goal is is_tally comes seen best frontier same =
+    let heard : (view_of tally_after.seat).seen ≤ word_of tally_after.best = omega (arith, seen, is_tally.raised) in
+    let each : All (λ (b : Closed). IsClosedFor rule (found_total tally_after.best) (spans_of b.cell) b.why) tally_after.closed.items = λ k d below.
+    subst (λ (total : Option ℕ). IsClosedFor rule total (spans_of (get_or tally_after.closed.items k d).cell) (get_or tally_after.closed.items k d).why) (total_of-word tally_after.best)
+    (closed_longer rule (view_of tally_after.seat).seen (word_of tally_after.best) (spans_of (get_or tally_after.closed.items k d).cell) (get_or tally_after.closed.items k d).why heard (is_tally.closed k d below)) in
+    let certificate = certificate_of rule tally_after.best tally_after.closed.items found.closed.items is_tally.sound (subst (λ (c : List (ℕ × ℕ)). IsFrontier c (cells_of found.closed.items)) is frontier) same each in
+    let optimum = certificate_optimum rule (found_total tally_after.best) (fixes_of rule tally_after.best) _ goal certificate in
+    let needed = All-permutation (λ (b : Closed). IsNeeded rule (spans_of b.cell)) tally_after.closed.items found.closed.items same (closed_needed rule comes.first comes.taken comes.put tally_after.closed.items comes.strange comes.all) in
+    subst (λ (b : Option Best). IsAnswer rule (record { best = b; closed = found.closed })) (sym best) (record {
+      certificate = certificate;
+      reached = is_tally.sound;
+      optimum = optimum;
+      none = none_exactly rule tally_after.best optimum;
+      needed = needed;
+    })
+
+-- each number below 16 stands with the first seat
+pub sixteen_there : (number : ℕ) → number < 16 → 0 < times number sixteen
+sixteen_there zero below = omega arith
+sixteen_there (suc zero) below = omega arith
+sixteen_there (suc (suc zero)) below = omega arith
+sixteen_there (suc (suc (suc zero))) below = omega arith
+sixteen_there (suc (suc (suc (suc zero)))) below = omega arith
+sixteen_there (suc (suc (suc (suc (suc zero))))) below = omega arith
+sixteen_there (suc (suc (suc (suc (suc (suc zero)))))) below = omega arith
+sixteen_there (suc (suc (suc (suc (suc (suc (suc zero))))))) below = omega arith
+sixteen_there (suc (suc (suc (suc (suc (suc (suc (suc zero)))))))) below = omega arith
+sixteen_there (suc (suc (suc (suc (suc (suc (suc (suc (suc zero))))))))) below = omega arith
+sixteen_there (suc (suc (suc (suc (suc (suc (suc (suc (suc (suc zero)))))))))) below = omega arith
+sixteen_there (suc (suc (suc (suc (suc (suc (suc (suc (suc (suc (suc zero))))))))))) below = omega arith
+sixteen_there (suc (suc (suc (suc (suc (suc (suc (suc (suc (suc (suc (suc zero)))))))))))) below = omega arith
+sixteen_there (suc (suc (suc (suc (suc (suc (suc (suc (suc (suc (suc (suc (suc zero))))))))))))) below = omega arith
+sixteen_there (suc (suc (suc (suc (suc (suc (suc (suc (suc (suc (suc (suc (suc (suc zero)))))))))))))) below = omega arith
+sixteen_there (suc (suc (suc (suc (suc (suc (suc (suc (suc (suc (suc (suc (suc (suc (suc zero))))))))))))))) below = omega arith
+sixteen_there (suc (suc (suc (suc (suc (suc (suc (suc (suc (suc (suc (suc (suc (suc (suc (suc number)))))))))))))))) below = absurd (omega arith)
+
+-- the seat has all numbers again
+pub has_all : (rule : Rule) (before after : List Place) (first tally tally_after : Tally) → (view_of first.seat).numbers ≡ sixteen → WorkedAll rule before after first tally → (view_of tally_after.seat).numbers ≡ (view_of tally.seat).numbers → HasAll tally_after.seat
+has_all rule before after first tally tally_after all worked same = λ number below.
+    let there = sixteen_there number below in
+    omega (arith, there, ap (times number) all, worked.numbers number, ap (times number) same)

@@ -1,0 +1,55 @@
+-- What workers found so far, and what one turn of a worker adds.
+use Rattle.std.specs.Prelude.{◌≡◌, ℕ, ◌+◌, ◌⊎◌, max, List, ◌++◌, Option, None, Some}
+use Rattle.gl_box.specs.declared.cell.Cell.{Cell}
+use Rattle.gl_box.specs.declared.closed.Closed.{Closed}
+use Rattle.gl_goal.specs.Rule.{Rule}
+use Rattle.gl_plain.specs.declared.found.Best.{Best}
+use Rattle.gl_plain.specs.Search.{IsSound}
+use Rattle.gl_best.specs.declared.word.BestWord.{BestWord}
+use Rattle.gl_best.specs.Seats.{IsSeatOf, view_of}
+use Rattle.gl_deal.specs.declared.place.Place.{Place}
+use Rattle.gl_deal.specs.Rule.{HasSettledAll, TookAllItPut}
+use Rattle.gl_deal.specs.Tokens.{hand_view}
+use Rattle.gl_pool.specs.declared.tally.Tally.{Tally}
+use Rattle.gl_pool.specs.Kept.{AreClosedFor}
+use Rattle.gl_pool.specs.Parts.{ArePartedInto}
+use Rattle.gl_pool.specs.Taken.{Moves}
+
+-- the word that says what was found: 0 for nothing, else the total plus one
+abbrev pub word_of : Option Best → ℕ
+word_of None = 0
+word_of (Some best) = best.total + 1
+
+-- What was found is nothing, or a legal tuple and its value; the seat has raised just that; and
+-- each closed cell is closed by its reason for what the seat has seen.
+pub record IsTally (rule : Rule) (word : BestWord) (tally : Tally) : Type 0 where
+  pub is_seat : IsSeatOf word tally.seat
+  pub sound : IsSound rule tally.best
+  pub raised : (view_of tally.seat).raised ≡ word_of tally.best
+  pub closed : AreClosedFor rule tally.seat tally.closed.items
+
+-- one of two that were found, and worth no less than either
+pub record IsGreater (one other greater : Option Best) : Type 0 where
+  pub either : (greater ≡ one) ⊎ (greater ≡ other)
+  pub greatest : word_of greater ≡ max (word_of one) (word_of other)
+
+-- A worker took cells and put others at its place, and the cells that it closed join the tally.
+pub record Turns (rule : Rule) (before after : Place) (tally tally_after : Tally) : Type 0 where
+  pub taken : List Cell
+  pub put : List Cell
+  pub closed : List Closed
+  pub strange : List Cell
+  pub moves : Moves before after taken put
+  pub parts : ArePartedInto rule None taken closed put strange
+  pub joined : tally_after.closed.items ≡ tally.closed.items ++ closed
+  pub numbers : (view_of tally_after.seat).numbers ≡ (view_of tally.seat).numbers
+  pub all_put : HasSettledAll (hand_view before.hand) → TookAllItPut (hand_view after.hand)
+
+-- one tally takes in another of the same goal
+pub record Gathers (word : BestWord) (tally other after : Tally) : Type 0 where
+  pub is_seat : IsSeatOf word after.seat
+  pub keeps : (rule : Rule) → IsTally rule word tally → IsTally rule word other
+      → IsTally rule word after
+  pub joined : after.closed.items ≡ tally.closed.items ++ other.closed.items
+  pub numbers : (view_of after.seat).numbers
+      ≡ (view_of tally.seat).numbers ++ (view_of other.seat).numbers
