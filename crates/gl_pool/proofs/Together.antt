@@ -19,7 +19,6 @@ use Rattle.gl_deal.specs.Laws.{is-same, same-is}
 use Rattle.gl_goal.specs.Rule.{Rule, whole_cell}
 use Rattle.gl_plain.specs.Search.{IsNeeded}
 use Rattle.gl_plain.specs.Order.{AreParts, cells_of}
-use Rattle.gl_plain.proofs.Stack.{needed_node}
 use Rattle.gl_pool.specs.Many.{CameToAll, WeighSame}
 use Rattle.gl_pool.specs.Parts.{ArePartedInto, IsCutFrom, IsFromTaken, IsPartOfTaken, IsStrange, IsTakenInside, times_closed, times_held}
 
@@ -195,6 +194,11 @@ held-weight (cell ∷ cells) tuple =
     let one = sum_by-cons (λ (c : List (ℕ × ℕ)). cond (holds c tuple) 1 0) (spans_of cell) (map spans_of cells) in
     let more = sum_by-cons (λ (c : Cell). cond (holds (spans_of c) tuple) 1 0) cell cells in
     omega (arith, held-weight cells tuple)
+
+-- what a search comes to is a node of the whole cell
+needed_node : (rule : Rule) (cell : List (ℕ × ℕ)) → IsNeeded rule cell → IsNode (whole_cell rule.axes) cell
+needed_node rule cell (inl is) = subst (IsNode (whole_cell rule.axes)) (sym is) (whole (whole_cell rule.axes))
+needed_node rule cell (inr part) = half (whole_cell rule.axes) part.node cell part.is_node part.is_half
 
 -- the closed cells part the whole one
 pub closed_parts : (rule : Rule) (first : Cell) (taken put : List Cell) (closed : List Closed) (strange : List Cell) → CameToAll rule first taken put closed strange → AreParts (whole_cell rule.axes) (cells_of closed)
