@@ -13,7 +13,7 @@ use Rattle.gl_app.specs.Triangle.{IsTriangleText}
 use Rattle.gl_app.specs.Run.{IsRight, SaidLine}
 use Rattle.gl_app.specs.Statuses.{stop_at}
 use Rattle.gl_app.specs.Texts.{IsLine, usage_line}
-use Rattle.gl_app.specs.Words.{Check, Command, DayNames, Demo, Free, Score, Triangle, check_form, command_of, day_names, demo_form, file_form, is_file_name, is_text, score_form}
+use Rattle.gl_app.specs.Words.{Check, Command, DayNames, Demo, Free, Score, Triangle, check_form, command_of, day_names, demo_form, file_form, is_file_name, is_text, is_worker_count, score_form}
 use Rattle.gl_app.proofs.DayLines.{AreUnbroken, check_line, score_line, demo_line}
 use Rattle.gl_app.proofs.LineTexts.{of_file_line, is_unbroken, is_unbroken-file, line_of}
 
@@ -73,7 +73,7 @@ score_names [] = tt
 score_names (word ∷ []) = tt
 score_names (word ∷ task ∷ []) = tt
 score_names (word ∷ task ∷ proof ∷ []) = tt
-score_names (word ∷ task ∷ proof ∷ workers ∷ []) = if_names (is_text word (codes "score") && is_text workers (decimal 1)) (day_names task proof) (day_names_unbroken task proof)
+score_names (word ∷ task ∷ proof ∷ workers ∷ []) = if_names (is_text word (codes "score") && is_worker_count workers) (day_names task proof) (day_names_unbroken task proof)
 score_names (word ∷ task ∷ proof ∷ workers ∷ more ∷ words) = tt
 
 check_names : (words : List (List ℕ)) → HaveUnbroken (check_form words)

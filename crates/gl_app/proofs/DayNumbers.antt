@@ -7,7 +7,7 @@ use Rattle.std.specs.Cmp.Lexicographic.{other_text, same_text}
 use Rattle.std.proofs.lemmas.Bool.{cases_Bool, leb-true, le-leb}
 use Rattle.std.proofs.lemmas.Fmt.{digits_value-decimal}
 use Rattle.std.proofs.lemmas.Str.Parse.{IsNumeralModel, numerals_by_value, tells_digits}
-use Rattle.gl_app.specs.Words.{day_number, is_text}
+use Rattle.gl_app.specs.Words.{day_number, is_text, is_worker_count}
 
 own : IsNumeralModel (AllDigits 10) (digits_value 10)
 own = numerals_by_value (AllDigits 10) tells_digits
@@ -52,3 +52,15 @@ some_day word n small is least most =
     let number = digits_value 10 word in
     let value : number ≡ n = ap (digits_value 10) is ∙ digits_value-decimal own n small in
     all_three _ _ _ number n (text_is word (decimal number) (is ∙ ap decimal (sym value))) (le-leb 1 number (omega (arith, value))) (le-leb number 1000000 (omega (arith, value))) value
+
+both_so : (a b c : Bool) → a ≡ true → b ≡ true → c ≡ true → (a && b && c) ≡ true
+both_so true true c one other third = third
+both_so true false c one other third = absurd (cc)
+both_so false b c one other third = absurd (cc)
+
+-- a word that writes a number of workers
+pub some_workers : (word : List ℕ) (n : ℕ) → n < 2 ^ 64 → word ≡ decimal n → 1 ≤ n → n ≤ 16 → (is_worker_count word ≡ true) × (n ≡ digits_value 10 word)
+some_workers word n small is least most =
+    let number = digits_value 10 word in
+    let value : number ≡ n = ap (digits_value 10) is ∙ digits_value-decimal own n small in
+    (both_so _ _ _ (text_is word (decimal number) (is ∙ ap decimal (sym value))) (le-leb 1 number (omega (arith, value))) (le-leb number 16 (omega (arith, value))), sym value)

@@ -1,18 +1,18 @@
 -- The right answer of a run, and how a run ends.
-use Rattle.std.specs.Prelude.{◌≡◌, ℕ, List, [], Option, None, Some, take, ◌⊎◌, MatchOption, ⊤}
+use Rattle.std.specs.Prelude.{◌≡◌, ◌≢◌, ◌↔◌, ℕ, IfNone, IsNone, List, [], Option, None, Some, take, ◌⊎◌, MatchOption, ⊤}
 use Rattle.gl_desk.specs.Answers.{CountsFaults}
 use Rattle.gl_desk.specs.Desk.{FilesByName, Told, IsSeenIn, followed_by}
 use Rattle.gl_desk.specs.declared.error.DeskError.{DeskError}
 use Rattle.gl_day.specs.Flight.{StewardRules}
 use Rattle.gl_app.specs.declared.status.Status.{Status}
-use Rattle.gl_app.specs.declared.status.Status.TheVariants.{Words}
+use Rattle.gl_app.specs.declared.status.Status.TheVariants.{Done, Refused, Words}
 use Rattle.gl_app.specs.Answer.{Answer, saying}
 use Rattle.gl_app.specs.Appending.{IsAppended}
 use Rattle.gl_app.specs.Check.{IsCheck, IsScoredFolder, PassesCheck}
 use Rattle.gl_app.specs.Demo.{IsDemo}
 use Rattle.gl_app.specs.Statuses.{stop_at}
 use Rattle.gl_app.specs.Score.{IsScore, IsScoreBegun, PassesScore}
-use Rattle.gl_app.specs.Words.{Check, Command, Demo, Free, Score, Triangle}
+use Rattle.gl_app.specs.Words.{Check, Command, Demo, Free, Score, Triangle, command_of}
 use Rattle.gl_app.specs.Texts.{IsLine, usage_line}
 use Rattle.gl_app.specs.Free.{IsFree}
 use Rattle.gl_app.specs.OfFile.{PassesAsRecording}
@@ -127,3 +127,26 @@ Ends Right target status before after =
 -- one line was said
 abbrev pub SaidLine : Option (List ℕ) → Option (List ℕ) → Type 0
 SaidLine before after = (line : List ℕ) × IsLine line × (after ≡ followed_by before line)
+
+-- What a run owes that ends with a status, by its words and by the rules of its stewards before and
+-- after it.
+pub record IsRun (given : List (List ℕ)) (stewards left : List StewardRules) (status : Status)
+    (before after : Told) : Type 0 where
+  -- The answer is right for what the tests saw, on every desk, and that is what the folder has
+  -- where the desk tells it. A run that was stopped gave at most a first part of such an answer.
+  pub right : Ends (IsRight before.folder stewards (command_of given))
+      (target_of (command_of given)) status before after
+  -- In a folder whose files pass every test, a run that isn't stopped has a result.
+  pub complete : PassTests before.folder (command_of given)
+      → (status ≢ Words) × (status ≢ Refused)
+  -- The proof that `score` wrote is accepted in the folder of its day.
+  pub accepted : ChecksScored before.folder (command_of given)
+      → IfNone (stop_at status) (status ≡ Done)
+  -- Unless stopped, a run ends with `Words` exactly where the words are of no form, and says one
+  -- line where it has no result.
+  pub words : IfNone (stop_at status) ((status ≡ Words) ↔ IsNone (command_of given))
+  pub line : IfNone (stop_at status) (status ≢ Done → SaidLine before.said after.said)
+  -- `Desk` only where a call of the desk failed; at every other status none did.
+  pub faults : CountsFaults (stop_at status) before.faults after.faults
+  -- the stewards keep their rules
+  pub kept : left ≡ stewards

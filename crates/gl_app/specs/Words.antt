@@ -1,5 +1,5 @@
 -- The words of a command.
-use Rattle.std.specs.Prelude.{ℕ, Bool, not, ◌&&◌, ◌||◌, nat_le, nat_eq, ◌==◌, if◌then◌else◌, List, [], ◌∷◌, length, Option, None, Some, codes, option_map}
+use Rattle.std.specs.Prelude.{ℕ, Bool, not, ◌&&◌, ◌||◌, nat_le, nat_eq, ◌==◌, if◌then◌else◌, List, [], ◌∷◌, length, slice_index_or, Option, None, Some, codes, option_map}
 use Rattle.std.specs.List.{list_all}
 use Rattle.std.specs.Cmp.Lexicographic.{pointwise}
 use Rattle.std.specs.Fmt.{decimal}
@@ -51,14 +51,20 @@ day_names task proof =
     if is_file_name task && is_file_name proof
     then Some (record { task = task; proof = proof }) else None
 
--- `score TASK PROOF WORKERS`, where the number of workers is 1
+-- a word that writes a number from 1 to 16, without a sign and a leading zero
+abbrev pub is_worker_count : List ℕ → Bool
+is_worker_count word =
+    let number = digits_value 10 word in
+    is_text word (decimal number) && nat_le 1 number && nat_le number 16
+
+-- `score TASK PROOF WORKERS`, where the number of workers is 1 to 16
 abbrev pub score_form : List (List ℕ) → Option DayNames
 score_form [] = None
 score_form (word ∷ []) = None
 score_form (word ∷ task ∷ []) = None
 score_form (word ∷ task ∷ proof ∷ []) = None
 score_form (word ∷ task ∷ proof ∷ workers ∷ []) =
-    if is_text word (codes "score") && is_text workers (decimal 1)
+    if is_text word (codes "score") && is_worker_count workers
     then day_names task proof else None
 score_form (word ∷ task ∷ proof ∷ workers ∷ more ∷ words) = None
 
@@ -93,3 +99,12 @@ command_of words =
     (option_or (option_map Triangle (file_form (codes "triangle") words))
     (option_or (option_map Score (score_form words))
     (option_or (option_map Check (check_form words)) (option_map Demo (demo_form words)))))
+
+-- how many workers the words of `score` name
+abbrev pub named_workers : Option DayNames → List (List ℕ) → ℕ
+named_workers None words = 1
+named_workers (Some names) words = digits_value 10 (slice_index_or words 3 [])
+
+-- how many workers words ask for: 1, unless they are of `score`
+abbrev pub workers_of : List (List ℕ) → ℕ
+workers_of words = named_workers (score_form words) words

@@ -16,7 +16,7 @@ use crate::listed::MOST_PROOF_BYTES;
 use crate::score::score;
 use crate::shelf::Shelf;
 use crate::status::Status;
-use gl_day::Checked;
+use gl_day::{Alone, Checked};
 use gl_demo::{generated_day, task_name};
 use gl_desk::{DeskError, Name};
 use gl_steward::Steward;
@@ -86,7 +86,7 @@ pub fn demo(
         task: &task,
         proof: &proof,
     };
-    let scored = score(alloc, &mut shelf, names, stewards)?;
+    let scored = score(alloc, &mut shelf, &Alone, names, stewards)?;
     let Status::Done = scored.status else {
         unreachable!()
     };

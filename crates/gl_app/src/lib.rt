@@ -1,5 +1,5 @@
-//! The commands: from words and a folder to a status and what is said. `run_single` is all that the
-//! program does.
+//! The commands: from words and a folder to a status and what is said. `run` is all that the program
+//! does.
 #![tactic(auto)]
 
 mod answer;
@@ -19,8 +19,9 @@ mod line;
 mod listed;
 mod of_file;
 mod program;
+mod racing;
 mod refusal;
-mod run;
+mod running;
 mod score;
 mod scoring;
 mod seeing;
@@ -29,7 +30,8 @@ mod status;
 mod texts;
 mod triangle;
 
+pub use day_names::worker_count;
 pub use laws::one_answer;
 pub use program::run_program;
-pub use run::run_single;
+pub use running::{run, run_single};
 pub use status::Status;

@@ -2,9 +2,10 @@ ghost use Rattle.std.specs.Prelude.{◌≡◌, IfOk, length};
 ghost use Rattle.std.specs.Process.{exit_status};
 ghost use Rattle.gl_app.specs.Endings.{number_of_ending};
 
-use crate::run::run_single;
+use crate::running::run;
 use crate::status::Status;
 use gl_desk::{HostDesk, Name};
+use gl_pool::OpenGate;
 use gl_steward::Steward;
 use std::alloc::{AllocError, Global};
 use std::env;
@@ -12,6 +13,8 @@ use std::env::Args;
 use std::io::ErrorKind;
 use std::process::ExitCode;
 use std::rt::{Env, Files};
+use std::sync::Wait;
+use std::thread::Threads;
 
 /// How the program ended.
 #[derive(Clone, Copy, Debug, PartialEq, Eq)]
@@ -47,7 +50,7 @@ fn names(alloc: Global, words: Args) -> Result<Vec<Name>, AllocError> {
 }
 
 /// Carries out the words that the system gives, in the current folder and on standard output.
-fn run_words<Rt: Files + Print + Env + AllocGlobal + Drop>(
+fn run_words<Rt: Files + Print + Env + AllocGlobal + Threads + Wait + Sync + Drop>(
     rt: Rt,
     stewards: &mut Vec<Box<dyn Steward>>,
 ) -> Ending {
@@ -60,13 +63,13 @@ fn run_words<Rt: Files + Print + Env + AllocGlobal + Drop>(
     let Ok(names) = names(alloc, words) else {
         return Ending::NoMemory;
     };
-    let mut desk = HostDesk::new(rt);
-    Ending::Ran(run_single(alloc, &names, &mut desk, stewards))
+    let mut desk = HostDesk::new(&rt);
+    Ending::Ran(run(&rt, alloc, &names, &mut desk, &OpenGate, stewards))
 }
 
 /// The program: hands the words of the system, the current folder, the standard output and the
 /// stewards to a run, and ends with its status as a number.
-pub fn run_program<Rt: Files + Print + Env + AllocGlobal + Drop>(
+pub fn run_program<Rt: Files + Print + Env + AllocGlobal + Threads + Wait + Sync + Drop>(
     rt: Rt,
     stewards: &mut Vec<Box<dyn Steward>>,
 ) -> ExitCode {

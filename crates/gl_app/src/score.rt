@@ -12,17 +12,20 @@ use crate::day_names::DayNames;
 use crate::line::answer_halt;
 use crate::scoring::score_day;
 use crate::status::Status;
+use gl_day::Search;
 use gl_desk::{Desk, DeskError};
 use gl_steward::Steward;
 use std::alloc::Global;
 
-/// The answer of `score TASK PROOF 1`: the sheet of the day. Its proof is appended to the file.
-pub fn score<D: Desk>(
+/// The answer of `score TASK PROOF WORKERS`: the sheet of the day. Its proof is appended to the file.
+pub fn score<D: Desk, S: Search>(
     alloc: Global,
     desk: &mut D,
+    search: &S,
     day: DayNames<'_>,
     stewards: &mut Vec<Box<dyn Steward>>,
 ) -> Result<Answer, DeskError>
+    requires { S.ready search.now }
     ensures right { IfOk result (λ answer. (text : List ℕ)
         × IsScore (D.told desk.old).folder
         (map (λ s. steward_rules (opening s) (fed s) (owed s)) stewards.old.items)
@@ -39,7 +42,7 @@ pub fn score<D: Desk>(
         Ok(files) => files,
         Err(halt) => return answer_halt(alloc, halt),
     };
-    let sheet = score_day(alloc, desk, &names, &files, day.proof, stewards)?;
+    let sheet = score_day(alloc, desk, search, &names, &files, day.proof, stewards)?;
     Ok(Answer {
         status: Status::Done,
         text: sheet,

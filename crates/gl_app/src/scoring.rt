@@ -15,7 +15,9 @@ use crate::appending::append_piece;
 use crate::day_files::DayFiles;
 use crate::seeing::see_entrant;
 use gl_box::Closed;
-use gl_day::{Flight, Seen, Totals, claim_of, end_line, finish_flight, heading_line, sheet_of};
+use gl_day::{
+    Flight, Search, Seen, Totals, claim_of, end_line, finish_flight, heading_line, sheet_of,
+};
 use gl_desk::{Desk, DeskError, Name};
 use gl_goal::AnyGoal;
 use gl_igc::Recording;
@@ -89,14 +91,16 @@ fn append_claim<D: Desk>(
 
 /// Proves the claims of a flight, one after the other, and appends the lines of each to the proof.
 /// One claim at a time is in memory. The answer has their totals.
-fn prove_claims<D: Desk>(
+fn prove_claims<D: Desk, S: Search>(
     alloc: Global,
     desk: &mut D,
+    search: &S,
     proof: &Name,
     number: &Name,
     goals: &[(ClaimKind, AnyGoal)],
 ) -> Result<Totals, DeskError>
-    requires { IsTrue (is_number number.now) }
+    requires search { S.ready search.now }
+    requires number { IsTrue (is_number number.now) }
     ensures claimed { IfOk result (λ totals.
         AreClaimed (expected_of number.now (rules_of_claims goals.now)) totals proof.now
         (D.told desk.old) (D.told desk.new)) }
@@ -106,7 +110,7 @@ fn prove_claims<D: Desk>(
 {
     let mut totals = Totals::NONE;
     for goal in goals {
-        let claim = claim_of(alloc, number, goal.0, &goal.1)?;
+        let claim = claim_of(alloc, search, number, goal.0, &goal.1)?;
         append_claim(alloc, desk, proof, &claim)?;
         totals.note(&claim);
     }
@@ -114,15 +118,17 @@ fn prove_claims<D: Desk>(
 }
 
 /// The flight of an entrant with a recording; the lines of its claims are appended to the proof.
-fn score_recorded<D: Desk>(
+fn score_recorded<D: Desk, S: Search>(
     alloc: Global,
     desk: &mut D,
+    search: &S,
     files: &DayFiles,
     proof: &Name,
     entrant: &Entrant,
     rec: &Recording,
     stewards: &mut Vec<Box<dyn Steward>>,
 ) -> Result<Flight, DeskError>
+    requires { S.ready search.now }
     ensures scored { IfOk result (λ flight. (bytes : List ℕ)
         → IsSeen files.now.task entrant.now bytes (Recorded rec.now)
         → IsEntrantScored files.now
@@ -138,21 +144,30 @@ fn score_recorded<D: Desk>(
 {
     let judged = judge(&files.task, &files.airspace, rec);
     let goals = claims(alloc, &files.task, &files.airspace, rec)?;
-    let totals = prove_claims(alloc, desk, proof, &entrant.number, goals.as_slice())?;
+    let totals = prove_claims(
+        alloc,
+        desk,
+        search,
+        proof,
+        &entrant.number,
+        goals.as_slice(),
+    )?;
     Ok(finish_flight(&files.task, entrant, rec, &judged, &totals, stewards))
 }
 
 /// The flight of an entrant; the lines of its claims are appended to the proof.
-fn score_entrant<D: Desk>(
+fn score_entrant<D: Desk, S: Search>(
     alloc: Global,
     desk: &mut D,
+    search: &S,
     names: &[Name],
     files: &DayFiles,
     proof: &Name,
     entrant: &Entrant,
     stewards: &mut Vec<Box<dyn Steward>>,
 ) -> Result<Flight, DeskError>
-    requires { HaveFiles (D.told desk.old).folder names.now }
+    requires search { S.ready search.now }
+    requires names { HaveFiles (D.told desk.old).folder names.now }
     ensures scored { IfOk result (λ flight. (seen : Option (List ℕ))
         × IsSeenAmong names.now (D.told desk.old).folder entrant.now.file seen
         × IsEntrantScored files.now
@@ -169,7 +184,7 @@ fn score_entrant<D: Desk>(
 {
     match see_entrant(alloc, desk, names, &files.task, entrant)? {
         Seen::Recorded(rec) => {
-            score_recorded(alloc, desk, files, proof, entrant, &rec, stewards)
+            score_recorded(alloc, desk, search, files, proof, entrant, &rec, stewards)
         }
         Seen::Refused(flight) => Ok(flight),
     }
@@ -177,14 +192,16 @@ fn score_entrant<D: Desk>(
 
 /// The flights of all entrants, in the task's order; the heading and the lines of their claims are
 /// appended to the proof.
-fn score_entrants<D: Desk>(
+fn score_entrants<D: Desk, S: Search>(
     alloc: Global,
     desk: &mut D,
+    search: &S,
     names: &[Name],
     files: &DayFiles,
     proof: &Name,
     stewards: &mut Vec<Box<dyn Steward>>,
 ) -> Result<Vec<Flight>, DeskError>
+    requires search { S.ready search.now }
     requires names { ListsNames (D.told desk.old).folder names.now }
     requires proof_is_new { Contains names.now proof.now → ⊥ }
     ensures scored { IfOk result (λ flights. AreEntrantsScored files.now
@@ -198,7 +215,7 @@ fn score_entrants<D: Desk>(
     append_piece(alloc, desk, proof, heading_line())?;
     let mut flights = Vec::new(alloc);
     for entrant in files.task.entrants.as_slice() {
-        flights.push(score_entrant(alloc, desk, names, files, proof, entrant, stewards)?)?;
+        flights.push(score_entrant(alloc, desk, search, names, files, proof, entrant, stewards)?)?;
     }
     Ok(flights)
 }
@@ -206,14 +223,16 @@ fn score_entrants<D: Desk>(
 /// The sheet of a day whose files passed the tests, with the proof appended to its file: the
 /// heading, the claims entrant by entrant in the task's order, and the end. After an error a first
 /// part of a proof was appended.
-pub fn score_day<D: Desk>(
+pub fn score_day<D: Desk, S: Search>(
     alloc: Global,
     desk: &mut D,
+    search: &S,
     names: &[Name],
     files: &DayFiles,
     proof: &Name,
     stewards: &mut Vec<Box<dyn Steward>>,
 ) -> Result<Vec<u8>, DeskError>
+    requires search { S.ready search.now }
     requires names { ListsNames (D.told desk.old).folder names.now }
     requires proof_is_new { Contains names.now proof.now → ⊥ }
     ensures scored { IfOk result (λ sheet. IsDayDone files.now
@@ -224,7 +243,7 @@ pub fn score_day<D: Desk>(
     ensures kept { map (λ s. steward_rules (opening s) (fed s) (owed s)) stewards.new.items
         ≡ map (λ s. steward_rules (opening s) (fed s) (owed s)) stewards.old.items }
 {
-    let flights = score_entrants(alloc, desk, names, files, proof, stewards)?;
+    let flights = score_entrants(alloc, desk, search, names, files, proof, stewards)?;
     let sheet = sheet_of(alloc, &files.task, flights.as_slice())?;
     append_piece(alloc, desk, proof, end_line())?;
     Ok(sheet)

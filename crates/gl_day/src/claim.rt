@@ -7,9 +7,10 @@ ghost use Rattle.gl_proof.specs.Claim.{IsWritable, statement_of};
 ghost use Rattle.gl_proof.specs.Number.{is_number};
 ghost use Rattle.gl_day.specs.Expected.{Proves};
 
+use crate::search::Search;
 use gl_desk::Name;
 use gl_goal::{AnyGoal, fix_numbers};
-use gl_plain::{Best, Found, search_one};
+use gl_plain::{Best, Found};
 use gl_proof::{Claim, ClaimKind};
 use std::alloc::{AllocError, Global};
 
@@ -67,19 +68,21 @@ fn claim_of_found(
 /// and the boxes that show that no choice is longer. The total is `None` exactly where no choice is
 /// legal. A claim can have 50 million boxes, so one at a time is to be in memory. The only error is
 /// want of memory.
-pub fn claim_of(
+pub fn claim_of<S: Search>(
     alloc: Global,
+    search: &S,
     number: &Name,
     kind: ClaimKind,
     goal: &AnyGoal,
 ) -> Result<Claim, AllocError>
-    requires { IsTrue (is_number number.now) }
+    requires search { S.ready search.now }
+    requires number { IsTrue (is_number number.now) }
     ensures proves { IfOk result (λ claim.
         Proves (number.now, kind, any_rule goal.now) (statement_of claim)) }
     ensures writable { IfOk result IsWritable }
     ensures total { IfOk result (λ claim. (tuple : List ℕ)
         → IsLegal (any_rule goal.now) tuple → IsSome claim.total) }
 {
-    let found = search_one(alloc, goal)?;
+    let found = search.search(alloc, goal)?;
     claim_of_found(alloc, number, kind, goal, found)
 }

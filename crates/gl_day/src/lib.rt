@@ -9,6 +9,7 @@ mod fault;
 mod finish;
 mod flight;
 mod frame;
+mod search;
 mod totals;
 
 pub use check::{check_end, check_flight};
@@ -18,4 +19,5 @@ pub use fault::{Checked, Fault, NotProved};
 pub use finish::finish_flight;
 pub use flight::{Flight, MOST_BYTES, Seen, absent_flight, large_flight, read_flight};
 pub use frame::{end_line, heading_line};
+pub use search::{Alone, Search};
 pub use totals::Totals;

@@ -1,4 +1,4 @@
-use gl_app::{Status, run_single};
+use gl_app::{Status, run_single, worker_count};
 use gl_desk::{Desk, DeskError, MemDesk, Name};
 use gl_steward::{Ceiling, EngineNoise, Steward};
 use std::alloc::{AllocError, Global};
@@ -124,6 +124,9 @@ pub fn run(alloc: Global, line: &str, files: &[File], failing: u64) -> Result<En
     let mut stewards: Vec<Box<dyn Steward>> = Vec::new(alloc);
     stewards.push(Box::new(alloc, Ceiling::new())?)?;
     stewards.push(Box::new(alloc, EngineNoise::new())?)?;
+    if worker_count(&words) != 1 {
+        return Err("several workers")?;
+    }
     let status = run_single(alloc, &words, &mut desk, &mut stewards);
     Ok(Ended {
         status,

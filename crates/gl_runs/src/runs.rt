@@ -1,6 +1,7 @@
 use anyhow::{Context, Result};
-use gl_app::{Status, run_single};
+use gl_app::Status;
 use gl_desk::{MemDesk, Name};
+use gl_pool::OpenGate;
 use gl_steward::{Ceiling, EngineNoise, Steward};
 use std::alloc::{AllocError, Global};
 
@@ -25,7 +26,8 @@ struct Ended {
 }
 
 /// Runs the words of a line, with the two stewards of the program or with none.
-fn end_of(alloc: Global, desk: &mut MemDesk, line: &str, has_stewards: bool) -> Result<Ended> {
+fn end_of(rt: &HostRuntime, desk: &mut MemDesk, line: &str, has_stewards: bool) -> Result<Ended> {
+    let alloc = rt.alloc();
     let mut stewards: Vec<Box<dyn Steward>> = Vec::new(alloc);
     if has_stewards {
         stewards.push(Box::new(alloc, Ceiling::new())?)?;
@@ -34,7 +36,7 @@ fn end_of(alloc: Global, desk: &mut MemDesk, line: &str, has_stewards: bool) -> 
     let calls = desk.calls();
     let length = desk.printed().len();
     let words = words(alloc, line)?;
-    let status = run_single(alloc, &words, desk, &mut stewards);
+    let status = gl_app::run(rt, alloc, &words, desk, &OpenGate, &mut stewards);
     let said = desk.printed().get(length..).unwrap_or(b"");
     Ok(Ended {
         status,
@@ -45,14 +47,14 @@ fn end_of(alloc: Global, desk: &mut MemDesk, line: &str, has_stewards: bool) -> 
 
 /// `run WORDS` runs the words, and says how that ended and what it said.
 pub fn run(rt: &HostRuntime, desk: &mut MemDesk, line: &str) -> Result<()> {
-    let ended = end_of(rt.alloc(), desk, line, true)?;
+    let ended = end_of(rt, desk, line, true)?;
     println!(rt; "{line}: {:?} {:?}", ended.status, ended.said)?;
     Ok(())
 }
 
 /// `count WORDS` does the same, and says how many calls of the desk it made.
 pub fn count(rt: &HostRuntime, desk: &mut MemDesk, line: &str) -> Result<()> {
-    let ended = end_of(rt.alloc(), desk, line, true)?;
+    let ended = end_of(rt, desk, line, true)?;
     println!(rt;
         "{line}: {:?} {:?} by {} calls",
         ended.status, ended.said, ended.calls
@@ -62,7 +64,7 @@ pub fn count(rt: &HostRuntime, desk: &mut MemDesk, line: &str) -> Result<()> {
 
 /// `bare WORDS` runs the words without stewards.
 pub fn bare(rt: &HostRuntime, desk: &mut MemDesk, line: &str) -> Result<()> {
-    let ended = end_of(rt.alloc(), desk, line, false)?;
+    let ended = end_of(rt, desk, line, false)?;
     println!(rt;
         "{line} without stewards: {:?} {:?}",
         ended.status, ended.said
@@ -72,7 +74,7 @@ pub fn bare(rt: &HostRuntime, desk: &mut MemDesk, line: &str) -> Result<()> {
 
 /// `first WORDS` runs the words, and says the first line of what that said.
 pub fn first(rt: &HostRuntime, desk: &mut MemDesk, line: &str) -> Result<()> {
-    let ended = end_of(rt.alloc(), desk, line, true)?;
+    let ended = end_of(rt, desk, line, true)?;
     let said = ended.said.as_str().lines().next().unwrap_or("");
     println!(rt; "{line}: {:?} {said:?} first", ended.status)?;
     Ok(())
@@ -82,7 +84,7 @@ pub fn first(rt: &HostRuntime, desk: &mut MemDesk, line: &str) -> Result<()> {
 /// the rest of it is one of these lines.
 pub fn among(rt: &HostRuntime, desk: &mut MemDesk, rest: &str) -> Result<()> {
     let (line, right) = rest.split_once(" | ").unwrap_or((rest, ""));
-    let ended = end_of(rt.alloc(), desk, line, true)?;
+    let ended = end_of(rt, desk, line, true)?;
     let (total, fixes) = ended.said.as_str().split_once('\n').context("one line")?;
     let right = right.replace(rt.alloc(), " | ", "\n")?;
     let right = format!(in rt.alloc(); "\n{right}\n")?;

@@ -18,8 +18,8 @@ loop-entrant-init g c = record {
   scored = rw c.new-flights.ensures.items (none_scored c.args.files.now _ c.args.proof.now c.heading_line.result.now (g.D.Desk.told c.args.desk.now) (g.D.Desk.told c.append_piece.new.desk) c.heading_line.ensures c.in_ok-append_piece.ensures.appended);
 }
 
-pub score_entrant-requires : goal.score_entrant-requires
-score_entrant-requires g c =
+pub score_entrant-requires-clause-names : goal.score_entrant-requires-clause-names
+score_entrant-requires-clause-names g c =
     let so = c.loop-entrant.invariant.scored in
     have_files c.args.names.now c.args.proof.now (text_so_far (statements_of_all so.scored)) (g.D.Desk.told c.args.desk.now) (g.D.Desk.told c.loop-entrant.desk) c.requires.names c.requires.proof_is_new so.appended
 

@@ -1,32 +1,45 @@
 ghost use Rattle.std.specs.Prelude.{◌≡◌, ◌≢◌, ◌↔◌, ℕ, List, Some, IfErr, IfOk, IfNone, IsNone, map};
+ghost use Rattle.std.specs.Thread.{IsSync};
 ghost use Rattle.gl_desk.specs.Answers.{CountsFaults};
+ghost use Rattle.gl_goal.specs.AnyGoal.{any_rule};
+ghost use Rattle.gl_plain.specs.Answer.{IsAnswer};
 ghost use Rattle.gl_day.specs.Flight.{steward_rules};
 ghost use Rattle.gl_app.specs.Answer.{answer_with};
 ghost use Rattle.gl_app.specs.Appending.{HasGiven};
 ghost use Rattle.gl_app.specs.Command.{seen};
-ghost use Rattle.gl_app.specs.Run.{ChecksScored, Ends, IsBegunFor, IsRight, IsRightFor, IsStopped, PassTests, SaidLine, target_of};
+ghost use Rattle.gl_app.specs.Run.{ChecksScored, Ends, IsBegunFor, IsRight, IsRightFor, IsRun, IsStopped, PassTests, SaidLine, target_of};
 ghost use Rattle.gl_app.specs.Statuses.{stop_at};
-ghost use Rattle.gl_app.specs.Words.{command_of};
+ghost use Rattle.gl_app.specs.Words.{command_of, workers_of};
 
 use crate::answer::Answer;
 use crate::check::check;
 use crate::command::{Command, read_words};
+use crate::day_names::read_workers_of;
 use crate::demo::demo;
 use crate::of_file::{Course, answer_of_file};
+use crate::racing::{Racing, race};
 use crate::score::score;
 use crate::status::Status;
 use crate::texts::usage;
+use gl_day::{Alone, Search};
 use gl_desk::{Desk, DeskError, Name};
+use gl_goal::AnyGoal;
+use gl_plain::Found;
+use gl_pool::Gate;
 use gl_steward::Steward;
-use std::alloc::Global;
+use std::alloc::{AllocError, Global};
+use std::sync::Wait;
+use std::thread::Threads;
 
 /// The answer to a command. What it appends is appended.
-fn answer_to_command<D: Desk>(
+fn answer_to_command<D: Desk, S: Search>(
     alloc: Global,
     desk: &mut D,
+    search: &S,
     command: Command<'_>,
     stewards: &mut Vec<Box<dyn Steward>>,
 ) -> Result<Answer, DeskError>
+    requires { S.ready search.now }
     ensures right { IfOk result (λ answer. (text : List ℕ)
         × IsRightFor (D.told desk.old).folder
         (map (λ s. steward_rules (opening s) (fed s) (owed s)) stewards.old.items)
@@ -42,19 +55,21 @@ fn answer_to_command<D: Desk>(
     match command {
         Command::Free(file) => answer_of_file(alloc, desk, Course::Free, file),
         Command::Triangle(file) => answer_of_file(alloc, desk, Course::Triangle, file),
-        Command::Score(day) => score(alloc, desk, day, stewards),
+        Command::Score(day) => score(alloc, desk, search, day, stewards),
         Command::Check(day) => check(alloc, desk, day),
         Command::Demo(day) => demo(alloc, day, stewards),
     }
 }
 
 /// The answer to the words. What it appends is appended.
-fn answer_to_words<D: Desk>(
+fn answer_to_words<D: Desk, S: Search>(
     alloc: Global,
     words: &[Name],
     desk: &mut D,
+    search: &S,
     stewards: &mut Vec<Box<dyn Steward>>,
 ) -> Result<Answer, DeskError>
+    requires { S.ready search.now }
     ensures right { IfOk result (λ answer. (text : List ℕ)
         × IsRight (D.told desk.old).folder
         (map (λ s. steward_rules (opening s) (fed s) (owed s)) stewards.old.items)
@@ -68,7 +83,7 @@ fn answer_to_words<D: Desk>(
         ≡ map (λ s. steward_rules (opening s) (fed s) (owed s)) stewards.old.items }
 {
     match read_words(words) {
-        Some(command) => answer_to_command(alloc, desk, command, stewards),
+        Some(command) => answer_to_command(alloc, desk, search, command, stewards),
         None => Ok(Answer {
             status: Status::Words,
             text: usage(alloc)?,
@@ -76,7 +91,44 @@ fn answer_to_words<D: Desk>(
     }
 }
 
-/// Carries out a command on one thread, and always returns.
+/// Carries out a command, whose claims are searched in this way.
+fn carry_out<D: Desk, S: Search>(
+    alloc: Global,
+    words: &[Name],
+    desk: &mut D,
+    search: &S,
+    stewards: &mut Vec<Box<dyn Steward>>,
+) -> Status
+    requires { S.ready search.now }
+    ensures right { Ends (IsRight (D.told desk.old).folder
+        (map (λ s. steward_rules (opening s) (fed s) (owed s)) stewards.old.items)
+        (command_of words.now))
+        (target_of (command_of words.now)) result (D.told desk.old) (D.told desk.new) }
+    ensures complete { PassTests (D.told desk.old).folder (command_of words.now)
+        → (result ≢ Status.Words) × (result ≢ Status.Refused) }
+    ensures accepted { ChecksScored (D.told desk.old).folder (command_of words.now)
+        → IfNone (stop_at result) (result ≡ Status.Done) }
+    ensures words { IfNone (stop_at result)
+        ((result ≡ Status.Words) ↔ IsNone (command_of words.now)) }
+    ensures line { IfNone (stop_at result)
+        (result ≢ Status.Done → SaidLine (D.told desk.old).said (D.told desk.new).said) }
+    ensures faults { CountsFaults (stop_at result)
+        (D.told desk.old).faults (D.told desk.new).faults }
+    ensures kept { map (λ s. steward_rules (opening s) (fed s) (owed s)) stewards.new.items
+        ≡ map (λ s. steward_rules (opening s) (fed s) (owed s)) stewards.old.items }
+{
+    let answer = match answer_to_words(alloc, words, desk, search, stewards) {
+        Ok(answer) => answer,
+        Err(stop) => return Status::from(stop),
+    };
+    match desk.say(alloc, &answer.text) {
+        Ok(()) => answer.status,
+        Err(stop) => Status::from(stop),
+    }
+}
+
+/// Carries out a command on one thread, and always returns. A `score` by several workers isn't one
+/// for this call.
 ///
 /// The words are those after the program's own name. One piece is said at the end, or nothing where
 /// a call of the desk failed or memory was wanting before; nothing is said after that. `score`
@@ -88,41 +140,38 @@ pub fn run_single<D: Desk>(
     desk: &mut D,
     stewards: &mut Vec<Box<dyn Steward>>,
 ) -> Status
-    // The answer is right for what the tests saw, on every desk, and that is what the folder has
-    // where the desk tells it. A run that was stopped gave at most a first part of such an answer.
-    ensures right { Ends (IsRight (D.told desk.old).folder
+    requires { workers_of words.now ≡ 1 }
+    ensures { IsRun words.now
         (map (λ s. steward_rules (opening s) (fed s) (owed s)) stewards.old.items)
-        (command_of words.now))
-        (target_of (command_of words.now)) result (D.told desk.old) (D.told desk.new) }
-
-    // In a folder whose files pass every test, a run that isn't stopped has a result.
-    ensures complete { PassTests (D.told desk.old).folder (command_of words.now)
-        → (result ≢ Status.Words) × (result ≢ Status.Refused) }
-
-    // The proof that `score` wrote is accepted in the folder of its day.
-    ensures accepted { ChecksScored (D.told desk.old).folder (command_of words.now)
-        → IfNone (stop_at result) (result ≡ Status.Done) }
-
-    // Unless stopped, a run ends with `Words` exactly where the words are of no form, and says one
-    // line where it has no result.
-    ensures words { IfNone (stop_at result)
-        ((result ≡ Status.Words) ↔ IsNone (command_of words.now)) }
-    ensures line { IfNone (stop_at result)
-        (result ≢ Status.Done → SaidLine (D.told desk.old).said (D.told desk.new).said) }
-
-    // `Desk` only where a call of the desk failed; at every other status none did.
-    ensures faults { CountsFaults (stop_at result)
-        (D.told desk.old).faults (D.told desk.new).faults }
-
-    ensures kept { map (λ s. steward_rules (opening s) (fed s) (owed s)) stewards.new.items
-        ≡ map (λ s. steward_rules (opening s) (fed s) (owed s)) stewards.old.items }
+        (map (λ s. steward_rules (opening s) (fed s) (owed s)) stewards.new.items)
+        result (D.told desk.old) (D.told desk.new) }
 {
-    let answer = match answer_to_words(alloc, words, desk, stewards) {
-        Ok(answer) => answer,
-        Err(stop) => return Status::from(stop),
-    };
-    match desk.say(alloc, &answer.text) {
-        Ok(()) => answer.status,
-        Err(stop) => Status::from(stop),
+    carry_out(alloc, words, desk, &Alone, stewards)
+}
+
+/// Carries out a command, `score` by as many workers as its words name and all others by one. It
+/// may wait for the workers, each of whom passes the gate before its first step. What it owes is
+/// what `run_single` owes, whatever the threads do.
+pub fn run<Rt: Threads + Wait + Sync, D: Desk, K: Gate + Sync>(
+    rt: &Rt,
+    alloc: Global,
+    words: &[Name],
+    desk: &mut D,
+    gate: &K,
+    stewards: &mut Vec<Box<dyn Steward>>,
+) -> Status
+    ensures { IsRun words.now
+        (map (λ s. steward_rules (opening s) (fed s) (owed s)) stewards.old.items)
+        (map (λ s. steward_rules (opening s) (fed s) (owed s)) stewards.new.items)
+        result (D.told desk.old) (D.told desk.new) }
+{
+    let workers = read_workers_of(words);
+    if workers.count == 1 {
+        return run_single(alloc, words, desk, stewards);
     }
+    let race = |alloc: Global, goal: &AnyGoal| -> Result<Found, AllocError>
+        requires { IsSync Rt.row × IsSync K.row }
+        ensures { IfOk result (IsAnswer (any_rule goal.now)) }
+    { race(rt, alloc, goal, workers, gate) };
+    carry_out(alloc, words, desk, &Racing { race: &race }, stewards)
 }

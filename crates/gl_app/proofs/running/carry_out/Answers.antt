@@ -8,7 +8,7 @@ use Rattle.gl_app.proofs.AnswerLines.{if_none, said_line}
 use Rattle.gl_app.proofs.Commanded.{stopped_ends}
 use Rattle.gl_app.proofs.Completing.{stopped_right}
 use Rattle.gl_app.proofs.Rights.{ends_said, right_passes, right_words, stops_saying}
-use Rattle.gl_app.proofs.run.run_single.Goals as goal
+use Rattle.gl_app.proofs.running.carry_out.Goals as goal
 
 pub returns-in-Ok-say-clause-right : goal.returns-in-Ok-say-clause-right
 returns-in-Ok-say-clause-right g c =

@@ -14,7 +14,7 @@ use Rattle.gl_app.specs.Free.{IsFreeText}
 use Rattle.gl_app.specs.OfFile.{IsOfFile}
 use Rattle.gl_app.specs.Triangle.{IsTriangleText}
 use Rattle.gl_app.proofs.Commanded.{reads_right, unread_right}
-use Rattle.gl_app.proofs.run.answer_to_command.Goals as goal
+use Rattle.gl_app.proofs.running.answer_to_command.Goals as goal
 
 -- a command of one recording, which only reads
 file_right : (IsText : Reading → List ℕ → Type 0) (file : List ℕ) (x y : Told) (result : Result code.Answer DeskError) → IfOk result (λ answer. (seen : Option (List ℕ)) × IsSeenIn x.folder file seen × IsOfFile IsText file seen (answer_of answer)) → OnlyReads (stop_of result) x y → IfOk result (λ answer. (text : List ℕ) × ((seen : Option (List ℕ)) × IsSeenIn x.folder file seen × IsOfFile IsText file seen (answer_with answer text)) × HasGiven None text x y)
