@@ -1,5 +1,5 @@
 use gl_app::{Status, run_single, worker_count};
-use gl_desk::{Desk, DeskError, MemDesk, Name};
+use gl_desk::{Desk, MemDesk, Name};
 use gl_steward::{Ceiling, EngineNoise, Steward};
 use std::alloc::{AllocError, Global};
 use std::process::Abort;
@@ -73,13 +73,27 @@ pub fn race(alloc: Global, task: &str) -> Result<Vec<File>, AllocError> {
     Ok(files)
 }
 
-/// Puts the files into a folder, each by one call of the desk.
-fn fill(alloc: Global, desk: &mut MemDesk, files: &[File]) -> Result<(), DeskError> {
+/// A folder of these files, each put there by one call of the desk. The k-th call after them fails
+/// if k isn't 0.
+pub fn filled(alloc: Global, files: &[File], failing: u64) -> Result<MemDesk, Fail> {
+    let mut failures = Vec::new(alloc);
+    if failing > 0 {
+        failures.push((files.len() as u64).saturating_add(failing))?;
+    }
+    let mut desk = MemDesk::new(alloc, Vec::new(alloc), failures)?;
     for file in files {
         let name = Name::from_text(alloc, file.name)?;
         desk.append(alloc, &name, file.text.as_bytes())?;
     }
-    Ok(())
+    Ok(desk)
+}
+
+/// The two stewards of the program.
+pub fn stewards(alloc: Global) -> Result<Vec<Box<dyn Steward>>, AllocError> {
+    let mut stewards: Vec<Box<dyn Steward>> = Vec::new(alloc);
+    stewards.push(Box::new(alloc, Ceiling::new())?)?;
+    stewards.push(Box::new(alloc, EngineNoise::new())?)?;
+    Ok(stewards)
 }
 
 /// How a run ended.
@@ -94,7 +108,7 @@ pub struct Ended {
 }
 
 /// What a file of a folder has.
-fn text_of(alloc: Global, desk: &MemDesk, name: &str) -> Result<Option<String>, Fail> {
+pub fn text_of(alloc: Global, desk: &MemDesk, name: &str) -> Result<Option<String>, Fail> {
     match desk.file(&Name::from_text(alloc, name)?) {
         Some(bytes) => Ok(Some(String::from_utf8(Vec::from_slice(alloc, bytes)?)?)),
         None => Ok(None),
@@ -102,7 +116,7 @@ fn text_of(alloc: Global, desk: &MemDesk, name: &str) -> Result<Option<String>, 
 }
 
 /// The words of a line.
-fn words(alloc: Global, line: &str) -> Result<Vec<Name>, AllocError> {
+pub fn names(alloc: Global, line: &str) -> Result<Vec<Name>, AllocError> {
     let mut names = Vec::new(alloc);
     for word in line.split(' ') {
         names.push(Name::from_text(alloc, word)?)?;
@@ -113,17 +127,9 @@ fn words(alloc: Global, line: &str) -> Result<Vec<Name>, AllocError> {
 /// Runs the words of the line in a folder of these files; the proof is `P.TXT`. The k-th call of the
 /// desk fails where k isn't 0.
 pub fn run(alloc: Global, line: &str, files: &[File], failing: u64) -> Result<Ended, Fail> {
-    let made = files.len() as u64;
-    let mut failures = Vec::new(alloc);
-    if failing > 0 {
-        failures.push(made.saturating_add(failing))?;
-    }
-    let mut desk = MemDesk::new(alloc, Vec::new(alloc), failures)?;
-    fill(alloc, &mut desk, files)?;
-    let words = words(alloc, line)?;
-    let mut stewards: Vec<Box<dyn Steward>> = Vec::new(alloc);
-    stewards.push(Box::new(alloc, Ceiling::new())?)?;
-    stewards.push(Box::new(alloc, EngineNoise::new())?)?;
+    let mut desk = filled(alloc, files, failing)?;
+    let words = names(alloc, line)?;
+    let mut stewards = stewards(alloc)?;
     if worker_count(&words) != 1 {
         return Err("several workers")?;
     }
@@ -132,7 +138,7 @@ pub fn run(alloc: Global, line: &str, files: &[File], failing: u64) -> Result<En
         status,
         said: String::from_utf8(Vec::from_slice(alloc, desk.printed())?)?,
         proof: text_of(alloc, &desk, "P.TXT")?,
-        calls: desk.calls().saturating_sub(made),
+        calls: desk.calls().saturating_sub(files.len() as u64),
     })
 }
 

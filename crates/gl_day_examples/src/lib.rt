@@ -1,5 +1,6 @@
 //! What of whole days isn't one answer: each call of the desk failing in turn, each first part of a
-//! proof, and generated days, whose `demo` says what `score` says of their files.
+//! proof, generated days, whose `demo` says what `score` says of their files, and two workers at work
+//! at the same time.
 #![tactic(auto)]
 
 #[cfg(test)]
@@ -12,3 +13,5 @@ mod failures;
 mod folder;
 #[cfg(test)]
 mod status;
+#[cfg(test)]
+mod two_hands;

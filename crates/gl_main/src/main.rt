@@ -6,9 +6,14 @@ use gl_app::{Status, run_program};
 use gl_steward::{Ceiling, EngineNoise, Steward};
 use std::alloc::AllocError;
 use std::process::ExitCode;
+use std::rt::{Env, Files};
+use std::sync::Wait;
+use std::thread::Threads;
 
 /// Makes the stewards and runs. The only error is want of memory for them.
-fn run(rt: HostRuntime) -> Result<ExitCode, AllocError> {
+fn run<Rt: Files + Print + Env + AllocGlobal + Threads + Wait + Sync + Drop>(
+    rt: Rt,
+) -> Result<ExitCode, AllocError> {
     let alloc = rt.alloc();
     let mut stewards: Vec<Box<dyn Steward>> = Vec::new(alloc);
     stewards.push(Box::new(alloc, Ceiling::new())?)?;

@@ -4,9 +4,6 @@ use gl_sphere::{Grid, vector};
 use std::alloc::Global;
 use std::test::Fail;
 
-/// How many turns a worker waits at a gate at most.
-pub(crate) const TURNS: u32 = 100_000_000;
-
 /// A fix so many seconds after the first one, on a way that turns back and forth.
 fn fix_at(second: u8) -> Fix {
     let grid = Grid {

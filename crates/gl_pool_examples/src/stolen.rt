@@ -1,5 +1,6 @@
 // A worker steals a cell from another one that is held at the gate.
-use crate::flight::{TURNS, three_fixes};
+use crate::flight::three_fixes;
+use crate::meeting::TURNS;
 use gl_box::{Cell, Tuple};
 use gl_goal::{Goal, Leg};
 use gl_pool::{Gate, search_many};

@@ -8,30 +8,19 @@ mod runs;
 
 use anyhow::{Result, bail};
 use gl_desk::MemDesk;
+use runs::Line;
 use std::io;
 
-/// Carries out a line that gives the folder a file.
-fn give(rt: &HostRuntime, desk: &mut MemDesk, word: &str, rest: &str) -> Result<()> {
+/// Carries out a line that runs nothing.
+fn obey(rt: &HostRuntime, desk: &mut MemDesk, word: &str, rest: &str) -> Result<()> {
     match word {
         "add" => folder::add(rt, desk, rest),
         "copy" => folder::copy(rt, desk, rest),
         "change" => folder::change(rt, desk, rest),
         "times" => folder::times(rt, desk, rest),
         "seconds" => folder::seconds(rt, desk, rest),
-        _ => bail!("no line begins with {word}"),
-    }
-}
-
-/// Carries out a line.
-fn obey(rt: &HostRuntime, desk: &mut MemDesk, word: &str, rest: &str) -> Result<()> {
-    match word {
         "show" => folder::show(rt, desk, rest),
-        "run" => runs::run(rt, desk, rest),
-        "count" => runs::count(rt, desk, rest),
-        "first" => runs::first(rt, desk, rest),
-        "among" => runs::among(rt, desk, rest),
-        "bare" => runs::bare(rt, desk, rest),
-        _ => give(rt, desk, word, rest),
+        _ => bail!("no line begins with {word}"),
     }
 }
 
@@ -40,6 +29,11 @@ fn main(rt: HostRuntime) -> Result<()> {
     let mut desk = folder::fresh(rt.alloc(), 0)?;
     for line in script.as_str().lines() {
         let (word, rest) = line.split_once(' ').unwrap_or((line, ""));
+        if let Some(line) = Line::read(word, rest) {
+            let told = runs::run(&rt, rt.alloc(), &mut desk, line)?;
+            println!(rt; "{told}")?;
+            continue;
+        }
         match word {
             "#" => {
                 println!(rt; "{line}")?;

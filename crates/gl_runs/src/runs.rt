@@ -4,6 +4,8 @@ use gl_desk::{MemDesk, Name};
 use gl_pool::OpenGate;
 use gl_steward::{Ceiling, EngineNoise, Steward};
 use std::alloc::{AllocError, Global};
+use std::sync::Wait;
+use std::thread::Threads;
 
 /// The words of a line, parted by single spaces; an empty line has none.
 fn words(alloc: Global, line: &str) -> Result<Vec<Name>, AllocError> {
@@ -16,6 +18,50 @@ fn words(alloc: Global, line: &str) -> Result<Vec<Name>, AllocError> {
     Ok(names)
 }
 
+/// A line that runs words, by what it wants to know of the run.
+#[derive(Clone, Copy)]
+pub enum Line<'a> {
+    /// `run WORDS`: how the run ended, and what it said.
+    Run(&'a str),
+    /// `count WORDS`: the same, and how many calls of the desk it made.
+    Count(&'a str),
+    /// `bare WORDS`: how it ended without stewards, and what it said.
+    Bare(&'a str),
+    /// `first WORDS`: how it ended, and the first line of what it said.
+    First(&'a str),
+    /// `among WORDS | LINE | LINE`: how it ended, the first line of what it said, and whether the rest
+    /// of it is one of these lines.
+    Among(&'a str, &'a str),
+}
+
+impl<'a> Line<'a> {
+    /// The line that begins with this word; `None` where no line that runs words does.
+    pub fn read(word: &str, rest: &'a str) -> Option<Line<'a>> {
+        match word {
+            "run" => Some(Line::Run(rest)),
+            "count" => Some(Line::Count(rest)),
+            "bare" => Some(Line::Bare(rest)),
+            "first" => Some(Line::First(rest)),
+            "among" => {
+                let (words, lines) = rest.split_once(" | ")?;
+                Some(Line::Among(words, lines))
+            }
+            _ => None,
+        }
+    }
+
+    /// The words that it runs.
+    fn words(self) -> &'a str {
+        match self {
+            Line::Run(words)
+            | Line::Count(words)
+            | Line::Bare(words)
+            | Line::First(words)
+            | Line::Among(words, _) => words,
+        }
+    }
+}
+
 /// How a run ended.
 #[derive(Drop)]
 struct Ended {
@@ -25,17 +71,27 @@ struct Ended {
     calls: u64,
 }
 
-/// Runs the words of a line, with the two stewards of the program or with none.
-fn end_of(rt: &HostRuntime, desk: &mut MemDesk, line: &str, has_stewards: bool) -> Result<Ended> {
-    let alloc = rt.alloc();
+/// The two stewards of the program, or none for a line that wants none.
+fn stewards(alloc: Global, line: Line<'_>) -> Result<Vec<Box<dyn Steward>>, AllocError> {
     let mut stewards: Vec<Box<dyn Steward>> = Vec::new(alloc);
-    if has_stewards {
+    if !matches!(line, Line::Bare(_)) {
         stewards.push(Box::new(alloc, Ceiling::new())?)?;
         stewards.push(Box::new(alloc, EngineNoise::new())?)?;
     }
+    Ok(stewards)
+}
+
+/// Runs the words of a line.
+fn end_of<Rt: Threads + Wait + Sync>(
+    rt: &Rt,
+    alloc: Global,
+    desk: &mut MemDesk,
+    line: Line<'_>,
+) -> Result<Ended> {
+    let mut stewards = stewards(alloc, line)?;
     let calls = desk.calls();
     let length = desk.printed().len();
-    let words = words(alloc, line)?;
+    let words = words(alloc, line.words())?;
     let status = gl_app::run(rt, alloc, &words, desk, &OpenGate, &mut stewards);
     let said = desk.printed().get(length..).unwrap_or(b"");
     Ok(Ended {
@@ -45,55 +101,44 @@ fn end_of(rt: &HostRuntime, desk: &mut MemDesk, line: &str, has_stewards: bool) 
     })
 }
 
-/// `run WORDS` runs the words, and says how that ended and what it said.
-pub fn run(rt: &HostRuntime, desk: &mut MemDesk, line: &str) -> Result<()> {
-    let ended = end_of(rt, desk, line, true)?;
-    println!(rt; "{line}: {:?} {:?}", ended.status, ended.said)?;
-    Ok(())
-}
-
-/// `count WORDS` does the same, and says how many calls of the desk it made.
-pub fn count(rt: &HostRuntime, desk: &mut MemDesk, line: &str) -> Result<()> {
-    let ended = end_of(rt, desk, line, true)?;
-    println!(rt;
-        "{line}: {:?} {:?} by {} calls",
-        ended.status, ended.said, ended.calls
-    )?;
-    Ok(())
-}
-
-/// `bare WORDS` runs the words without stewards.
-pub fn bare(rt: &HostRuntime, desk: &mut MemDesk, line: &str) -> Result<()> {
-    let ended = end_of(rt, desk, line, false)?;
-    println!(rt;
-        "{line} without stewards: {:?} {:?}",
-        ended.status, ended.said
-    )?;
-    Ok(())
-}
-
-/// `first WORDS` runs the words, and says the first line of what that said.
-pub fn first(rt: &HostRuntime, desk: &mut MemDesk, line: &str) -> Result<()> {
-    let ended = end_of(rt, desk, line, true)?;
-    let said = ended.said.as_str().lines().next().unwrap_or("");
-    println!(rt; "{line}: {:?} {said:?} first", ended.status)?;
-    Ok(())
-}
-
-/// `among WORDS | LINE | LINE` runs the words, and says the first line of what that said and whether
-/// the rest of it is one of these lines.
-pub fn among(rt: &HostRuntime, desk: &mut MemDesk, rest: &str) -> Result<()> {
-    let (line, right) = rest.split_once(" | ").unwrap_or((rest, ""));
-    let ended = end_of(rt, desk, line, true)?;
+/// The first line of what was said, and whether the rest is one of the lines, which are parted by
+/// ` | `.
+fn among(alloc: Global, ended: &Ended, lines: &str) -> Result<String> {
     let (total, fixes) = ended.said.as_str().split_once('\n').context("one line")?;
-    let right = right.replace(rt.alloc(), " | ", "\n")?;
-    let right = format!(in rt.alloc(); "\n{right}\n")?;
-    let rest = format!(in rt.alloc(); "\n{fixes}")?;
+    let lines = lines.replace(alloc, " | ", "\n")?;
+    let lines = format!(in alloc; "\n{lines}\n")?;
+    let rest = format!(in alloc; "\n{fixes}")?;
     let is_line = !fixes.is_empty() && fixes.ends_with('\n');
-    let is_right = is_line && right.as_str().contains(rest.as_str());
-    println!(rt;
-        "{line}: {:?} {total:?}, right fixes: {is_right}",
-        ended.status
-    )?;
-    Ok(())
+    let is_right = is_line && lines.as_str().contains(rest.as_str());
+    Ok(format!(in alloc; "{total:?}, right fixes: {is_right}")?)
+}
+
+/// Runs the words of a line, and answers what the line wants to know.
+pub fn run<Rt: Threads + Wait + Sync>(
+    rt: &Rt,
+    alloc: Global,
+    desk: &mut MemDesk,
+    line: Line<'_>,
+) -> Result<String> {
+    let ended = end_of(rt, alloc, desk, line)?;
+    let words = line.words();
+    let status = ended.status;
+    let said = ended.said.as_str();
+    let told = match line {
+        Line::Run(_) => format!(in alloc; "{words}: {status:?} {said:?}")?,
+        Line::Count(_) => {
+            let calls = ended.calls;
+            format!(in alloc; "{words}: {status:?} {said:?} by {calls} calls")?
+        }
+        Line::Bare(_) => format!(in alloc; "{words} without stewards: {status:?} {said:?}")?,
+        Line::First(_) => {
+            let first = said.lines().next().unwrap_or("");
+            format!(in alloc; "{words}: {status:?} {first:?} first")?
+        }
+        Line::Among(_, lines) => {
+            let among = among(alloc, &ended, lines)?;
+            format!(in alloc; "{words}: {status:?} {among}")?
+        }
+    };
+    Ok(told)
 }

@@ -1,0 +1,23 @@
+// Two workers of a whole run are at the gate at the same time.
+use crate::folder::{CLAIM, RACE, SHEET, filled, joined, names, race, stewards, text_of};
+use gl_app::{Status, run};
+use gl_pool_examples::Meeting;
+use std::test::Fail;
+
+/// `score` by two workers hands its one claim to both of them, and comes to the sheet and the proof of
+/// the day.
+#[test]
+fn two_workers_of_a_day_see_each_other_at_the_gate(rt: HostRuntime) -> Result<(), Fail> {
+    let alloc = rt.alloc();
+    let mut desk = filled(alloc, &race(alloc, RACE)?, 0)?;
+    let words = names(alloc, "score DAY.TOML P.TXT 2")?;
+    let gate = Meeting::new();
+    let status = run(&rt, alloc, &words, &mut desk, &gate, &mut stewards(alloc)?);
+    assert!(rt; gate.both_met());
+    assert_eq!(rt; status, Status::Done);
+    assert_eq!(rt; desk.printed(), SHEET.as_bytes());
+    let proof = text_of(alloc, &desk, "P.TXT")?.unwrap_or(String::new(alloc));
+    let right = joined(alloc, &["GLIDEPROOF 1\n", CLAIM, "END\n"])?;
+    assert_eq!(rt; proof.as_str(), right.as_str());
+    Ok(())
+}
