@@ -1,5 +1,6 @@
-ghost use Rattle.std.specs.Prelude.{◌≡◌, ◌↔◌, IfNone, IfSome, IsNone};
+ghost use Rattle.std.specs.Prelude.{◌≡◌, ◌↔◌, ℕ, List, [], ◌∷◌, IfNone, IfSome, IsNone};
 ghost use Rattle.gl_box.specs.Cell.{spans_of};
+ghost use Rattle.gl_box.specs.Frontier.{mult};
 ghost use Rattle.gl_box.specs.Halves.{AreHalves, IsSingle, IsWidest};
 
 use crate::cell::Cell;
@@ -53,11 +54,15 @@ pub fn halve(cell: &mut Cell) -> Option<Cell>
     Some(lower)
 }
 
-/// The lower and the upper half of a cell, cut in the middle of its widest span. `None` exactly
-/// where the cell holds a single tuple.
+/// The lower and the upper half of a cell, cut in the middle of its widest span: each tuple of the
+/// cell lies in exactly one of them, and they hold no other. `None` exactly where the cell holds a
+/// single tuple.
 pub fn split(cell: &Cell) -> Option<(Cell, Cell)>
     ensures halves { IfSome result
         (λ halves. AreHalves (spans_of cell.now) (spans_of halves.0) (spans_of halves.1)) }
+    ensures parted { IfSome result (λ halves. (tuple : List ℕ)
+        → mult (spans_of halves.0 ∷ spans_of halves.1 ∷ []) tuple
+        ≡ mult (spans_of cell.now ∷ []) tuple) }
     ensures single { IsNone result ↔ IsSingle (spans_of cell.now) }
 {
     let mut upper = *cell;

@@ -1,5 +1,6 @@
 ghost use Rattle.std.specs.Prelude.{◌≡◌, ◌≤◌, ◌↔◌, length, IsTrue, IfOk, OnOk, OnErr};
 ghost use Rattle.std.specs.Io.KnownBytes.{Appends};
+ghost use Rattle.std.specs.IoError.{error_kind};
 ghost use Rattle.gl_desk.specs.Answers.{CountsFaults, stop_of};
 ghost use Rattle.gl_desk.specs.Desk.{TakesPrefix};
 ghost use Rattle.gl_desk.specs.Outcome.{IsWantOfMemory, Settles};
@@ -66,6 +67,13 @@ fn read_file<Rt: Files>(rt: &Rt, name: &str, at: u64, into: &mut [u8]) -> Result
     read(&mut file, into)
 }
 
+/// What a write is answered with that takes nothing of a piece that isn't empty.
+fn nothing_taken() -> SystemError
+    ensures { error_kind result.error ≡ ErrorKind.WriteZero }
+{
+    SystemError::from(io::Error::from(ErrorKind::WriteZero))
+}
+
 /// Writes all of `piece`, by as many writes as it takes. A write that takes nothing of what is left
 /// is an error. After an error a prefix of `piece` was written, perhaps an empty one.
 fn write_whole<W: Write>(to: &mut W, piece: &[u8]) -> Result<(), SystemError>
@@ -77,7 +85,7 @@ fn write_whole<W: Write>(to: &mut W, piece: &[u8]) -> Result<(), SystemError>
     'parts: while at < piece.len() {
         let taken = write(to, &piece[at..])?;
         if taken == 0 {
-            return Err(SystemError::from(io::Error::from(ErrorKind::WriteZero)));
+            return Err(nothing_taken());
         }
         at += taken;
     }

@@ -2,7 +2,6 @@ ghost use Rattle.std.specs.Prelude.{◌≡◌, ◌+◌, ◌≤◌, ◌++◌, ◌
 ghost use Rattle.std.specs.Option.{option_to_list};
 ghost use Rattle.std.specs.Fs.{dir_entry_name, IsFile};
 ghost use Rattle.std.specs.IoError.{error_kind};
-ghost use Rattle.gl_desk.specs.declared.listing.TheConstants.{MOST_ENTRIES};
 ghost use Rattle.gl_desk.specs.Outcome.{IsUnnamed};
 
 use crate::name::Name;
@@ -17,7 +16,9 @@ use std::{fs, io};
 const MOST_ENTRIES: u64 = 1_000_000;
 
 /// What a folder with more entries is answered with.
-fn too_many_entries() -> io::Error {
+fn too_many_entries() -> io::Error
+    ensures { error_kind result ≡ ErrorKind.Other }
+{
     io::Error::new(ErrorKind::Other, "too many entries")
 }
 
@@ -26,7 +27,7 @@ fn too_many_entries() -> io::Error {
 struct Listing {
     entries: u64,
     names: Vec<Name>,
-    ghost most: { entries ≤ MOST_ENTRIES },
+    ghost most: { entries ≤ 1_000_000 },
     ghost seen: { vec_len names ≤ entries },
 }
 
@@ -44,13 +45,14 @@ impl Listing {
 
     /// Counts an entry, and lists its name where it has one to be listed. An error in its place is
     /// handed on. Beside want of memory the one other error is an entry after the [`MOST_ENTRIES`]
-    /// that a folder may have.
+    /// that a folder may have, and it isn't told as want of memory.
     fn add(&mut self, entry: Result<Option<Name>, SystemError>) -> Result<(), SystemError>
         ensures handed_on { IfErr entry (λ error. result ≡ Err error) }
         ensures counted { OnOk result (self.new.entries ≡ self.old.entries + 1) }
         ensures listed { IfOk entry (λ name. OnOk result
             (self.new.names.items ≡ self.old.names.items ++ option_to_list name)) }
-        ensures refused { OnOk entry (IfErr result (λ error. (self.old.entries ≡ MOST_ENTRIES)
+        ensures refused { OnOk entry (IfErr result (λ error.
+            (self.old.entries ≡ 1_000_000) × (error_kind error.error ≡ ErrorKind.Other)
             ⊎ (error_kind error.error ≡ ErrorKind.OutOfMemory))) }
     {
         let name = entry?;
@@ -114,7 +116,7 @@ fn listed_name<Rt: Files + Drop>(
 /// The names of the plain files in the current folder. More than [`MOST_ENTRIES`] entries of any
 /// kind are an error.
 pub fn plain_names<Rt: Files>(rt: &Rt, alloc: Global) -> Result<Vec<Name>, SystemError>
-    ensures { IfOk result (λ names. vec_len names ≤ MOST_ENTRIES) }
+    ensures { IfOk result (λ names. vec_len names ≤ 1_000_000) }
 {
     let mut listing = Listing::new(alloc);
     for entry in fs::read_dir(&(rt, alloc), ".")? {

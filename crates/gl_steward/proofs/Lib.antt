@@ -1,1 +1,2 @@
 pub mod Charged
+pub mod Owed

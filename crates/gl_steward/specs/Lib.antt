@@ -1,3 +1,4 @@
 pub mod Ceiling
 pub mod EngineNoise
+pub mod Laws
 pub mod Penalty

@@ -1,4 +1,5 @@
 ghost use Rattle.std.specs.Prelude.{◌≡◌, ◌≤◌, [], ◌∷◌};
+ghost use Rattle.std.specs.Option.{ForNone};
 
 use crate::steward::Steward;
 use gl_igc::Fix;
@@ -15,6 +16,7 @@ pub struct EngineNoise {
     points: u32,
     noisy: u32,
     ghost at_most_three: { noisy ≤ 3 },
+    ghost none_without: { ForNone level (noisy ≡ 0) },
 }
 
 impl EngineNoise {
@@ -58,7 +60,7 @@ impl Steward for EngineNoise {
     }
 
     fn due(&self) -> u32 {
-        if self.level.is_some() && self.noisy == NOISY_FIXES {
+        if self.noisy == NOISY_FIXES {
             self.points
         } else {
             0

@@ -4,6 +4,7 @@
 mod ceiling;
 mod engine_noise;
 mod height;
+pub mod laws;
 mod penalty;
 mod steward;
 
