@@ -1,5 +1,8 @@
-ghost use Rattle.std.specs.Prelude.{◌≡◌, ◌↔◌, IfOk};
-ghost use Rattle.gl_goal.specs.Rule.{IsOptimum};
+ghost use Rattle.std.specs.Prelude.{◌≡◌, ◌↔◌, ℕ, List, map, IfOk};
+ghost use Rattle.gl_box.specs.Cell.{Holds};
+ghost use Rattle.gl_box.specs.Closed.{box_of};
+ghost use Rattle.gl_box.specs.Frontier.{mult};
+ghost use Rattle.gl_goal.specs.Rule.{IsOptimum, whole_cell};
 ghost use Rattle.gl_check.specs.Checked.{IsCertified, IsCheckedAs};
 ghost use Rattle.gl_check.specs.declared.verdict.Verdict.{Verdict};
 ghost use Rattle.gl_check.specs.declared.verdict.Verdict.TheVariants.{Yes};
@@ -24,7 +27,8 @@ fn verdict_of<G: Goal>(alloc: Global, goal: &G, claim: &Claim) -> Result<Verdict
 /// Checks a claim against a goal: `Yes` exactly where its boxes certify its total and its fixes,
 /// and else the first thing that is wrong, in the order of [`Verdict`] and then of the boxes.
 /// Nothing is taken on trust of whoever made the claim. Where the answer is `Yes`, the total is the
-/// optimum of the goal. The only error is want of memory.
+/// optimum of the goal, and each choice of fixes lies in exactly one of the boxes. The only error is
+/// want of memory.
 pub fn check_claim<G: Goal>(alloc: Global, goal: &G, claim: &Claim) -> Result<Verdict, AllocError>
     ensures verdict { IfOk result (IsCheckedAs (G.rule goal.now) claim.now) }
     ensures only { IfOk result (λ verdict. (other : Verdict)
@@ -33,6 +37,9 @@ pub fn check_claim<G: Goal>(alloc: Global, goal: &G, claim: &Claim) -> Result<Ve
         (verdict ≡ Yes) ↔ IsCertified (G.rule goal.now) claim.now) }
     ensures optimum { IfOk result (λ verdict.
         verdict ≡ Yes → IsOptimum (G.rule goal.now) claim.now.total) }
+    ensures once { IfOk result (λ verdict. verdict ≡ Yes → (tuple : List ℕ)
+        → Holds (whole_cell (G.rule goal.now).axes) tuple
+        → mult (map (λ box. box.0) (map box_of claim.now.cells.items)) tuple ≡ 1) }
 {
     verdict_of(alloc, goal, claim)
 }

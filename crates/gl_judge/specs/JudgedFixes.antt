@@ -1,5 +1,5 @@
 -- Which fixes of a flight are judged.
-use Rattle.std.specs.Prelude.{◌≡◌, ℕ, ◌<◌, ◌≤◌, Bool, false, List, length, slice_get, Some, ℤ, pos, ◌≤ℤ◌}
+use Rattle.std.specs.Prelude.{◌≡◌, ℕ, ◌<◌, ◌≤◌, Bool, false, List, length, position, slice_get, Some, unwrap_or, ℤ, pos, int_le, ◌≤ℤ◌}
 use Rattle.std.specs.List.{list_any}
 use Rattle.gl_igc.specs.declared.fix.Fix.{Fix}
 use Rattle.gl_airspace.specs.declared.volume.Volume.{Volume}
@@ -20,6 +20,10 @@ pub record IsJudgedFix (closes : ℤ) (volumes : List Volume) (fixes : List Fix)
   pub in_time : (j : ℕ) (fix : Fix) → j ≤ i → slice_get fixes j ≡ Some fix → fix.second ≤ℤ closes
   pub outside : (j : ℕ) (fix : Fix) → j ≤ i → slice_get fixes j ≡ Some fix → pos 0 ≤ℤ fix.second
       → is_in_airspace volumes fix ≡ false
+
+-- the number of the first fix with second 0 or more; how many fixes there are where none has
+abbrev pub first_of_day : List Fix → ℕ
+first_of_day fixes = unwrap_or (position (λ fix. int_le (pos 0) fix.second) fixes) (length fixes)
 
 -- a number stands in a range, from its first number up to but without its second
 abbrev pub IsInRange : ℕ × ℕ → ℕ → Type 0

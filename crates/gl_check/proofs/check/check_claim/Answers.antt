@@ -1,6 +1,8 @@
 use Rattle.std.proofs.lemmas.Result.{IfOk-weaker}
 use Rattle.std.proofs.Common.{map}
 use Rattle.gl_box.specs.Closed.{box_of}
+use Rattle.gl_box.specs.Laws.Parts.{mult-held}
+use Rattle.gl_goal.specs.Rule.{whole_cell}
 use Rattle.gl_goal.specs.Laws.Optimum.{certificate_optimum}
 use Rattle.gl_check.proofs.Exact.{verdict_unique}
 use Rattle.gl_check.proofs.Judged.{yes_exactly}
@@ -21,3 +23,10 @@ returns-clause-optimum g c =
     let claim = c.args.claim.now in
     let rule = g.G.Goal.rule c.args.goal.now in
     IfOk-weaker c.verdict_of.result _ _ (λ verdict said yes. certificate_optimum rule claim.total claim.fixes.items (map box_of claim.cells.items) (g.met.G.Goal.laws c.args.goal.now) ((yes_exactly rule claim.total claim.fixes.items (map box_of claim.cells.items) verdict said).0 yes)) c.verdict_of.ensures
+
+pub returns-clause-once : goal.returns-clause-once
+returns-clause-once g c =
+    let claim = c.args.claim.now in
+    let rule = g.G.Goal.rule c.args.goal.now in
+    let boxes = map box_of claim.cells.items in
+    IfOk-weaker c.verdict_of.result _ _ (λ verdict said yes tuple held. mult-held (whole_cell rule.axes) (map (λ box. box.0) boxes) tuple ((yes_exactly rule claim.total claim.fixes.items boxes verdict said).0 yes).frontier held) c.verdict_of.ensures

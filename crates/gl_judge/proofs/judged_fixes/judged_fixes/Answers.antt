@@ -4,12 +4,12 @@ use Rattle.std.proofs.lemmas.Int.{ints, to_z-of_z}
 use Rattle.gl_airspace.specs.Inside.{fixes_before_airspace}
 use Rattle.gl_igc.specs.declared.fix.Fix.{Fix}
 use Rattle.gl_igc.specs.Seconds.{is_rising}
-use Rattle.gl_judge.specs.JudgedFixes.{IsJudgedRange}
+use Rattle.gl_judge.specs.JudgedFixes.{IsJudgedRange, first_of_day}
 use Rattle.gl_judge.proofs.Ranges.{range-is}
 use Rattle.gl_judge.proofs.judged_fixes.judged_fixes.Goals as goal
 
-pub returns : goal.returns
-returns c =
+pub returns-clause-range : goal.returns-clause-range
+returns-clause-range c =
     let fits : FitsSigned w32 c.args.task.now.closes = search rules in
     let rising : IsTrue (is_rising (map (λ fix. fix.second) c.as_slice-fixes.result.now)) =
     subst (λ (list : List Fix). IsTrue (is_rising (map (λ fix. fix.second) list))) (sym c.as_slice-fixes.ensures) c.args.rec.now.rising in
@@ -22,3 +22,9 @@ returns c =
     (c.unwrap_or-end.ensures ∙ ap (λ o. unwrap_or o (length c.as_slice-fixes.result.now)) c.first_too_late.ensures
     ∙ ap (λ z. unwrap_or (position (λ (fix : Fix). int_lt z fix.second) c.as_slice-fixes.result.now) (length c.as_slice-fixes.result.now)) (to_z-of_z w32 c.args.task.now.closes fits))
     to_is)
+
+pub returns-clause-first : goal.returns-clause-first
+returns-clause-first c =
+    c.unwrap_or-from.ensures
+    ∙ ap (λ o. unwrap_or o (length c.as_slice-fixes.result.now)) c.first_of_day.ensures
+    ∙ ap (λ (list : List Fix). first_of_day list) c.as_slice-fixes.ensures
