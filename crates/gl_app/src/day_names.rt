@@ -44,7 +44,7 @@ fn read_names<'a>(task: &'a Name, proof: &'a Name) -> Option<DayNames<'a>>
 }
 
 /// The number from 1 to 16 that a word writes.
-fn read_workers(word: &Name) -> Option<Workers>
+pub fn read_workers(word: &Name) -> Option<Workers>
     ensures { MatchOption result
         (is_worker_count word.now ≡ false)
         (λ workers. (is_worker_count word.now ≡ true)
