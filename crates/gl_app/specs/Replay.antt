@@ -19,8 +19,8 @@ use Rattle.gl_app.specs.Words.{ReplayWords}
 unfoldable pub closed_line : ℕ → List ℕ
 closed_line count = codes "CLOSED " ++ decimal count ++ 10 ∷ []
 
--- So many boxes some workers close by their steps: one state of their machine comes of these, and
--- there all workers together have closed so many.
+-- How many boxes some workers close by their steps: by these they come to one state of the machine
+-- and to no other, and in it all workers together have closed so many.
 pub record CloseSoMany (rule : Rule) (workers : ℕ) (steps : List Step) (count : ℕ)
     : Type 0 where
   pub state : State

@@ -134,6 +134,6 @@ abbrev pub named_workers : Option DayNames → List (List ℕ) → ℕ
 named_workers None words = 1
 named_workers (Some names) words = digits_value 10 (slice_index_or words 3 [])
 
--- how many workers words ask for: 1, unless they are of `score`
+-- how many workers the words let work side by side: 1, unless they are of `score`
 abbrev pub workers_of : List (List ℕ) → ℕ
 workers_of words = named_workers (score_form words) words
