@@ -35,7 +35,7 @@ use Rattle.gl_app.specs.DayFiles.{IsAirspaceFor, IsAirspaceOf, IsCheckTested, Is
 use Rattle.gl_app.specs.Listed.{most_proof_bytes}
 use Rattle.gl_app.specs.Score.{IsDayScored, IsScore, statements_of_all}
 use Rattle.gl_app.specs.Run.{ChecksScored, IsRight}
-use Rattle.gl_app.specs.Words.{Check, Command, DayNames, Demo, Free, Score, Triangle}
+use Rattle.gl_app.specs.Words.{Check, Command, DayNames, Demo, Free, Replay, Score, Triangle}
 use Rattle.gl_app.proofs.DayPasses.{PassedDay, check_parts, check_with, day_passed, listed_ok, listed_then, new_ok, ok_or_err}
 use Rattle.gl_app.proofs.Flights.{all_asked}
 use Rattle.gl_goal.specs.Laws.Chain.{AllZip-length}
@@ -234,4 +234,5 @@ right_accepted (Some files) stewards (Some (Free file)) answer checks right = ab
 right_accepted (Some files) stewards (Some (Triangle file)) answer checks right = absurd checks
 right_accepted (Some files) stewards (Some (Score names)) answer checks right = absurd checks
 right_accepted (Some files) stewards (Some (Check names)) answer checks right = scored_accepted files names answer checks right
+right_accepted (Some files) stewards (Some (Replay words)) answer checks right = absurd checks
 right_accepted (Some files) stewards (Some (Demo number)) answer checks right = absurd checks

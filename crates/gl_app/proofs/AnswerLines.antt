@@ -2,7 +2,7 @@
 use Rattle.std.proofs.Common.{◌≡◌, ◌≢◌, refl, sym, subst, ℕ, ◌-◌, Bool, true, false, ◌&&◌, if◌then◌else◌, List, [], ◌∷◌, length, take, Option, None, Some, codes}
 use Rattle.std.specs.Prelude.{IfNone, option_map}
 use Rattle.std.specs.Cmp.{first_so, second_so}
-use Rattle.std.specs.Fmt.{decimal}
+use Rattle.std.specs.Str.Parse.{digits_value}
 use Rattle.std.specs.Option.{option_or}
 use Rattle.gl_desk.specs.Desk.{FilesByName, followed_by}
 use Rattle.gl_day.specs.Flight.{StewardRules}
@@ -13,8 +13,9 @@ use Rattle.gl_app.specs.Triangle.{IsTriangleText}
 use Rattle.gl_app.specs.Run.{IsRight, SaidLine}
 use Rattle.gl_app.specs.Statuses.{stop_at}
 use Rattle.gl_app.specs.Texts.{IsLine, usage_line}
-use Rattle.gl_app.specs.Words.{Check, Command, DayNames, Demo, Free, Score, Triangle, check_form, command_of, day_names, demo_form, file_form, is_file_name, is_text, is_worker_count, score_form}
+use Rattle.gl_app.specs.Words.{Check, Command, DayNames, Demo, Free, Replay, ReplayWords, Score, Triangle, check_form, command_of, day_names, demo_form, file_form, is_file_name, is_text, is_worker_count, replay_form, replay_words, score_form}
 use Rattle.gl_app.proofs.DayLines.{AreUnbroken, check_line, score_line, demo_line}
+use Rattle.gl_app.proofs.ReplayLines.{HasUnbrokenFiles, replay_line}
 use Rattle.gl_app.proofs.LineTexts.{of_file_line, is_unbroken, is_unbroken-file, line_of}
 
 -- the files of a command have such names
@@ -24,6 +25,7 @@ HasUnbrokenNames (Some (Free file)) = is_unbroken file ≡ true
 HasUnbrokenNames (Some (Triangle file)) = is_unbroken file ≡ true
 HasUnbrokenNames (Some (Score names)) = AreUnbroken names
 HasUnbrokenNames (Some (Check names)) = AreUnbroken names
+HasUnbrokenNames (Some (Replay words)) = HasUnbrokenFiles words
 HasUnbrokenNames (Some (Demo number)) = Unit {0}
 
 -- so has one file
@@ -83,6 +85,37 @@ check_names (word ∷ task ∷ []) = tt
 check_names (word ∷ task ∷ proof ∷ []) = if_names (is_text word (codes "check")) (day_names task proof) (day_names_unbroken task proof)
 check_names (word ∷ task ∷ proof ∷ more ∷ words) = tt
 
+-- so have the two files of `replay`
+abbrev HaveUnbrokenFiles : Option ReplayWords → Type 0
+HaveUnbrokenFiles None = Unit {0}
+HaveUnbrokenFiles (Some words) = HasUnbrokenFiles words
+
+some_files : (are : Bool) (words : ReplayWords) → (are ≡ true → HasUnbrokenFiles words) → HaveUnbrokenFiles (if are then Some words else None)
+some_files true words named = named refl
+some_files false words named = tt
+
+replay_files : (flight schedule : List ℕ) (workers : ℕ) → HaveUnbrokenFiles (replay_words flight schedule workers)
+replay_files flight schedule workers = some_files (is_file_name flight && is_file_name schedule) (record { flight = flight; schedule = schedule; workers = workers }) (λ are. record {
+  flight = is_unbroken-file flight (first_so (is_file_name flight) (is_file_name schedule) are);
+  schedule = is_unbroken-file schedule (second_so (is_file_name flight) (is_file_name schedule) are);
+})
+
+if_files : (is : Bool) (words : Option ReplayWords) → HaveUnbrokenFiles words → HaveUnbrokenFiles (if is then words else None)
+if_files true words named = named
+if_files false words named = tt
+
+replay_names : (words : List (List ℕ)) → HaveUnbrokenFiles (replay_form words)
+replay_names [] = tt
+replay_names (word ∷ []) = tt
+replay_names (word ∷ flight ∷ []) = tt
+replay_names (word ∷ flight ∷ schedule ∷ []) = tt
+replay_names (word ∷ flight ∷ schedule ∷ workers ∷ []) = if_files (is_text word (codes "replay") && is_worker_count workers) (replay_words flight schedule (digits_value 10 workers)) (replay_files flight schedule (digits_value 10 workers))
+replay_names (word ∷ flight ∷ schedule ∷ workers ∷ more ∷ words) = tt
+
+as_replay : (words : Option ReplayWords) → HaveUnbrokenFiles words → HasUnbrokenNames (option_map Replay words)
+as_replay None named = tt
+as_replay (Some words) named = named
+
 as_score : (names : Option DayNames) → HaveUnbroken names → HasUnbrokenNames (option_map Score names)
 as_score None named = tt
 as_score (Some names) named = named
@@ -106,12 +139,15 @@ command_names words =
     let triangle = file_form (codes "triangle") words in
     let score = option_map Score (score_form words) in
     let check = option_map Check (check_form words) in
+    let replay = option_map Replay (replay_form words) in
     let demo = option_map Demo (demo_form words) in
-    let day = option_or score (option_or check demo) in
-    or_names (option_map Free free) (option_or (option_map Triangle triangle) day) (as_free free (file_names (codes "free") words))
-    (or_names (option_map Triangle triangle) day (as_triangle triangle (file_names (codes "triangle") words))
-    (or_names score (option_or check demo) (as_score (score_form words) (score_names words))
-    (or_names check demo (as_check (check_form words) (check_names words)) (as_demo (demo_form words)))))
+    let pair = option_or score (option_or check replay) in
+    or_names (option_map Free free) (option_or (option_map Triangle triangle) (option_or pair demo)) (as_free free (file_names (codes "free") words))
+    (or_names (option_map Triangle triangle) (option_or pair demo) (as_triangle triangle (file_names (codes "triangle") words))
+    (or_names pair demo
+    (or_names score (option_or check replay) (as_score (score_form words) (score_names words))
+    (or_names check replay (as_check (check_form words) (check_names words)) (as_replay (replay_form words) (replay_names words))))
+    (as_demo (demo_form words))))
 
 usage_is_line : IsLine usage_line
 usage_is_line = line_of (take (length usage_line - 1) usage_line) refl
@@ -122,6 +158,7 @@ answer_line folder stewards (Some (Free file)) answer names right unless = of_fi
 answer_line folder stewards (Some (Triangle file)) answer names right unless = of_file_line IsTriangleText file right.0 answer names right.2 unless
 answer_line folder stewards (Some (Score files)) answer names right unless = score_line folder stewards files answer names right unless
 answer_line folder stewards (Some (Check files)) answer names right unless = check_line folder files answer names right unless
+answer_line folder stewards (Some (Replay words)) answer names right unless = replay_line folder words answer names right unless
 answer_line folder stewards (Some (Demo number)) answer names right unless = demo_line stewards number answer right unless
 
 pub if_none : {X P : Type 0} (o : Option X) → P → IfNone o P

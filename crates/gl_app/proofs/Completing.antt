@@ -27,7 +27,7 @@ use Rattle.gl_app.specs.Appending.{IsAppended}
 use Rattle.gl_app.specs.Asked.{AreAsked}
 use Rattle.gl_app.specs.Run.{GivesBegun, IsBegunFor, IsRight, IsStopped, Stops}
 use Rattle.gl_app.specs.Score.{IsBegun, IsDayScored, IsScoreBegun, IsScored, Scored, flights_of_all, statements_of_all, text_so_far}
-use Rattle.gl_app.specs.Words.{Check, Command, DayNames, Demo, Free, Score, Triangle}
+use Rattle.gl_app.specs.Words.{Check, Command, DayNames, Demo, Free, Replay, Score, Triangle}
 use Rattle.gl_app.proofs.Flights.{all_texts, length-flights, zip-append}
 
 -- what is seen of a file, where the folder may be told or not
@@ -186,6 +186,7 @@ begun_part_for folder stewards (Some (Free file)) text begun = absurd begun
 begun_part_for folder stewards (Some (Triangle file)) text begun = absurd begun
 begun_part_for folder stewards (Some (Score names)) text begun = score_part folder stewards names text begun
 begun_part_for folder stewards (Some (Check names)) text begun = absurd begun
+begun_part_for folder stewards (Some (Replay words)) text begun = absurd begun
 begun_part_for folder stewards (Some (Demo number)) text begun = absurd begun
 
 said_none : (said : Option (List ℕ)) → said ≡ followed_by said []

@@ -50,25 +50,25 @@ file_unbroken file named =
     list_all-from_AllPass is_inside file (All-weaker (λ b. forms.is_in_file_name b ≡ true) (λ b. is_inside b ≡ true) inside-file_byte file (AllPass-from_list_all forms.is_in_file_name file bytes))
 
 -- what is refused, if something is, has a name without LF
-abbrev RefusesNamed : {X : Type 0} → Tested X → Type 0
+abbrev pub RefusesNamed : {X : Type 0} → Tested X → Type 0
 RefusesNamed (Ok x) = Unit {0}
 RefusesNamed (Err refusal) = is_unbroken refusal.file ≡ true
 
-refuses : {X : Type 0} (tested : Tested X) (file : List ℕ) (cause : Cause) → is_unbroken file ≡ true → tested ≡ Err (file_refusal file cause) → RefusesNamed tested
+pub refuses : {X : Type 0} (tested : Tested X) (file : List ℕ) (cause : Cause) → is_unbroken file ≡ true → tested ≡ Err (file_refusal file cause) → RefusesNamed tested
 refuses tested file cause named same = subst RefusesNamed (sym same) named
 
-passes : {X : Type 0} (tested : Tested X) (x : X) → tested ≡ Ok x → RefusesNamed tested
+pub passes : {X : Type 0} (tested : Tested X) (x : X) → tested ≡ Ok x → RefusesNamed tested
 passes tested x same = subst RefusesNamed (sym same) tt
 
-refuses_for : {X : Type 0} (tested : Tested X) (file : List ℕ) (cause : Option Cause) → is_unbroken file ≡ true → IsRefusedFor file cause tested → RefusesNamed tested
+pub refuses_for : {X : Type 0} (tested : Tested X) (file : List ℕ) (cause : Option Cause) → is_unbroken file ≡ true → IsRefusedFor file cause tested → RefusesNamed tested
 refuses_for tested file None named is = absurd is
 refuses_for tested file (Some cause) named is = refuses tested file cause named is
 
-large_or : {X : Type 0} (large : Bool) (tested : Tested X) (file : List ℕ) (cause : Cause) (P : Type 0) → is_unbroken file ≡ true → (P → RefusesNamed tested) → MatchBool large (tested ≡ Err (file_refusal file cause)) P → RefusesNamed tested
+pub large_or : {X : Type 0} (large : Bool) (tested : Tested X) (file : List ℕ) (cause : Cause) (P : Type 0) → is_unbroken file ≡ true → (P → RefusesNamed tested) → MatchBool large (tested ≡ Err (file_refusal file cause)) P → RefusesNamed tested
 large_or true tested file cause P named follows is = refuses tested file cause named is
 large_or false tested file cause P named follows is = follows is
 
-listed_or : {X : Type 0} (seen : Option (List ℕ)) (tested : Tested X) (file : List ℕ) (P : List ℕ → Type 0) → is_unbroken file ≡ true → ((bytes : List ℕ) → P bytes → RefusesNamed tested) → IfListed file seen tested P → RefusesNamed tested
+pub listed_or : {X : Type 0} (seen : Option (List ℕ)) (tested : Tested X) (file : List ℕ) (P : List ℕ → Type 0) → is_unbroken file ≡ true → ((bytes : List ℕ) → P bytes → RefusesNamed tested) → IfListed file seen tested P → RefusesNamed tested
 listed_or None tested file P named follows is = refuses tested file _ named is
 listed_or (Some bytes) tested file P named follows is = follows bytes is
 
@@ -76,7 +76,7 @@ new_or : {X : Type 0} (seen : Option (List ℕ)) (tested : Tested X) (P Q : Type
 new_or None tested P Q new listed is = new is
 new_or (Some bytes) tested P Q new listed is = listed is
 
-passed_or : {X Y : Type 0} (first : Tested X) (tested : Tested Y) (P : X → Type 0) → RefusesNamed first → ((x : X) → first ≡ Ok x → P x → RefusesNamed tested) → IfPassed first tested P → RefusesNamed tested
+pub passed_or : {X Y : Type 0} (first : Tested X) (tested : Tested Y) (P : X → Type 0) → RefusesNamed first → ((x : X) → first ≡ Ok x → P x → RefusesNamed tested) → IfPassed first tested P → RefusesNamed tested
 passed_or (Ok x) tested P named follows is = follows x refl is
 passed_or (Err refusal) tested P named follows is = subst RefusesNamed (sym is) named
 

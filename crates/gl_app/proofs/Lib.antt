@@ -19,6 +19,10 @@ pub mod OneAnswer
 pub mod OneDay
 pub mod OneFlight
 pub mod Readings
+pub mod ReplayLines
+pub mod ReplayPasses
+pub mod ReplayTests
+pub mod Replays
 pub mod Pieces
 pub mod Rights
 pub mod Shelves

@@ -12,7 +12,7 @@ use Rattle.gl_igc.specs.Reading.{Reading, recording_of}
 use Rattle.gl_igc.specs.declared.error.IgcError.{IgcError}
 use Rattle.gl_igc.specs.declared.error.IgcError.TheVariants as igc
 use Rattle.gl_app.specs.declared.refusal.Cause.{Cause}
-use Rattle.gl_app.specs.declared.refusal.Cause.TheVariants.{NotListed, Listed, TooLarge, NotIgc, NoDate, TooManyFixes, NoFix, NotToml, NoKey, WrongValue, NumberTwice, TooManyItems, WrongAirspace, TooMuchAirspace, NoHeading, WrongProof, ProofCut}
+use Rattle.gl_app.specs.declared.refusal.Cause.TheVariants.{NotListed, Listed, TooLarge, NotIgc, NoDate, TooManyFixes, NoFix, NotToml, NoKey, WrongValue, NumberTwice, TooManyItems, WrongAirspace, TooMuchAirspace, WrongStep, TooManySteps, NoHeading, WrongProof, ProofCut}
 use Rattle.gl_app.specs.declared.status.Status.TheVariants.{Done}
 use Rattle.gl_app.specs.Answer.{Answer, refused}
 use Rattle.gl_app.specs.OfFile.{IsOfFile, IsOfText}
@@ -92,6 +92,8 @@ kind_unbroken (NumberTwice key) = refl
 kind_unbroken (TooManyItems key) = refl
 kind_unbroken (WrongAirspace line) = refl
 kind_unbroken (TooMuchAirspace line) = refl
+kind_unbroken (WrongStep line) = refl
+kind_unbroken TooManySteps = refl
 kind_unbroken NoHeading = refl
 kind_unbroken (WrongProof line) = refl
 kind_unbroken ProofCut = refl

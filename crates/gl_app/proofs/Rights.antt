@@ -22,11 +22,13 @@ use Rattle.gl_app.specs.Demo.{IsDemo}
 use Rattle.gl_app.specs.Free.{IsFreeText}
 use Rattle.gl_app.specs.OfFile.{IsOfFile, IsOfText, PassesAsRecording}
 use Rattle.gl_app.specs.Triangle.{IsTriangleText}
+use Rattle.gl_app.specs.Replay.{IsReplay}
 use Rattle.gl_app.specs.Run.{Ends, Gives, IsRight, IsRightFor, PassTests, Stops}
 use Rattle.gl_app.specs.Score.{IsScore}
 use Rattle.gl_app.specs.Statuses.{stop_at}
-use Rattle.gl_app.specs.Words.{Check, Command, DayNames, Demo, Free, Score, Triangle}
+use Rattle.gl_app.specs.Words.{Check, Command, DayNames, Demo, Free, Replay, ReplayWords, Score, Triangle}
 use Rattle.gl_app.proofs.DayPasses.{check_not_refused, ok_or_err, score_not_refused}
+use Rattle.gl_app.proofs.ReplayPasses.{replay_not_refused}
 
 -- a command ends with a result, a refusal, or a proof that isn't accepted
 abbrev IsResult : Status → Type 0
@@ -68,6 +70,10 @@ check_result : (folder : Option FilesByName) (names : DayNames) (answer : Answer
 check_result folder names answer (Ok said, found, same) = some_result answer.status (checked_result said answer same)
 check_result folder names answer (Err refusal, found, same) = refuses answer refusal.file refusal.cause same
 
+replay_result : (folder : Option FilesByName) (words : ReplayWords) (answer : Answer) → IsReplay folder words answer → IsResult answer.status
+replay_result folder words answer (Ok read, tested, (said, is, same)) = inl (ap (λ (a : Answer). a.status) same)
+replay_result folder words answer (Err refusal, tested, same) = refuses answer refusal.file refusal.cause same
+
 demo_done : (stewards : List StewardRules) (number : ℕ) (answer : Answer) → IsDemo stewards number answer → answer.status ≡ Done
 demo_done stewards number answer (folder, has, day, tested, announced) = ap (λ (a : Answer). a.status) announced.says
 
@@ -76,6 +82,7 @@ command_result folder stewards (Free file) answer right = of_file_result IsFreeT
 command_result folder stewards (Triangle file) answer right = of_file_result IsTriangleText file right.0 answer right.2
 command_result folder stewards (Score names) answer right = score_result folder stewards names answer right
 command_result folder stewards (Check names) answer right = check_result folder names answer right
+command_result folder stewards (Replay words) answer right = replay_result folder words answer right
 command_result folder stewards (Demo number) answer right = inl (demo_done stewards number answer right)
 
 result_goes_on : (status : Status) → IsResult status → stop_at status ≡ None
@@ -115,6 +122,10 @@ check_passes : (files : FilesByName) (names : DayNames) (answer : Answer) → Pa
 check_passes files names answer passes (Ok said, found, same) = done_no_refusal answer.status (checked_result said answer same)
 check_passes files names answer passes (Err refusal, found, same) = absurd (found_passes files names refusal passes found)
 
+replay_passes : (files : FilesByName) (words : ReplayWords) (answer : Answer) → PassTests (Some files) (Some (Replay words)) → IsReplay (Some files) words answer → answer.status ≢ Refused
+replay_passes files words answer passes (Ok read, tested, (said, is, same)) = done_no_refusal answer.status (inl (ap (λ (a : Answer). a.status) same))
+replay_passes files words answer passes (Err refusal, tested, same) = absurd (replay_not_refused files words refusal passes tested)
+
 of_text_passes : (IsText : Reading → List ℕ → Type 0) (file : List ℕ) (read : Result Reading IgcError) (answer : Answer) → IsOk read → IsOfText IsText file read answer → answer.status ≢ Refused
 of_text_passes IsText file (Ok reading) answer ok right = done_no_refusal answer.status (inl (ap (λ (a : Answer). a.status) right.2))
 of_text_passes IsText file (Err error) answer ok right = absurd (cc)
@@ -133,6 +144,7 @@ command_passes files stewards (Free file) answer passes (seen, there, right) = o
 command_passes files stewards (Triangle file) answer passes (seen, there, right) = of_file_passes IsTriangleText file seen answer (subst PassesAsRecording there passes) right
 command_passes files stewards (Score names) answer passes right = score_passes files stewards names answer passes right
 command_passes files stewards (Check names) answer passes right = check_passes files names answer passes right
+command_passes files stewards (Replay words) answer passes right = replay_passes files words answer passes right
 command_passes files stewards (Demo number) answer passes right = done_no_refusal answer.status (inl (demo_done stewards number answer right))
 
 -- files that pass the tests of a command give a result

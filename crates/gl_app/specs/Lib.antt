@@ -12,6 +12,9 @@ pub mod Triangle
 pub mod Course
 pub mod Run
 pub mod Command
+pub mod ReplayWords
+pub mod ReplayFiles
+pub mod Replay
 pub mod DayNames
 pub mod Halts
 pub mod DayFiles

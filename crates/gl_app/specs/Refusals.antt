@@ -3,7 +3,7 @@ use Rattle.std.specs.Prelude.{ℕ, List, [], ◌∷◌, ◌++◌, codes}
 use Rattle.std.specs.Fmt.{decimal}
 use Rattle.gl_task.specs.declared.error.Key.{Key}
 use Rattle.gl_app.specs.declared.refusal.Cause.{Cause}
-use Rattle.gl_app.specs.declared.refusal.Cause.TheVariants.{NotListed, Listed, TooLarge, NotIgc, NoDate, TooManyFixes, NoFix, NotToml, NoKey, WrongValue, NumberTwice, TooManyItems, WrongAirspace, TooMuchAirspace, NoHeading, WrongProof, ProofCut}
+use Rattle.gl_app.specs.declared.refusal.Cause.TheVariants.{NotListed, Listed, TooLarge, NotIgc, NoDate, TooManyFixes, NoFix, NotToml, NoKey, WrongValue, NumberTwice, TooManyItems, WrongAirspace, TooMuchAirspace, WrongStep, TooManySteps, NoHeading, WrongProof, ProofCut}
 use Rattle.gl_app.specs.declared.refusal.Refusal.{Refusal}
 
 -- where in a file something is refused: nowhere in particular, at a line, or at a key of a task by
@@ -49,6 +49,8 @@ parts_of (NumberTwice key) = parts_at (codes "TASK") 4 (at_key key)
 parts_of (TooManyItems key) = parts_at (codes "TASK") 5 (at_key key)
 parts_of (WrongAirspace line) = parts_at (codes "AIR") 1 (AtLine line)
 parts_of (TooMuchAirspace line) = parts_at (codes "AIR") 2 (AtLine line)
+parts_of (WrongStep line) = parts_at (codes "PLAN") 1 (AtLine line)
+parts_of TooManySteps = parts_at (codes "PLAN") 2 Nowhere
 parts_of NoHeading = parts_at (codes "PROOF") 1 Nowhere
 parts_of (WrongProof line) = parts_at (codes "PROOF") 2 (AtLine line)
 parts_of ProofCut = parts_at (codes "PROOF") 3 Nowhere

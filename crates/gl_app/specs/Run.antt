@@ -12,10 +12,12 @@ use Rattle.gl_app.specs.Check.{IsCheck, IsScoredFolder, PassesCheck}
 use Rattle.gl_app.specs.Demo.{IsDemo}
 use Rattle.gl_app.specs.Statuses.{stop_at}
 use Rattle.gl_app.specs.Score.{IsScore, IsScoreBegun, PassesScore}
-use Rattle.gl_app.specs.Words.{Check, Command, Demo, Free, Score, Triangle, command_of}
+use Rattle.gl_app.specs.Words.{Check, Command, Demo, Free, Replay, Score, Triangle, command_of}
 use Rattle.gl_app.specs.Texts.{IsLine, usage_line}
 use Rattle.gl_app.specs.Free.{IsFree}
 use Rattle.gl_app.specs.OfFile.{PassesAsRecording}
+use Rattle.gl_app.specs.Replay.{IsReplay}
+use Rattle.gl_app.specs.ReplayFiles.{PassesReplay}
 use Rattle.gl_app.specs.Triangle.{IsTriangle}
 
 -- The answer is right for a command: it is right for what the tests of the command saw, and where
@@ -27,6 +29,7 @@ IsRightFor folder stewards (Triangle file) answer =
     (seen : Option (List ℕ)) × IsSeenIn folder file seen × IsTriangle file seen answer
 IsRightFor folder stewards (Score names) answer = IsScore folder stewards names answer
 IsRightFor folder stewards (Check names) answer = IsCheck folder names answer
+IsRightFor folder stewards (Replay words) answer = IsReplay folder words answer
 IsRightFor folder stewards (Demo number) answer = IsDemo stewards number answer
 
 -- the answer is right for words of a command, or of none
@@ -42,6 +45,7 @@ IsBegunFor folder (Some (Free file)) text = ⊥
 IsBegunFor folder (Some (Triangle file)) text = ⊥
 IsBegunFor folder (Some (Score names)) text = IsScoreBegun folder names text
 IsBegunFor folder (Some (Check names)) text = ⊥
+IsBegunFor folder (Some (Replay words)) text = ⊥
 IsBegunFor folder (Some (Demo number)) text = ⊥
 
 -- The desk tells its folder, and its files pass every test of the command. A generated day always
@@ -53,6 +57,7 @@ PassTests (Some files) (Some (Free file)) = PassesAsRecording (files file)
 PassTests (Some files) (Some (Triangle file)) = PassesAsRecording (files file)
 PassTests (Some files) (Some (Score names)) = PassesScore files names
 PassTests (Some files) (Some (Check names)) = PassesCheck files names
+PassTests (Some files) (Some (Replay words)) = PassesReplay files words
 PassTests (Some files) (Some (Demo number)) = ⊤
 
 -- The command checks the proof that `score` wrote, in the folder of its day.
@@ -63,6 +68,7 @@ ChecksScored (Some files) (Some (Free file)) = ⊥
 ChecksScored (Some files) (Some (Triangle file)) = ⊥
 ChecksScored (Some files) (Some (Score names)) = ⊥
 ChecksScored (Some files) (Some (Check names)) = IsScoredFolder files names
+ChecksScored (Some files) (Some (Replay words)) = ⊥
 ChecksScored (Some files) (Some (Demo number)) = ⊥
 
 -- The file that a command appends to, if it does. A further command has its case here.
@@ -72,6 +78,7 @@ target_of (Some (Free file)) = None
 target_of (Some (Triangle file)) = None
 target_of (Some (Score names)) = Some names.proof
 target_of (Some (Check names)) = None
+target_of (Some (Replay words)) = None
 target_of (Some (Demo number)) = None
 
 -- the answer was given: all of it was appended and said, and the run ended with its status; where

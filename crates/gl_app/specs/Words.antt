@@ -11,12 +11,19 @@ pub record DayNames : Type 0 where
   pub task : List ℕ
   pub proof : List ℕ
 
+-- the names of a recording and of a schedule, and how many workers follow it
+pub record ReplayWords : Type 0 where
+  pub flight : List ℕ
+  pub schedule : List ℕ
+  pub workers : ℕ
+
 -- a command and what it is given
 pub data Command : Type 0 where
   Free : List ℕ → Command
   Triangle : List ℕ → Command
   Score : DayNames → Command
   Check : DayNames → Command
+  Replay : ReplayWords → Command
   Demo : ℕ → Command
 
 -- two texts are the same
@@ -77,6 +84,23 @@ check_form (word ∷ task ∷ proof ∷ []) =
     if is_text word (codes "check") then day_names task proof else None
 check_form (word ∷ task ∷ proof ∷ more ∷ words) = None
 
+-- what `replay` is given, where both names are those of files
+abbrev pub replay_words : List ℕ → List ℕ → ℕ → Option ReplayWords
+replay_words flight schedule workers =
+    if is_file_name flight && is_file_name schedule
+    then Some (record { flight = flight; schedule = schedule; workers = workers }) else None
+
+-- `replay FILE SCHEDULE WORKERS`, where the number of workers is 1 to 16
+abbrev pub replay_form : List (List ℕ) → Option ReplayWords
+replay_form [] = None
+replay_form (word ∷ []) = None
+replay_form (word ∷ flight ∷ []) = None
+replay_form (word ∷ flight ∷ schedule ∷ []) = None
+replay_form (word ∷ flight ∷ schedule ∷ workers ∷ []) =
+    if is_text word (codes "replay") && is_worker_count workers
+    then replay_words flight schedule (digits_value 10 workers) else None
+replay_form (word ∷ flight ∷ schedule ∷ workers ∷ more ∷ words) = None
+
 -- the number from 1 to 1,000,000 that a word writes, without a sign and a leading zero
 abbrev pub day_number : List ℕ → Option ℕ
 day_number word =
@@ -91,20 +115,25 @@ demo_form (word ∷ []) = None
 demo_form (word ∷ number ∷ []) = if is_text word (codes "demo") then day_number number else None
 demo_form (word ∷ number ∷ more ∷ words) = None
 
+-- the command that is given the names of two files, if the words are a form of one
+abbrev pub pair_command : List (List ℕ) → Option Command
+pair_command words =
+    option_or (option_map Score (score_form words))
+    (option_or (option_map Check (check_form words)) (option_map Replay (replay_form words)))
+
 -- The command that the words are a form of, if they are one. A further form is tried where none
 -- before it reads.
 unfoldable pub command_of : List (List ℕ) → Option Command
 command_of words =
     option_or (option_map Free (file_form (codes "free") words))
     (option_or (option_map Triangle (file_form (codes "triangle") words))
-    (option_or (option_map Score (score_form words))
-    (option_or (option_map Check (check_form words)) (option_map Demo (demo_form words)))))
+    (option_or (pair_command words) (option_map Demo (demo_form words))))
 
 -- how many workers the words of `score` name
 abbrev pub named_workers : Option DayNames → List (List ℕ) → ℕ
 named_workers None words = 1
 named_workers (Some names) words = digits_value 10 (slice_index_or words 3 [])
 
--- how many workers words ask for: 1, unless they are of `score`
+-- how many workers the words let work side by side: 1, unless they are of `score`
 abbrev pub workers_of : List (List ℕ) → ℕ
 workers_of words = named_workers (score_form words) words

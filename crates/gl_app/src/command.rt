@@ -1,10 +1,11 @@
 ghost use Rattle.std.specs.Prelude.{◌≡◌, option_map};
 ghost use Rattle.std.specs.List.{list_all};
-ghost use Rattle.gl_app.specs.Words.{Demo, command_of, demo_form, file_form, is_dots, is_file_name, is_name_byte};
+ghost use Rattle.gl_app.specs.Words.{Demo, command_of, demo_form, file_form, is_dots, is_file_name, is_name_byte, pair_command};
 ghost use Rattle.gl_app.specs.Command.{seen};
 
 use crate::day_names::{DayNames, read_check, read_score};
 use crate::day_number::{DayNumber, read_demo};
+use crate::replay_words::{ReplayWords, read_replay};
 use gl_desk::Name;
 
 /// The most bytes that the name of a file has.
@@ -21,6 +22,8 @@ pub enum Command<'a> {
     Score(DayNames<'a>),
     /// `check TASK PROOF`: whether a proof is that of a day.
     Check(DayNames<'a>),
+    /// `replay FILE SCHEDULE WORKERS`: the best free distance of a recording by a schedule.
+    Replay(ReplayWords<'a>),
     /// `demo NUMBER`: the sheet of a generated day.
     Demo(DayNumber),
 }
@@ -60,6 +63,16 @@ fn read_file<'a>(first: &str, words: &'a [Name]) -> Option<&'a Name>
     }
 }
 
+/// A command that is given the names of two files.
+fn read_pair(words: &[Name]) -> Option<Command<'_>>
+    ensures { option_map seen result ≡ pair_command words.now }
+{
+    read_score(words)
+        .map(Command::Score)
+        .or_else(|| read_check(words).map(Command::Check))
+        .or_else(|| read_replay(words).map(Command::Replay))
+}
+
 /// `demo NUMBER`.
 fn read_generated(words: &[Name]) -> Option<Command<'_>>
     ensures { option_map seen result ≡ option_map Demo (demo_form words.now) }
@@ -77,7 +90,6 @@ pub fn read_words(words: &[Name]) -> Option<Command<'_>>
     read_file("free", words)
         .map(Command::Free)
         .or_else(|| read_file("triangle", words).map(Command::Triangle))
-        .or_else(|| read_score(words).map(Command::Score))
-        .or_else(|| read_check(words).map(Command::Check))
+        .or_else(|| read_pair(words))
         .or_else(|| read_generated(words))
 }

@@ -44,7 +44,7 @@ fn read_names<'a>(task: &'a Name, proof: &'a Name) -> Option<DayNames<'a>>
 }
 
 /// The number from 1 to 16 that a word writes.
-fn read_workers(word: &Name) -> Option<Workers>
+pub fn read_workers(word: &Name) -> Option<Workers>
     ensures { MatchOption result
         (is_worker_count word.now ≡ false)
         (λ workers. (is_worker_count word.now ≡ true)
@@ -72,7 +72,7 @@ pub fn read_score(words: &[Name]) -> Option<DayNames<'_>>
     }
 }
 
-/// The workers that the words ask for: one, unless they are of `score`.
+/// The workers who are to work side by side by the words: one, unless these are of `score`.
 pub fn read_workers_of(words: &[Name]) -> Workers
     ensures { result.count ≡ workers_of words.now }
 {
@@ -82,7 +82,7 @@ pub fn read_workers_of(words: &[Name]) -> Workers
     }
 }
 
-/// How many workers the words ask for: 1, unless they are of `score`.
+/// How many workers are to work side by side by the words: 1, unless these are of `score`.
 pub fn worker_count(words: &[Name]) -> u32
     ensures { result ≡ workers_of words.now }
 {

@@ -64,6 +64,8 @@ fn parts_of(cause: Cause) -> Parts
         Cause::TooManyItems(key) => parts_at("TASK", 5, Place::AtKey(key)),
         Cause::WrongAirspace(line) => parts_at("AIR", 1, Place::AtLine(line)),
         Cause::TooMuchAirspace(line) => parts_at("AIR", 2, Place::AtLine(line)),
+        Cause::WrongStep(line) => parts_at("PLAN", 1, Place::AtLine(line)),
+        Cause::TooManySteps => parts_at("PLAN", 2, Place::Nowhere),
         Cause::NoHeading => parts_at("PROOF", 1, Place::Nowhere),
         Cause::WrongProof(line) => parts_at("PROOF", 2, Place::AtLine(line)),
         Cause::ProofCut => parts_at("PROOF", 3, Place::Nowhere),

@@ -33,6 +33,10 @@ pub enum Cause {
     WrongAirspace(u32),
     /// With this line there are too many volumes or corners of airspace.
     TooMuchAirspace(u32),
+    /// This line of the schedule is no step.
+    WrongStep(u32),
+    /// The schedule has more than 1,000,000 lines.
+    TooManySteps,
     /// The text doesn't begin with the heading of a proof.
     NoHeading,
     /// This line of the proof may not stand there.

@@ -18,6 +18,7 @@ use crate::day_names::read_workers_of;
 use crate::demo::demo;
 use crate::of_file::{Course, answer_of_file};
 use crate::racing::{Racing, race};
+use crate::replay::replay_schedule;
 use crate::score::score;
 use crate::status::Status;
 use crate::texts::usage;
@@ -57,6 +58,7 @@ fn answer_to_command<D: Desk, S: Search>(
         Command::Triangle(file) => answer_of_file(alloc, desk, Course::Triangle, file),
         Command::Score(day) => score(alloc, desk, search, day, stewards),
         Command::Check(day) => check(alloc, desk, day),
+        Command::Replay(words) => replay_schedule(alloc, desk, words),
         Command::Demo(day) => demo(alloc, day, stewards),
     }
 }

@@ -11,6 +11,8 @@ use Rattle.gl_app.specs.Check.{IsCheck}
 use Rattle.gl_app.specs.DayNames.{names_seen}
 use Rattle.gl_app.specs.Demo.{IsDemo}
 use Rattle.gl_app.specs.Free.{IsFreeText}
+use Rattle.gl_app.specs.Replay.{IsReplay}
+use Rattle.gl_app.specs.ReplayWords.{replay_seen}
 use Rattle.gl_app.specs.OfFile.{IsOfFile}
 use Rattle.gl_app.specs.Triangle.{IsTriangleText}
 use Rattle.gl_app.proofs.Commanded.{reads_right, unread_right}
@@ -39,6 +41,11 @@ pub returns-in-Check-clause-right : goal.returns-in-Check-clause-right
 returns-in-Check-clause-right g c =
     let folder = (g.D.Desk.told c.args.desk.now).folder in
     rw c.in-Check.is (reads_right (λ answer. IsCheck folder (names_seen c.in-Check.day) (answer_of answer)) (λ answer text. IsCheck folder (names_seen c.in-Check.day) (answer_with answer text)) (g.D.Desk.told c.args.desk.now) (g.D.Desk.told c.check.new.desk) c.check.result (λ answer right. right) c.check.ensures.right c.check.ensures.reads)
+
+pub returns-in-Replay-clause-right : goal.returns-in-Replay-clause-right
+returns-in-Replay-clause-right g c =
+    let folder = (g.D.Desk.told c.args.desk.now).folder in
+    rw c.in-Replay.is (reads_right (λ answer. IsReplay folder (replay_seen c.in-Replay.words) (answer_of answer)) (λ answer text. IsReplay folder (replay_seen c.in-Replay.words) (answer_with answer text)) (g.D.Desk.told c.args.desk.now) (g.D.Desk.told c.replay_schedule.new.desk) c.replay_schedule.result (λ answer right. right) c.replay_schedule.ensures.right c.replay_schedule.ensures.reads)
 
 pub returns-in-Demo-clause-right : goal.returns-in-Demo-clause-right
 returns-in-Demo-clause-right g c =
