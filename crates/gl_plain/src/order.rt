@@ -1,4 +1,4 @@
-ghost use Rattle.std.specs.Prelude.{◌≡◌, ◌≤◌, ℕ, List, [], drop, length, take, All, IfOk, IfSome, IsPermutation, OnOk};
+ghost use Rattle.std.specs.Prelude.{◌≡◌, ◌≤◌, ℕ, List, [], drop, length, take, All, IfOk, IfSome, IsPermutation, IsTrue, OnOk};
 ghost use Rattle.gl_box.specs.Cell.{Covers, spans_of};
 ghost use Rattle.gl_box.specs.Frontier.{IsFrontier};
 ghost use Rattle.gl_box.specs.Halves.{AreHalves, IsWidest};
@@ -24,6 +24,24 @@ fn widest(cell: &Cell) -> usize
         }
     }
     widest
+}
+
+/// Whether two cells have the same spans.
+#[inline]
+fn is_same(one: &Cell, other: &Cell) -> bool
+    ensures { IsTrue result → spans_of one.now ≡ spans_of other.now }
+{
+    if one.axes != other.axes {
+        return false;
+    }
+    for axis in 0..one.axes as usize {
+        let span = one.spans[axis];
+        let next = other.spans[axis];
+        if span.lo != next.lo || span.hi != next.hi {
+            return false;
+        }
+    }
+    true
 }
 
 /// Cuts a cell in the middle of its widest span, which is that of an axis: the cell becomes its
@@ -76,7 +94,9 @@ fn frontier_len(
     'halves: while count < boxes.len() {
         let next = &boxes[count].cell;
         let axis = widest(&cell);
-        if next.spans[axis] != cell.spans[axis] {
+        if next.spans[axis].hi != cell.spans[axis].hi
+            || next.spans[axis].lo != cell.spans[axis].lo
+        {
             let Some(upper) = halve_at(&mut cell, axis) else {
                 return Ok(None);
             };
@@ -84,7 +104,7 @@ fn frontier_len(
                 return Ok(None);
             }
             opened.push(upper)?;
-        } else if *next == cell {
+        } else if is_same(next, &cell) {
             count += 1;
             match opened.pop() {
                 Some(other) => cell = other,

@@ -6,9 +6,6 @@ use gl_box::Closed;
 use std::alloc::{AllocError, Global};
 use std::mem;
 
-/// How many boxes a list of a pile has before the next one is begun.
-const LIST_ROOM: usize = 65_536;
-
 /// Closed cells, in the order in which they were closed, as some lists and one to which more are
 /// added.
 #[derive(Drop)]
@@ -56,14 +53,6 @@ impl Pile {
             self.begin_list()?;
         }
         Ok(())
-    }
-
-    /// Begins another list where the last one is long. The only error is want of memory.
-    pub(crate) fn end_long(&mut self) -> Result<(), AllocError>
-        ensures { OnOk result (boxes_in self.new ≡ boxes_in self.old) }
-    {
-        let is_long = self.last.len() >= LIST_ROOM;
-        self.begin_if(is_long)
     }
 
     /// Adds what is on another pile. The only error is want of memory.

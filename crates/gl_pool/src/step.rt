@@ -131,7 +131,6 @@ pub(crate) fn finish<Rt: Wait, G: Goal>(
 {
     for _ in rt.forever() {
         stretch(goal, word, seat, bench)?;
-        bench.share.closed.end_long()?;
         bench.seen = word.look(seat);
         if bench.cells.is_empty() {
             return Ok(());

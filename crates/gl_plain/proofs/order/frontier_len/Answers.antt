@@ -1,4 +1,4 @@
-use Rattle.std.proofs.Common.{◌≡◌, ◌∙◌, sym, ap, subst, ℕ, List, [], ◌∷◌, ◌++◌, map, reverse, get_or, take, ◌+◌, arith}
+use Rattle.std.proofs.Common.{◌≡◌, ◌∙◌, sym, ap, subst, ℕ, List, [], ◌∷◌, ◌++◌, map, reverse, take, ◌+◌, arith}
 use Rattle.std.proofs.lemmas.List.{append-nil, nil_from_length}
 use Rattle.gl_box.specs.declared.cell.Cell.{Cell}
 use Rattle.gl_box.specs.Cell.{spans_of}
@@ -6,7 +6,7 @@ use Rattle.gl_box.specs.Frontier.{IsFrontier}
 use Rattle.gl_box.specs.Frontier.IsFrontier.{alone}
 use Rattle.gl_box.specs.Laws.Nodes.{spread, spread-lower, spread-upper}
 use Rattle.gl_plain.specs.Order.{cells_of}
-use Rattle.gl_plain.proofs.Partings.{frontier-halved, frontier-passed, same_cell}
+use Rattle.gl_plain.proofs.Partings.{frontier-halved, frontier-passed}
 use Rattle.gl_plain.proofs.Stack.{reverse-last, turns_cut, turns_some, work_of, work_of-append, work_of-one}
 use Rattle.gl_plain.proofs.order.frontier_len.Goals as goal
 
@@ -27,7 +27,7 @@ halves-preserved c =
       within = omega arith;
       frontier = subst (λ (rest : List (List (ℕ × ℕ))). IsFrontier (spans_of c.args.cell) (take (c.halves.count + 1) (cells_of c.args.boxes.now) ++ rest)) opened
           (frontier-passed (spans_of c.args.cell) c.args.boxes.now c.halves.count c.index-boxes-count.result (spans_of c.halves.cell) (reverse (map spans_of c.halves.opened.items)) c.halves-test.true
-          (same_cell (get_or c.args.boxes.now c.halves.count c.index-boxes-count.result).cell c.halves.cell (sym c.eq.ensures ∙ c.if-eq.true)) c.halves.invariant.frontier);
+          (c.is_same.ensures c.if-is_same.true) c.halves.invariant.frontier);
     }
 
 pub returns-in-None-clause-frontier : goal.returns-in-None-clause-frontier
@@ -35,7 +35,7 @@ returns-in-None-clause-frontier c =
     let none : c.halves.opened.items ≡ [] = nil_from_length c.halves.opened.items (omega (arith, c.in-None.ensures.cases.0, c.halves.opened.ok.0)) in
     subst (IsFrontier (spans_of c.args.cell)) (ap (λ (rest : List (List (ℕ × ℕ))). take (c.halves.count + 1) (cells_of c.args.boxes.now) ++ rest) (ap (λ (cells : List Cell). reverse (map spans_of cells)) none) ∙ append-nil (take (c.halves.count + 1) (cells_of c.args.boxes.now)))
     (frontier-passed (spans_of c.args.cell) c.args.boxes.now c.halves.count c.index-boxes-count.result (spans_of c.halves.cell) (reverse (map spans_of c.halves.opened.items)) c.halves-test.true
-    (same_cell (get_or c.args.boxes.now c.halves.count c.index-boxes-count.result).cell c.halves.cell (sym c.eq.ensures ∙ c.if-eq.true)) c.halves.invariant.frontier)
+    (c.is_same.ensures c.if-is_same.true) c.halves.invariant.frontier)
 
 pub halves-smaller-in-Continue-1 : goal.halves-smaller-in-Continue-1
 halves-smaller-in-Continue-1 c =

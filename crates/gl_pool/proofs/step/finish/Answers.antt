@@ -18,11 +18,11 @@ pub loop-preserved : goal.loop-preserved
 loop-preserved g c =
     let rule = g.G.Goal.rule c.args.goal.now in
     let bench = c.stretch.new.bench in
-    let heard : Bench = record { cells = bench.cells; legs = bench.legs; seen = c.look-bench.result; share = record { kept = bench.share.kept; closed = c.end_long.new.self; strange = bench.share.strange } } in
+    let heard : Bench = record { cells = bench.cells; legs = bench.legs; seen = c.look-bench.result; share = bench.share } in
     record {
       on = λ call way.
           c.in_ok-put_oldest.ensures.on rule c.args.word.now c.look-bench.new.seat call
-          (going_heard rule c.args.word.now call c.loop.place c.stretch.new.seat bench heard (c.in_ok-stretch.ensures.on c.loop.place call (c.loop.invariant.on call way)) c.look-bench.new.seat (record { cells = refl; closed = c.in_ok-end_long.ensures; strange = refl }) refl c.look-bench.ensures.seen
+          (going_heard rule c.args.word.now call c.loop.place c.stretch.new.seat bench heard (c.in_ok-stretch.ensures.on c.loop.place call (c.loop.invariant.on call way)) c.look-bench.new.seat (record { cells = refl; closed = refl; strange = refl }) refl c.look-bench.ensures.seen
           (record { is_seat = c.look-bench.ensures.seat; numbers = c.look-bench.ensures.numbers; no_less = c.look-bench.ensures.no_less }) c.look-bench.ensures.raised);
       legs = subst (λ (legs : List Leg). g.G.Goal.are_legs c.args.goal.now legs) (sym c.put_oldest.ensures.legs) c.in_ok-stretch.ensures.legs;
     }
@@ -31,6 +31,6 @@ pub returns-then-is_empty-clause-on : goal.returns-then-is_empty-clause-on
 returns-then-is_empty-clause-on g c call way =
     let rule = g.G.Goal.rule c.args.goal.now in
     let bench = c.stretch.new.bench in
-    let heard : Bench = record { cells = bench.cells; legs = bench.legs; seen = c.look-bench.result; share = record { kept = bench.share.kept; closed = c.end_long.new.self; strange = bench.share.strange } } in
-    going_heard rule c.args.word.now call c.loop.place c.stretch.new.seat bench heard (c.in_ok-stretch.ensures.on c.loop.place call (c.loop.invariant.on call way)) c.look-bench.new.seat (record { cells = refl; closed = c.in_ok-end_long.ensures; strange = refl }) refl c.look-bench.ensures.seen
+    let heard : Bench = record { cells = bench.cells; legs = bench.legs; seen = c.look-bench.result; share = bench.share } in
+    going_heard rule c.args.word.now call c.loop.place c.stretch.new.seat bench heard (c.in_ok-stretch.ensures.on c.loop.place call (c.loop.invariant.on call way)) c.look-bench.new.seat (record { cells = refl; closed = refl; strange = refl }) refl c.look-bench.ensures.seen
     (record { is_seat = c.look-bench.ensures.seat; numbers = c.look-bench.ensures.numbers; no_less = c.look-bench.ensures.no_less }) c.look-bench.ensures.raised
