@@ -1,3 +1,4 @@
+pub mod Flat
 pub mod Gathered
 pub mod Kept
 pub mod Machines

@@ -21,14 +21,15 @@ use Rattle.gl_deal.specs.declared.view.HandView.{HandView}
 use Rattle.gl_deal.specs.Rule.{HasSettledAll}
 use Rattle.gl_deal.specs.Tokens.{hand_view}
 use Rattle.gl_pool.specs.declared.bench.Bench.{Bench}
-use Rattle.gl_pool.specs.declared.share.Share.{Share}
+use Rattle.gl_pool.specs.declared.share.Haul.{Haul}
 use Rattle.gl_pool.specs.Kept.{IsKept, KeepsSeat, seen_by}
 use Rattle.gl_pool.specs.Taken.{FindsNone, Moves, duty_of, stolen_weight}
 use Rattle.gl_pool.specs.UnderWay.{AreBeingParted, Call, IsUnderWay}
-use Rattle.gl_pool.specs.Work.{HasWorked}
+use Rattle.gl_pool.specs.Work.{HasHauled}
 use Rattle.gl_pool.proofs.Hearing.{above_before, all_closed_longer, keeps_on, kept_new, kept_on, word_below}
 use Rattle.gl_pool.proofs.Moving.{moves_none, moves_put, moves_taken}
 use Rattle.gl_pool.proofs.Parting.{parted_closed, parted_cut, parted_done, parted_inside, parted_outside, parted_put, parted_start}
+use Rattle.gl_pool.specs.Pile.{boxes_in}
 
 -- the same lists by other names
 parted_along : (rule : Rule) (seen : Option ℕ) (taken cells cells_too : List Cell) (closed closed_too : List Closed) (put strange strange_too : List Cell) → cells ≡ cells_too → closed ≡ closed_too → strange ≡ strange_too → AreBeingParted rule seen taken cells closed put strange → AreBeingParted rule seen taken cells_too closed_too put strange_too
@@ -40,7 +41,7 @@ parted_along rule seen taken cells cells_too closed closed_too put strange stran
 -- two benches with the same share and cells
 pub record HasSame (bench after : Bench) : Type 0 where
   pub cells : after.cells.items ≡ bench.cells.items
-  pub closed : after.share.closed.items ≡ bench.share.closed.items
+  pub closed : (boxes_in after.share.closed) ≡ (boxes_in bench.share.closed)
   pub strange : after.share.strange.items ≡ bench.share.strange.items
 
 module _ (rule : Rule) (word : BestWord) (call : Call) (place : Place) (seat : Seat) (bench after : Bench) (way : IsUnderWay rule word call place seat bench) where
@@ -56,10 +57,10 @@ module _ (rule : Rule) (word : BestWord) (call : Call) (place : Place) (seat : S
     seen = seen ∙ way.seen;
   }
 
-  pub going_closed : (cell : Cell) (why : Why) → bench.cells.items ≡ after.cells.items ++ cell ∷ [] → after.share.closed.items ≡ bench.share.closed.items ++ record { cell = cell; why = why } ∷ [] → after.share.strange.items ≡ bench.share.strange.items → after.share.kept ≡ bench.share.kept → after.seen ≡ bench.seen → IsClosedFor rule bench.seen (spans_of cell) why → IsUnderWay rule word call place seat after
+  pub going_closed : (cell : Cell) (why : Why) → bench.cells.items ≡ after.cells.items ++ cell ∷ [] → (boxes_in after.share.closed) ≡ (boxes_in bench.share.closed) ++ record { cell = cell; why = why } ∷ [] → after.share.strange.items ≡ bench.share.strange.items → after.share.kept ≡ bench.share.kept → after.seen ≡ bench.seen → IsClosedFor rule bench.seen (spans_of cell) why → IsUnderWay rule word call place seat after
   going_closed cell why top box strange kept seen reason =
       let closed : Closed = record { cell = cell; why = why } in
-      let parts = parted_closed rule (seen_by call.seat) way.taken after.cells.items cell why bench.share.closed.items way.put bench.share.strange.items (subst (λ (cells : List Cell). AreBeingParted rule (seen_by call.seat) way.taken cells bench.share.closed.items way.put bench.share.strange.items) top way.parts) in
+      let parts = parted_closed rule (seen_by call.seat) way.taken after.cells.items cell why (boxes_in bench.share.closed) way.put bench.share.strange.items (subst (λ (cells : List Cell). AreBeingParted rule (seen_by call.seat) way.taken cells (boxes_in bench.share.closed) way.put bench.share.strange.items) top way.parts) in
       record {
         taken = way.taken;
         put = way.put;
@@ -67,7 +68,7 @@ module _ (rule : Rule) (word : BestWord) (call : Call) (place : Place) (seat : S
         parts = parted_along rule (seen_by call.seat) way.taken _ _ _ _ way.put _ _ refl (sym box) (sym strange) parts;
         same_seat = way.same_seat;
         reasons = All-same (λ (b : Closed). IsClosedFor rule (seen_by seat) (spans_of b.cell) b.why) _ _ box
-            (All-push (λ (b : Closed). IsClosedFor rule (seen_by seat) (spans_of b.cell) b.why) bench.share.closed.items closed way.reasons (subst (λ (total : Option ℕ). IsClosedFor rule total (spans_of cell) why) way.seen reason));
+            (All-push (λ (b : Closed). IsClosedFor rule (seen_by seat) (spans_of b.cell) b.why) (boxes_in bench.share.closed) closed way.reasons (subst (λ (total : Option ℕ). IsClosedFor rule total (spans_of cell) why) way.seen reason));
         kept = subst (IsKept rule (view_of call.seat) (view_of seat)) (sym kept) way.kept;
         seen = seen ∙ way.seen;
       }
@@ -77,10 +78,10 @@ module _ (rule : Rule) (word : BestWord) (call : Call) (place : Place) (seat : S
   above_seen limit above =
       above_before (view_of call.seat).seen (view_of seat).seen limit way.same_seat.no_less (λ total is. above total (way.seen ∙ is))
 
-  pub going_cut : (rest : List Cell) (cell lower upper : Cell) (bound : ℕ) → bench.cells.items ≡ rest ++ cell ∷ [] → after.cells.items ≡ (rest ++ upper ∷ []) ++ lower ∷ [] → after.share.closed.items ≡ bench.share.closed.items → after.share.strange.items ≡ bench.share.strange.items → after.share.kept ≡ bench.share.kept → after.seen ≡ bench.seen → AreHalves (spans_of cell) (spans_of lower) (spans_of upper) → Promises rule bench.seen (spans_of cell) bound → IsUnderWay rule word call place seat after
+  pub going_cut : (rest : List Cell) (cell lower upper : Cell) (bound : ℕ) → bench.cells.items ≡ rest ++ cell ∷ [] → after.cells.items ≡ (rest ++ upper ∷ []) ++ lower ∷ [] → (boxes_in after.share.closed) ≡ (boxes_in bench.share.closed) → after.share.strange.items ≡ bench.share.strange.items → after.share.kept ≡ bench.share.kept → after.seen ≡ bench.seen → AreHalves (spans_of cell) (spans_of lower) (spans_of upper) → Promises rule bench.seen (spans_of cell) bound → IsUnderWay rule word call place seat after
   going_cut rest cell lower upper bound top cut closed strange kept seen halves promises =
       let above = above_seen (rule.bound (spans_of cell)) (λ found is. omega (arith, promises.above found is, promises.is_bound)) in
-      let parts = parted_cut rule (seen_by call.seat) way.taken rest cell lower upper bench.share.closed.items way.put bench.share.strange.items halves promises.is_open above (subst (λ (cells : List Cell). AreBeingParted rule (seen_by call.seat) way.taken cells bench.share.closed.items way.put bench.share.strange.items) top way.parts) in
+      let parts = parted_cut rule (seen_by call.seat) way.taken rest cell lower upper (boxes_in bench.share.closed) way.put bench.share.strange.items halves promises.is_open above (subst (λ (cells : List Cell). AreBeingParted rule (seen_by call.seat) way.taken cells (boxes_in bench.share.closed) way.put bench.share.strange.items) top way.parts) in
       record {
         taken = way.taken;
         put = way.put;
@@ -100,7 +101,7 @@ module _ (rule : Rule) (word : BestWord) (call : Call) (place : Place) (seat : S
     moves = way.moves;
     parts = parted_along rule (seen_by call.seat) way.taken _ _ _ _ way.put _ _ (sym same.cells) (sym same.closed) (sym same.strange) way.parts;
     same_seat = keeps_on word call.seat seat hears way.same_seat keeps.is_seat keeps.numbers keeps.no_less;
-    reasons = All-same (λ (b : Closed). IsClosedFor rule (seen_by hears) (spans_of b.cell) b.why) _ _ same.closed (all_closed_longer rule seat hears bench.share.closed.items keeps.no_less way.reasons);
+    reasons = All-same (λ (b : Closed). IsClosedFor rule (seen_by hears) (spans_of b.cell) b.why) _ _ same.closed (all_closed_longer rule seat hears (boxes_in bench.share.closed) keeps.no_less way.reasons);
     kept = subst (IsKept rule (view_of call.seat) (view_of hears)) (sym kept) (kept_on rule (view_of call.seat) (view_of seat) (view_of hears) bench.share.kept raised way.kept);
     seen = seen;
   }
@@ -115,15 +116,15 @@ module _ (rule : Rule) (word : BestWord) (call : Call) (place : Place) (seat : S
         moves = way.moves;
         parts = parted_along rule (seen_by call.seat) way.taken _ _ _ _ way.put _ _ (sym same.cells) (sym same.closed) (sym same.strange) way.parts;
         same_seat = keeps_on word call.seat seat raises way.same_seat keeps.is_seat keeps.numbers keeps.no_less;
-        reasons = All-same (λ (b : Closed). IsClosedFor rule (seen_by raises) (spans_of b.cell) b.why) _ _ same.closed (all_closed_longer rule seat raises bench.share.closed.items keeps.no_less way.reasons);
+        reasons = All-same (λ (b : Closed). IsClosedFor rule (seen_by raises) (spans_of b.cell) b.why) _ _ same.closed (all_closed_longer rule seat raises (boxes_in bench.share.closed) keeps.no_less way.reasons);
         kept = subst (IsKept rule (view_of call.seat) (view_of raises)) (sym kept) (kept_new rule (view_of call.seat) (view_of seat) (view_of raises) best reached way.same_seat.no_less seat.raised_was_seen below raised);
         seen = seen;
       }
 
   -- the first cell of several was put
-  pub going_put : (next : Place) (cell : Cell) → Moves place next [] (cell ∷ []) → bench.cells.items ≡ cell ∷ after.cells.items → 1 < length bench.cells.items → after.share.closed.items ≡ bench.share.closed.items → after.share.strange.items ≡ bench.share.strange.items → after.share.kept ≡ bench.share.kept → after.seen ≡ bench.seen → IsUnderWay rule word call next seat after
+  pub going_put : (next : Place) (cell : Cell) → Moves place next [] (cell ∷ []) → bench.cells.items ≡ cell ∷ after.cells.items → 1 < length bench.cells.items → (boxes_in after.share.closed) ≡ (boxes_in bench.share.closed) → after.share.strange.items ≡ bench.share.strange.items → after.share.kept ≡ bench.share.kept → after.seen ≡ bench.seen → IsUnderWay rule word call next seat after
   going_put next cell moves first many closed strange kept seen =
-      let parts = parted_put rule (seen_by call.seat) way.taken after.cells.items cell bench.share.closed.items way.put bench.share.strange.items (omega (arith, ap length first)) (subst (λ (cells : List Cell). AreBeingParted rule (seen_by call.seat) way.taken cells bench.share.closed.items way.put bench.share.strange.items) first way.parts) in
+      let parts = parted_put rule (seen_by call.seat) way.taken after.cells.items cell (boxes_in bench.share.closed) way.put bench.share.strange.items (omega (arith, ap length first)) (subst (λ (cells : List Cell). AreBeingParted rule (seen_by call.seat) way.taken cells (boxes_in bench.share.closed) way.put bench.share.strange.items) first way.parts) in
       record {
         taken = way.taken;
         put = way.put ++ cell ∷ [];
@@ -136,9 +137,9 @@ module _ (rule : Rule) (word : BestWord) (call : Call) (place : Place) (seat : S
       }
 
   -- a cell was taken that lies inside the whole cell
-  pub going_inside : (next : Place) (cell : Cell) → Moves place next (cell ∷ []) [] → Covers (whole_cell rule.axes) (spans_of cell) → bench.cells.items ≡ [] → after.cells.items ≡ cell ∷ [] → after.share.closed.items ≡ bench.share.closed.items → after.share.strange.items ≡ bench.share.strange.items → after.share.kept ≡ bench.share.kept → after.seen ≡ bench.seen → IsUnderWay rule word call next seat after
+  pub going_inside : (next : Place) (cell : Cell) → Moves place next (cell ∷ []) [] → Covers (whole_cell rule.axes) (spans_of cell) → bench.cells.items ≡ [] → after.cells.items ≡ cell ∷ [] → (boxes_in after.share.closed) ≡ (boxes_in bench.share.closed) → after.share.strange.items ≡ bench.share.strange.items → after.share.kept ≡ bench.share.kept → after.seen ≡ bench.seen → IsUnderWay rule word call next seat after
   going_inside next cell moves inside none one closed strange kept seen =
-      let parts = parted_inside rule (seen_by call.seat) way.taken cell bench.share.closed.items way.put bench.share.strange.items inside (subst (λ (cells : List Cell). AreBeingParted rule (seen_by call.seat) way.taken cells bench.share.closed.items way.put bench.share.strange.items) none way.parts) in
+      let parts = parted_inside rule (seen_by call.seat) way.taken cell (boxes_in bench.share.closed) way.put bench.share.strange.items inside (subst (λ (cells : List Cell). AreBeingParted rule (seen_by call.seat) way.taken cells (boxes_in bench.share.closed) way.put bench.share.strange.items) none way.parts) in
       record {
         taken = way.taken ++ cell ∷ [];
         put = way.put;
@@ -151,9 +152,9 @@ module _ (rule : Rule) (word : BestWord) (call : Call) (place : Place) (seat : S
       }
 
   -- a cell was taken that doesn't
-  pub going_outside : (next : Place) (cell : Cell) → Moves place next (cell ∷ []) [] → (Covers (whole_cell rule.axes) (spans_of cell) → ⊥) → bench.cells.items ≡ [] → after.cells.items ≡ bench.cells.items → after.share.closed.items ≡ bench.share.closed.items → after.share.strange.items ≡ bench.share.strange.items ++ cell ∷ [] → after.share.kept ≡ bench.share.kept → after.seen ≡ bench.seen → IsUnderWay rule word call next seat after
+  pub going_outside : (next : Place) (cell : Cell) → Moves place next (cell ∷ []) [] → (Covers (whole_cell rule.axes) (spans_of cell) → ⊥) → bench.cells.items ≡ [] → after.cells.items ≡ bench.cells.items → (boxes_in after.share.closed) ≡ (boxes_in bench.share.closed) → after.share.strange.items ≡ bench.share.strange.items ++ cell ∷ [] → after.share.kept ≡ bench.share.kept → after.seen ≡ bench.seen → IsUnderWay rule word call next seat after
   going_outside next cell moves outside none same closed strange kept seen =
-      let parts = parted_outside rule (seen_by call.seat) way.taken cell bench.share.closed.items way.put bench.share.strange.items outside (subst (λ (cells : List Cell). AreBeingParted rule (seen_by call.seat) way.taken cells bench.share.closed.items way.put bench.share.strange.items) none way.parts) in
+      let parts = parted_outside rule (seen_by call.seat) way.taken cell (boxes_in bench.share.closed) way.put bench.share.strange.items outside (subst (λ (cells : List Cell). AreBeingParted rule (seen_by call.seat) way.taken cells (boxes_in bench.share.closed) way.put bench.share.strange.items) none way.parts) in
       record {
         taken = way.taken ++ cell ∷ [];
         put = way.put;
@@ -166,7 +167,7 @@ module _ (rule : Rule) (word : BestWord) (call : Call) (place : Place) (seat : S
       }
 
 -- a worker begins
-pub going_start : (rule : Rule) (word : BestWord) (place : Place) (given seat : Seat) (bench : Bench) → bench.cells.items ≡ [] → bench.share.closed.items ≡ [] → bench.share.strange.items ≡ [] → bench.share.kept ≡ None → bench.seen ≡ seen_by seat → KeepsSeat word given seat → (view_of seat).raised ≡ (view_of given).raised → IsUnderWay rule word (record { place = place; seat = given }) place seat bench
+pub going_start : (rule : Rule) (word : BestWord) (place : Place) (given seat : Seat) (bench : Bench) → bench.cells.items ≡ [] → (boxes_in bench.share.closed) ≡ [] → bench.share.strange.items ≡ [] → bench.share.kept ≡ None → bench.seen ≡ seen_by seat → KeepsSeat word given seat → (view_of seat).raised ≡ (view_of given).raised → IsUnderWay rule word (record { place = place; seat = given }) place seat bench
 going_start rule word place given seat bench cells closed strange kept seen keeps raised = record {
   taken = [];
   put = [];
@@ -197,14 +198,14 @@ settled_since before after taken put moves settled worker below other =
     subst (λ (workers : List ℕ). Contains workers worker) (sym moves.settled) (settled worker (omega (arith, below, moves.workers)) (λ is. other (is ∙ sym moves.owner)))
 
 -- a worker ends
-pub going_end : (rule : Rule) (word : BestWord) (call : Call) (place next : Place) (seat : Seat) (bench : Bench) → IsUnderWay rule word call place seat bench → bench.cells.items ≡ [] → FindsNone place next → HasWorked rule word call.place next call.seat seat bench.share
+pub going_end : (rule : Rule) (word : BestWord) (call : Call) (place next : Place) (seat : Seat) (bench : Bench) → IsUnderWay rule word call place seat bench → bench.cells.items ≡ [] → FindsNone place next → HasHauled rule word call.place next call.seat seat bench.share
 going_end rule word call place next seat bench way none found =
     let moves = moves_found call.place place next way.taken way.put way.moves found in
     record {
       taken = way.taken;
       put = way.put;
       moves = moves;
-      parts = parted_done rule (seen_by call.seat) way.taken bench.share.closed.items way.put bench.share.strange.items (subst (λ (cells : List Cell). AreBeingParted rule (seen_by call.seat) way.taken cells bench.share.closed.items way.put bench.share.strange.items) none way.parts);
+      parts = parted_done rule (seen_by call.seat) way.taken (boxes_in bench.share.closed) way.put bench.share.strange.items (subst (λ (cells : List Cell). AreBeingParted rule (seen_by call.seat) way.taken cells (boxes_in bench.share.closed) way.put bench.share.strange.items) none way.parts);
       seat = way.same_seat;
       reasons = way.reasons;
       kept = way.kept;
@@ -212,7 +213,7 @@ going_end rule word call place next seat bench way none found =
     }
 
 -- a worker that found nothing has nothing to show
-pub going_none : (rule : Rule) (word : BestWord) (place next : Place) (given seat : Seat) (share : Share) → share.closed.items ≡ [] → share.strange.items ≡ [] → share.kept ≡ None → KeepsSeat word given seat → (view_of seat).raised ≡ (view_of given).raised → FindsNone place next → HasWorked rule word place next given seat share
+pub going_none : (rule : Rule) (word : BestWord) (place next : Place) (given seat : Seat) (share : Haul) → boxes_in share.closed ≡ [] → share.strange.items ≡ [] → share.kept ≡ None → KeepsSeat word given seat → (view_of seat).raised ≡ (view_of given).raised → FindsNone place next → HasHauled rule word place next given seat share
 going_none rule word place next given seat share closed strange kept keeps raised found =
     let moves = moves_found place place next [] [] (moves_none place) found in
     let parts = parted_along rule (seen_by given) [] _ _ _ _ [] _ _ refl (sym closed) (sym strange) (parted_start rule (seen_by given)) in
@@ -220,7 +221,7 @@ going_none rule word place next given seat share closed strange kept keeps raise
       taken = [];
       put = [];
       moves = moves;
-      parts = parted_done rule (seen_by given) [] share.closed.items [] share.strange.items parts;
+      parts = parted_done rule (seen_by given) [] (boxes_in share.closed) [] share.strange.items parts;
       seat = keeps;
       reasons = All-same (λ (b : Closed). IsClosedFor rule (seen_by seat) (spans_of b.cell) b.why) _ _ closed (All-nil _);
       kept = subst (IsKept rule (view_of given) (view_of seat)) (sym kept) raised;

@@ -1,5 +1,5 @@
 -- What a turn and a gathering leave of a tally.
-use Rattle.std.proofs.Common.{◌≡◌, ◌∙◌, sym, ap, subst, ◌++◌, Option, Some, None}
+use Rattle.std.proofs.Common.{◌≡◌, ◌∙◌, sym, ap, subst, ◌++◌, max, inl, inr, Option, Some, None, arith}
 use Rattle.std.specs.Option.{option_or}
 use Rattle.std.proofs.lemmas.List.Elements.{All-append, All-same}
 use Rattle.gl_box.specs.declared.closed.Closed.{Closed}
@@ -10,15 +10,17 @@ use Rattle.gl_plain.specs.declared.found.Best.{Best}
 use Rattle.gl_plain.specs.Search.{IsSound}
 use Rattle.gl_best.specs.declared.rule.View.{View}
 use Rattle.gl_best.specs.declared.word.BestWord.{BestWord}
-use Rattle.gl_best.specs.Seats.{view_of}
+use Rattle.gl_best.specs.Steps.{both_of}
+use Rattle.gl_best.specs.Seats.{IsSeatOf, view_of}
 use Rattle.gl_deal.specs.declared.place.Place.{Place}
-use Rattle.gl_pool.specs.declared.share.Share.{Share}
+use Rattle.gl_pool.specs.declared.share.Haul.{Haul}
 use Rattle.gl_pool.specs.declared.tally.Tally.{Tally}
 use Rattle.gl_pool.specs.Kept.{IsKept, seen_by}
-use Rattle.gl_pool.specs.Tally.{IsTally, Turns, word_of}
-use Rattle.gl_pool.specs.Work.{HasWorked}
+use Rattle.gl_pool.specs.Tally.{Gathers, IsGreater, IsTally, Turns, word_of}
+use Rattle.gl_pool.specs.Work.{HasHauled}
 use Rattle.gl_pool.proofs.Hearing.{all_closed_longer}
 use Rattle.gl_pool.proofs.Together.{parted_any}
+use Rattle.gl_pool.specs.Pile.{boxes_in}
 
 kept_sound : (rule : Rule) (before after : View) (kept best : Option Best) → IsKept rule before after kept → IsSound rule best → IsSound rule (option_or kept best)
 kept_sound rule before after None best is sound = sound
@@ -29,24 +31,47 @@ kept_raised rule before after None best is raised = is ∙ raised
 kept_raised rule before after (Some kept) best is raised = is.1
 
 -- what a worker kept and closed joins the tally
-pub tally_on : (rule : Rule) (word : BestWord) (place place' : Place) (tally after : Tally) (share : Share) → IsTally rule word tally → HasWorked rule word place place' tally.seat after.seat share → after.best ≡ option_or share.kept tally.best → after.closed.items ≡ tally.closed.items ++ share.closed.items → IsTally rule word after
+pub tally_on : (rule : Rule) (word : BestWord) (place place' : Place) (tally after : Tally) (share : Haul) → IsTally rule word tally → HasHauled rule word place place' tally.seat after.seat share → after.best ≡ option_or share.kept tally.best → (boxes_in after.closed) ≡ (boxes_in tally.closed) ++ (boxes_in share.closed) → IsTally rule word after
 tally_on rule word place place' tally after share is worked best closed = record {
   is_seat = worked.seat.is_seat;
   sound = subst (IsSound rule) (sym best) (kept_sound rule (view_of tally.seat) (view_of after.seat) share.kept tally.best worked.kept is.sound);
   raised = kept_raised rule (view_of tally.seat) (view_of after.seat) share.kept tally.best worked.kept is.raised ∙ ap word_of (sym best);
   closed = All-same (λ (box : Closed). IsClosedFor rule (seen_by after.seat) (spans_of box.cell) box.why) _ _ closed
-      (All-append (λ (box : Closed). IsClosedFor rule (seen_by after.seat) (spans_of box.cell) box.why) tally.closed.items share.closed.items (all_closed_longer rule tally.seat after.seat tally.closed.items worked.seat.no_less is.closed) worked.reasons);
+      (All-append (λ (box : Closed). IsClosedFor rule (seen_by after.seat) (spans_of box.cell) box.why) (boxes_in tally.closed) (boxes_in share.closed) (all_closed_longer rule tally.seat after.seat (boxes_in tally.closed) worked.seat.no_less is.closed) worked.reasons);
 }
 
-pub turns_on : (rule : Rule) (word : BestWord) (place place' : Place) (tally after : Tally) (share : Share) → HasWorked rule word place place' tally.seat after.seat share → after.closed.items ≡ tally.closed.items ++ share.closed.items → Turns rule place place' tally after
+pub turns_on : (rule : Rule) (word : BestWord) (place place' : Place) (tally after : Tally) (share : Haul) → HasHauled rule word place place' tally.seat after.seat share → (boxes_in after.closed) ≡ (boxes_in tally.closed) ++ (boxes_in share.closed) → Turns rule place place' tally after
 turns_on rule word place place' tally after share worked closed = record {
   taken = worked.taken;
   put = worked.put;
-  closed = share.closed.items;
+  closed = (boxes_in share.closed);
   strange = share.strange.items;
   moves = worked.moves;
-  parts = parted_any rule (seen_by tally.seat) worked.taken share.closed.items worked.put share.strange.items worked.parts;
+  parts = parted_any rule (seen_by tally.seat) worked.taken (boxes_in share.closed) worked.put share.strange.items worked.parts;
   joined = closed;
   numbers = worked.seat.numbers;
   all_put = worked.all_put;
 }
+
+-- one tally takes in another
+pub gathered : (word : BestWord) (tally other after : Tally) → IsSeatOf word after.seat → view_of after.seat ≡ both_of (view_of tally.seat) (view_of other.seat) → IsGreater tally.best other.best after.best → boxes_in after.closed ≡ boxes_in tally.closed ++ boxes_in other.closed → Gathers word tally other after
+gathered word tally other after seat both greater joined =
+    let seen : (view_of after.seat).seen ≡ max (view_of tally.seat).seen (view_of other.seat).seen = ap (λ (v : View). v.seen) both in
+    let raised : (view_of after.seat).raised ≡ max (view_of tally.seat).raised (view_of other.seat).raised = ap (λ (v : View). v.raised) both in
+    record {
+      is_seat = seat;
+      keeps = λ rule one two. record {
+        is_seat = seat;
+        sound = elim greater.either [
+          | inl is ↦ subst (IsSound rule) (sym is) one.sound
+          | inr is ↦ subst (IsSound rule) (sym is) two.sound
+        ];
+        raised = omega (arith, raised, greater.greatest, one.raised, two.raised);
+        closed = All-same (λ (box : Closed). IsClosedFor rule (seen_by after.seat) (spans_of box.cell) box.why) _ _ joined
+            (All-append (λ (box : Closed). IsClosedFor rule (seen_by after.seat) (spans_of box.cell) box.why) (boxes_in tally.closed) (boxes_in other.closed)
+            (all_closed_longer rule tally.seat after.seat (boxes_in tally.closed) (omega (arith, seen)) one.closed)
+            (all_closed_longer rule other.seat after.seat (boxes_in other.closed) (omega (arith, seen)) two.closed));
+      };
+      joined = joined;
+      numbers = ap (λ (v : View). v.numbers) both;
+    }

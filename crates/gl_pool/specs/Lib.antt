@@ -1,3 +1,4 @@
+pub mod Pile
 pub mod Taken
 pub mod Parts
 pub mod Kept

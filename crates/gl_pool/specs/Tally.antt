@@ -14,6 +14,7 @@ use Rattle.gl_pool.specs.declared.tally.Tally.{Tally}
 use Rattle.gl_pool.specs.Kept.{AreClosedFor}
 use Rattle.gl_pool.specs.Parts.{ArePartedInto}
 use Rattle.gl_pool.specs.Taken.{Moves}
+use Rattle.gl_pool.specs.Pile.{boxes_in}
 
 -- the word that says what was found: 0 for nothing, else the total plus one
 abbrev pub word_of : Option Best → ℕ
@@ -26,7 +27,7 @@ pub record IsTally (rule : Rule) (word : BestWord) (tally : Tally) : Type 0 wher
   pub is_seat : IsSeatOf word tally.seat
   pub sound : IsSound rule tally.best
   pub raised : (view_of tally.seat).raised ≡ word_of tally.best
-  pub closed : AreClosedFor rule tally.seat tally.closed.items
+  pub closed : AreClosedFor rule tally.seat (boxes_in tally.closed)
 
 -- one of two that were found, and worth no less than either
 pub record IsGreater (one other greater : Option Best) : Type 0 where
@@ -41,7 +42,7 @@ pub record Turns (rule : Rule) (before after : Place) (tally tally_after : Tally
   pub strange : List Cell
   pub moves : Moves before after taken put
   pub parts : ArePartedInto rule None taken closed put strange
-  pub joined : tally_after.closed.items ≡ tally.closed.items ++ closed
+  pub joined : (boxes_in tally_after.closed) ≡ (boxes_in tally.closed) ++ closed
   pub numbers : (view_of tally_after.seat).numbers ≡ (view_of tally.seat).numbers
   pub all_put : HasSettledAll (hand_view before.hand) → TookAllItPut (hand_view after.hand)
 
@@ -50,6 +51,6 @@ pub record Gathers (word : BestWord) (tally other after : Tally) : Type 0 where
   pub is_seat : IsSeatOf word after.seat
   pub keeps : (rule : Rule) → IsTally rule word tally → IsTally rule word other
       → IsTally rule word after
-  pub joined : after.closed.items ≡ tally.closed.items ++ other.closed.items
+  pub joined : (boxes_in after.closed) ≡ (boxes_in tally.closed) ++ (boxes_in other.closed)
   pub numbers : (view_of after.seat).numbers
       ≡ (view_of tally.seat).numbers ++ (view_of other.seat).numbers

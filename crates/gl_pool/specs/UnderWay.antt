@@ -11,6 +11,7 @@ use Rattle.gl_pool.specs.declared.bench.Bench.{Bench}
 use Rattle.gl_pool.specs.Kept.{AreClosedFor, IsKept, KeepsSeat, seen_by}
 use Rattle.gl_pool.specs.Parts.{IsFromTaken, IsPartOfTaken, IsStrange, times_closed, times_held}
 use Rattle.gl_pool.specs.Taken.{Moves}
+use Rattle.gl_pool.specs.Pile.{boxes_in}
 
 -- The cells that were taken are parted into those that the worker still has to look at, those that
 -- it closed, those that it put and the strange ones. Only a cell that stands alone can be one that
@@ -38,9 +39,9 @@ pub record IsUnderWay (rule : Rule) (word : BestWord) (call : Call) (place : Pla
   pub put : List Cell
   pub moves : Moves call.place place taken put
   pub parts : AreBeingParted rule (seen_by call.seat) taken bench.cells.items
-      bench.share.closed.items put bench.share.strange.items
+      (boxes_in bench.share.closed) put bench.share.strange.items
   pub same_seat : KeepsSeat word call.seat seat
-  pub reasons : AreClosedFor rule seat bench.share.closed.items
+  pub reasons : AreClosedFor rule seat (boxes_in bench.share.closed)
   pub kept : IsKept rule (view_of call.seat) (view_of seat) bench.share.kept
   pub seen : bench.seen ≡ seen_by seat
 

@@ -1,5 +1,5 @@
 -- What one worker does in one call.
-use Rattle.std.specs.Prelude.{List}
+use Rattle.std.specs.Prelude.{List, Option}
 use Rattle.gl_box.specs.declared.cell.Cell.{Cell}
 use Rattle.gl_goal.specs.Rule.{Rule}
 use Rattle.gl_best.specs.declared.word.BestWord.{BestWord}
@@ -8,23 +8,39 @@ use Rattle.gl_best.specs.Seats.{view_of}
 use Rattle.gl_deal.specs.declared.place.Place.{Place}
 use Rattle.gl_deal.specs.Rule.{HasSettledAll, TookAllItPut}
 use Rattle.gl_deal.specs.Tokens.{hand_view}
+use Rattle.gl_plain.specs.declared.found.Best.{Best}
+use Rattle.gl_box.specs.declared.closed.Closed.{Closed}
+use Rattle.gl_pool.specs.declared.share.Haul.{Haul}
 use Rattle.gl_pool.specs.declared.share.Share.{Share}
+use Rattle.gl_pool.specs.Pile.{boxes_in}
 use Rattle.gl_pool.specs.Kept.{AreClosedFor, IsKept, KeepsSeat, seen_by}
 use Rattle.gl_pool.specs.Parts.{ArePartedInto}
 use Rattle.gl_pool.specs.Taken.{Moves}
 
--- A worker took some cells and put others, and its share is what it has to show for them. What it
--- cut had a bound above what its seat had seen at the call, and what it closed is closed for what
--- the seat has seen at the return. Where the passes of all other workers were settled at the call,
--- the hand took or gathered all that it put.
-pub record HasWorked (rule : Rule) (word : BestWord) (before after : Place)
-    (seat_before seat_after : Seat) (share : Share) : Type 0 where
+-- A worker took some cells and put others, and it has some tuple, closed cells and strange ones to
+-- show for them. What it cut had a bound above what its seat had seen at the call, and what it
+-- closed is closed for what the seat has seen at the return. Where the passes of all other workers
+-- were settled at the call, the hand took or gathered all that it put.
+pub record HasDone (rule : Rule) (word : BestWord) (before after : Place)
+    (seat_before seat_after : Seat) (best : Option Best) (boxes : List Closed)
+    (cells : List Cell) : Type 0 where
   pub taken : List Cell
   pub put : List Cell
   pub moves : Moves before after taken put
-  pub parts : ArePartedInto rule (seen_by seat_before) taken share.closed.items put
-      share.strange.items
+  pub parts : ArePartedInto rule (seen_by seat_before) taken boxes put cells
   pub seat : KeepsSeat word seat_before seat_after
-  pub reasons : AreClosedFor rule seat_after share.closed.items
-  pub kept : IsKept rule (view_of seat_before) (view_of seat_after) share.kept
+  pub reasons : AreClosedFor rule seat_after boxes
+  pub kept : IsKept rule (view_of seat_before) (view_of seat_after) best
   pub all_put : HasSettledAll (hand_view before.hand) → TookAllItPut (hand_view after.hand)
+
+-- its share is what it has to show
+abbrev pub HasWorked : Rule → BestWord → Place → Place → Seat → Seat → Share → Type 0
+HasWorked rule word before after seat_before seat_after share =
+    HasDone rule word before after seat_before seat_after share.kept share.closed.items
+    share.strange.items
+
+-- its haul is what it has to show
+abbrev pub HasHauled : Rule → BestWord → Place → Place → Seat → Seat → Haul → Type 0
+HasHauled rule word before after seat_before seat_after haul =
+    HasDone rule word before after seat_before seat_after haul.kept (boxes_in haul.closed)
+    haul.strange.items

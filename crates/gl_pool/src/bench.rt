@@ -1,4 +1,4 @@
-use crate::share::Share;
+use crate::share::Haul;
 use gl_box::Cell;
 use gl_goal::Leg;
 
@@ -9,5 +9,5 @@ pub(crate) struct Bench {
     pub(crate) cells: Vec<Cell>,
     pub(crate) legs: Vec<Leg>,
     pub(crate) seen: Option<u64>,
-    pub(crate) share: Share,
+    pub(crate) share: Haul,
 }

@@ -1,9 +1,11 @@
 ghost use Rattle.std.specs.Prelude.{◌≡◌, ◌≤◌, ◌<◌, [], All, IfOk, OnOk, length, map};
 ghost use Rattle.gl_best.specs.Seats.{IsSeatOf, view_of};
 ghost use Rattle.gl_pool.specs.Tally.{IsTally};
+ghost use Rattle.gl_pool.specs.Pile.{boxes_in};
 ghost use Rattle.gl_pool.specs.Crew.{AreSeated, Collects, HasTurned, WorkedAll, has_seat};
 
 use crate::gate::Gate;
+use crate::pile::Pile;
 use crate::tally::{Tally, gather, take_turn};
 use gl_best::BestWord;
 use gl_deal::Place;
@@ -42,7 +44,7 @@ fn seated(
         let shared = Tally {
             seat: word.share(&mut tally.seat),
             best: None,
-            closed: Vec::new(alloc),
+            closed: Pile::empty(alloc),
         };
         workers.push(Worker {
             number: workers.len() as u32,
@@ -129,7 +131,7 @@ pub(crate) fn work_all<Rt: Threads + Wait + Sync, G: Goal + Sync, K: Gate + Sync
     tally: Tally,
 ) -> Result<(Vec<Place>, Tally), AllocError>
     requires tally { IsTally (G.rule goal.now) word.now tally }
-    requires nothing { tally.closed.items ≡ [] }
+    requires nothing { boxes_in tally.closed ≡ [] }
     requires some { 0 < length places.items }
     requires few { length places.items ≤ 16 }
     requires enough { length places.items ≤ length (view_of tally.seat).numbers }

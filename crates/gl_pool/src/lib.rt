@@ -6,6 +6,7 @@ mod bench;
 mod crew;
 mod gate;
 mod many;
+mod pile;
 mod settle;
 mod share;
 mod step;

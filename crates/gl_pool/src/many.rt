@@ -4,16 +4,18 @@ ghost use Rattle.gl_best.specs.Seats.{HasAll, IsSeatOf, view_of};
 ghost use Rattle.gl_plain.specs.Answer.{IsAnswer};
 ghost use Rattle.gl_plain.specs.Search.{IsSound};
 ghost use Rattle.gl_pool.specs.Many.{ComesToAll, IsDealt, IsLeft};
+ghost use Rattle.gl_pool.specs.Pile.{boxes_in};
 ghost use Rattle.gl_pool.specs.Tally.{IsTally};
 
 use crate::crew::work_all;
 use crate::gate::{Gate, OpenGate};
+use crate::pile::Pile;
 use crate::settle::settle_all;
 use crate::tally::{Tally, take_turn};
 use gl_best::{BestWord, Seat};
 use gl_deal::{Place, deal};
 use gl_goal::{Goal, measured_legs, whole};
-use gl_plain::{Best, Found, in_order, search_one, warm_start};
+use gl_plain::{Best, Found, join_in_order, search_one, warm_start};
 use std::alloc::{AllocError, Global};
 use std::sync::Wait;
 use std::thread::Threads;
@@ -56,7 +58,7 @@ fn first_tally<G: Goal>(
     requires view { view_of seat ≡ first_view }
     requires sound { IsSound (G.rule goal.now) best }
     ensures tally { IsTally (G.rule goal.now) word.now result }
-    ensures nothing { result.closed.items ≡ [] }
+    ensures nothing { boxes_in result.closed ≡ [] }
     ensures numbers { (view_of result.seat).numbers ≡ (view_of seat).numbers }
 {
     if let Some(known) = best {
@@ -65,7 +67,7 @@ fn first_tally<G: Goal>(
     Tally {
         seat,
         best,
-        closed: Vec::new(alloc),
+        closed: Pile::empty(alloc),
     }
 }
 
@@ -117,7 +119,7 @@ fn answer<G: Goal>(
     word.close(seat);
     Ok(Found {
         best,
-        closed: in_order(alloc, &whole(goal), closed)?,
+        closed: join_in_order(alloc, &whole(goal), closed.into_lists()?)?,
     })
 }
 
@@ -136,6 +138,10 @@ pub fn search_many<Rt: Threads + Wait + Sync, G: Goal + Sync, K: Gate + Sync>(
     requires most { workers ≤ 16 }
     ensures { IfOk result (IsAnswer (G.rule goal.now)) }
 {
+    if workers == 1 {
+        gate.pass(0);
+        return search_one(alloc, goal);
+    }
     let Some(places) = dealt(alloc, goal, workers)? else {
         return search_one(alloc, goal);
     };

@@ -1,5 +1,7 @@
 ghost use Rattle.std.specs.Prelude.{◌≡◌, [], None};
+ghost use Rattle.gl_pool.specs.Pile.{boxes_in};
 
+use crate::pile::Pile;
 use gl_box::{Cell, Closed};
 use gl_plain::Best;
 use std::alloc::Global;
@@ -13,16 +15,24 @@ pub struct Share {
     pub strange: Vec<Cell>,
 }
 
-impl Share {
+/// The same, with the closed cells on a pile.
+#[derive(Drop)]
+pub(crate) struct Haul {
+    pub(crate) kept: Option<Best>,
+    pub(crate) closed: Pile,
+    pub(crate) strange: Vec<Cell>,
+}
+
+impl Haul {
     /// Nothing to show.
-    pub(crate) fn empty(alloc: Global) -> Share
+    pub(crate) fn empty(alloc: Global) -> Haul
         ensures kept { result.kept ≡ None }
-        ensures closed { result.closed.items ≡ [] }
+        ensures closed { boxes_in result.closed ≡ [] }
         ensures strange { result.strange.items ≡ [] }
     {
-        Share {
+        Haul {
             kept: None,
-            closed: Vec::new(alloc),
+            closed: Pile::empty(alloc),
             strange: Vec::new(alloc),
         }
     }

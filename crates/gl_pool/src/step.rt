@@ -4,10 +4,12 @@ ghost use Rattle.gl_plain.specs.Steps.{Closes};
 ghost use Rattle.gl_best.specs.declared.word.BestWord.{BestWord};
 ghost use Rattle.gl_best.specs.declared.word.Seat.{Seat};
 ghost use Rattle.gl_deal.specs.declared.place.Place.{Place};
+ghost use Rattle.gl_pool.specs.Pile.{boxes_in};
 ghost use Rattle.gl_pool.specs.Taken.{Moves};
 ghost use Rattle.gl_pool.specs.UnderWay.{GoesOn, IsAtWork, Steps};
 
 use crate::bench::Bench;
+use crate::pile::Pile;
 use gl_best::{BestWord, Seat};
 use gl_box::{Cell, Closed, Why, covers, halve};
 use gl_deal::Place;
@@ -24,10 +26,10 @@ const KEPT_CELLS: usize = 1;
 
 /// Closes the last cell. The only error is want of memory.
 #[inline]
-fn close(cells: &mut Vec<Cell>, closed: &mut Vec<Closed>, why: Why) -> Result<(), AllocError>
+fn close(cells: &mut Vec<Cell>, closed: &mut Pile, why: Why) -> Result<(), AllocError>
     requires { 0 < vec_len cells.old }
     ensures { OnOk result
-        (Closes cells.old.items cells.new.items closed.old.items closed.new.items why) }
+        (Closes cells.old.items cells.new.items (boxes_in closed.old) (boxes_in closed.new) why) }
 {
     if let Some(cell) = cells.pop() {
         closed.push(Closed { cell, why })?;

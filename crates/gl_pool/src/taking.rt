@@ -10,6 +10,13 @@ use std::thread;
 /// How often each other deque is tried in a round.
 const TRIES: u32 = 64;
 
+/// A cell that a worker has next, and whether it comes from another one's deque.
+#[derive(Clone, Copy, Debug)]
+pub(crate) struct Next {
+    pub(crate) cell: Cell,
+    pub(crate) is_stolen: bool,
+}
+
 /// Tries another deque once.
 fn steal_from(pass: &mut Pass) -> Option<Cell>
     ensures { MatchOption result
@@ -54,13 +61,22 @@ fn steal(passes: &mut [Pass]) -> Option<Cell>
 
 /// The newest cell of the worker's own deque, or one from the others where that is empty. `None`
 /// where it is empty and a round over the others gave nothing.
-pub(crate) fn next_cell(place: &mut Place) -> Option<Cell>
+pub(crate) fn next_cell(place: &mut Place) -> Option<Next>
     ensures { MatchOption result
         (FindsNone place.old place.new)
-        (λ cell. Moves place.old place.new (cell ∷ []) []) }
+        (λ next. Moves place.old place.new (next.cell ∷ []) []) }
 {
     match place.hand.take() {
-        Some(cell) => Some(cell),
-        None => steal(place.passes.as_mut_slice()),
+        Some(cell) => Some(Next {
+            cell,
+            is_stolen: false,
+        }),
+        None => match steal(place.passes.as_mut_slice()) {
+            Some(stolen) => Some(Next {
+                cell: stolen,
+                is_stolen: true,
+            }),
+            None => None,
+        },
     }
 }

@@ -1,12 +1,12 @@
-ghost use Rattle.std.specs.Prelude.{◌≡◌, ◌++◌, OnOk};
+ghost use Rattle.std.specs.Prelude.{OnOk};
 ghost use Rattle.gl_best.specs.Seats.{IsSeatOf};
 ghost use Rattle.gl_pool.specs.Tally.{Gathers, IsGreater, IsTally, Turns};
 
 use crate::gate::Gate;
-use crate::share::Share;
-use crate::worker::work;
+use crate::pile::Pile;
+use crate::share::Haul;
+use crate::worker::work_on;
 use gl_best::{BestWord, Seat};
-use gl_box::Closed;
 use gl_deal::Place;
 use gl_goal::Goal;
 use gl_plain::Best;
@@ -19,18 +19,7 @@ use std::thread::Threads;
 pub(crate) struct Tally {
     pub(crate) seat: Seat,
     pub(crate) best: Option<Best>,
-    pub(crate) closed: Vec<Closed>,
-}
-
-/// Adds closed cells to others. The only error is want of memory.
-fn add_all(all: &mut Vec<Closed>, mut more: Vec<Closed>) -> Result<(), AllocError>
-    ensures { OnOk result (all.new.items ≡ all.old.items ++ more.items) }
-{
-    if all.is_empty() {
-        *all = more;
-        return Ok(());
-    }
-    all.append(&mut more)
+    pub(crate) closed: Pile,
 }
 
 /// The one that is worth more.
@@ -59,18 +48,10 @@ pub(crate) fn take_turn<Rt: Threads + Wait + Sync, G: Goal, K: Gate>(
     ensures tally { OnOk result (IsTally (G.rule goal.now) word.now tally.new) }
     ensures turn { OnOk result (Turns (G.rule goal.now) place.old place.new tally.old tally.new) }
 {
-    let Share { kept, closed, .. } = work(
-        rt,
-        alloc,
-        goal,
-        number,
-        place,
-        word,
-        &mut tally.seat,
-        gate,
-    )?;
+    gate.pass(number);
+    let Haul { kept, closed, .. } = work_on(rt, alloc, goal, place, word, &mut tally.seat)?;
     tally.best = kept.or(tally.best);
-    add_all(&mut tally.closed, closed)
+    tally.closed.join(closed)
 }
 
 /// Takes in what another seat raised, and the cells that were closed with it. The only error is
@@ -83,5 +64,5 @@ pub(crate) fn gather(word: &BestWord, tally: &mut Tally, other: Tally) -> Result
     let Tally { seat, best, closed } = other;
     word.gather(&mut tally.seat, seat);
     tally.best = greater(tally.best, best);
-    add_all(&mut tally.closed, closed)
+    tally.closed.join(closed)
 }

@@ -1,15 +1,17 @@
 ghost use Rattle.std.specs.Prelude.{◌≡◌, [], None, IfOk};
 ghost use Rattle.gl_best.specs.Seats.{IsSeatOf};
-ghost use Rattle.gl_pool.specs.Work.{HasWorked};
+ghost use Rattle.gl_pool.specs.Pile.{boxes_in};
+ghost use Rattle.gl_pool.specs.Work.{HasHauled, HasWorked};
 
 use crate::bench::Bench;
 use crate::gate::Gate;
-use crate::share::Share;
+use crate::share::{Haul, Share};
 use crate::step::{begin, finish};
 use crate::taking::next_cell;
 use gl_best::{BestWord, Seat};
 use gl_deal::Place;
 use gl_goal::{Goal, measured_legs};
+use gl_plain::all_boxes;
 use std::alloc::{AllocError, Global};
 use std::sync::Wait;
 use std::thread::Threads;
@@ -18,9 +20,6 @@ use std::thread::Threads;
 /// 32 times on each axis.
 const CELL_ROOM: usize = 512;
 
-/// Room for closed cells at the start.
-const CLOSED_ROOM: usize = 16_384;
-
 /// A bench with nothing on it, for a worker that has seen a total, if any. The only error is want
 /// of memory.
 fn empty_bench<G: Goal>(alloc: Global, goal: &G, seen: Option<u64>) -> Result<Bench, AllocError>
@@ -28,18 +27,47 @@ fn empty_bench<G: Goal>(alloc: Global, goal: &G, seen: Option<u64>) -> Result<Be
     ensures cells { IfOk result (λ bench. bench.cells.items ≡ []) }
     ensures seen { IfOk result (λ bench. bench.seen ≡ seen) }
     ensures kept { IfOk result (λ bench. bench.share.kept ≡ None) }
-    ensures closed { IfOk result (λ bench. bench.share.closed.items ≡ []) }
+    ensures closed { IfOk result (λ bench. boxes_in bench.share.closed ≡ []) }
     ensures strange { IfOk result (λ bench. bench.share.strange.items ≡ []) }
 {
     Ok(Bench {
         cells: Vec::with_capacity(alloc, CELL_ROOM)?,
         legs: measured_legs(alloc, goal)?,
         seen,
-        share: Share {
-            closed: Vec::with_capacity(alloc, CLOSED_ROOM)?,
-            ..Share::empty(alloc)
-        },
+        share: Haul::empty(alloc),
     })
+}
+
+/// What one worker does, but for the gate. Its closed cells come as lists that are in order: those
+/// of a cell that it stole begin another list.
+pub(crate) fn work_on<Rt: Wait, G: Goal>(
+    rt: &Rt,
+    alloc: Global,
+    goal: &G,
+    place: &mut Place,
+    word: &BestWord,
+    seat: &mut Seat,
+) -> Result<Haul, AllocError>
+    requires { IsSeatOf word.now seat.old }
+    ensures { IfOk result
+        (HasHauled (G.rule goal.now) word.now place.old place.new seat.old seat.new) }
+{
+    let seen = word.look(seat);
+    let Some(mut next) = next_cell(place) else {
+        return Ok(Haul::empty(alloc));
+    };
+    let mut bench = empty_bench(alloc, goal, seen)?;
+    for _ in rt.forever() {
+        begin(goal, next.cell, &mut bench)?;
+        finish(rt, goal, word, place, seat, &mut bench)?;
+        let Some(other) = next_cell(place) else {
+            let Bench { share, .. } = bench;
+            return Ok(share);
+        };
+        bench.share.closed.begin_if(other.is_stolen)?;
+        next = other;
+    }
+    unreachable!()
 }
 
 /// What one worker does: it passes the gate, and works until its own deque is empty and the others
@@ -60,19 +88,14 @@ pub fn work<Rt: Threads + Wait + Sync, G: Goal, K: Gate>(
         (HasWorked (G.rule goal.now) word.now place.old place.new seat.old seat.new) }
 {
     gate.pass(worker);
-    let seen = word.look(seat);
-    let Some(mut cell) = next_cell(place) else {
-        return Ok(Share::empty(alloc));
-    };
-    let mut bench = empty_bench(alloc, goal, seen)?;
-    for _ in rt.forever() {
-        begin(goal, cell, &mut bench)?;
-        finish(rt, goal, word, place, seat, &mut bench)?;
-        let Some(next) = next_cell(place) else {
-            let Bench { share, .. } = bench;
-            return Ok(share);
-        };
-        cell = next;
-    }
-    unreachable!()
+    let Haul {
+        kept,
+        closed,
+        strange,
+    } = work_on(rt, alloc, goal, place, word, seat)?;
+    Ok(Share {
+        kept,
+        closed: all_boxes(alloc, closed.into_lists()?)?,
+        strange,
+    })
 }

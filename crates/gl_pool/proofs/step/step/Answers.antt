@@ -18,6 +18,7 @@ use Rattle.gl_pool.proofs.Going.{going_closed, going_cut, going_kept}
 use Rattle.gl_pool.proofs.Hearing.{closed_by_word}
 use Rattle.gl_pool.proofs.Parting.{from_covered}
 use Rattle.gl_pool.proofs.step.step.Goals as goal
+use Rattle.gl_pool.specs.Pile.{boxes_in}
 
 pub test_for-requires-clause-covers : goal.test_for-requires-clause-covers
 test_for-requires-clause-covers g c =
@@ -34,7 +35,7 @@ returns-in_ok-close-in-Closed-clause-on g c place call way =
     let items = bench.cells.items in
     let some : 0 < length items = omega (arith, c.requires.some, bench.cells.ok.0) in
     let last : c.len-top.result - 1 ≡ length items - 1 = omega (arith, c.len-top.ensures, bench.cells.ok.0) in
-    let closes : Closes items c.close.new.cells.items bench.share.closed.items c.close.new.closed.items c.in-Closed.why = c.in_ok-close-in-Closed.ensures in
+    let closes : Closes items c.close.new.cells.items (boxes_in bench.share.closed) (boxes_in c.close.new.closed) c.in-Closed.why = c.in_ok-close-in-Closed.ensures in
     let same = same_top items (take (c.len-top.result - 1) items) c.close.new.cells.items c.index.result.now closes.cell (top_is items (c.len-top.result - 1) c.index.result.now some last c.index.ensures) closes.top in
     going_closed rule c.args.word.now call place c.args.seat.now bench _ way closes.cell c.in-Closed.why closes.top closes.box refl refl refl
     (subst (λ (cell : Cell). IsClosedFor rule bench.seen (spans_of cell) c.in-Closed.why) same c.in-Closed.ensures.verdict)
@@ -103,7 +104,7 @@ returns-in_ok-close-in-None-clause-on g c place call way =
     let kept = going_kept rule c.args.word.now call place c.args.seat.now bench keeps way c.look-bench.new.seat best (record { cells = refl; closed = refl; strange = refl }) refl c.look-bench.ensures.seen
     (record { is_seat = c.look-bench.ensures.seat; numbers = c.look-bench.ensures.numbers ∙ c.raise.ensures.numbers; no_less = omega (arith, c.look-bench.ensures.no_less, c.raise.ensures.no_less) })
     (c.look-bench.ensures.raised ∙ c.raise.ensures.raised) reached promises.above in
-    let closes : Closes (slice_set items n c.halve.new.cell) c.close-in-None.new.cells.items bench.share.closed.items c.close-in-None.new.closed.items Bound = c.in_ok-close-in-None.ensures in
+    let closes : Closes (slice_set items n c.halve.new.cell) c.close-in-None.new.cells.items (boxes_in bench.share.closed) (boxes_in c.close-in-None.new.closed) Bound = c.in_ok-close-in-None.ensures in
     let closed = same_top items (take n items) c.close-in-None.new.cells.items c.index_mut.result.now closes.cell top (sym whole ∙ closes.top) in
     let reason = closed_by_word rule (view_of c.look-bench.new.seat).seen (spans_of closes.cell) c.in-Open.bound (omega (arith, c.look-bench.ensures.no_less, c.raise.ensures.seen)) (ap (λ (cell : Cell). rule.bound (spans_of cell)) (sym closed) ∙ sym promises.is_bound) in
     going_closed rule c.args.word.now call place c.look-bench.new.seat keeps _ kept closes.cell Bound (sym whole ∙ closes.top) closes.box refl refl refl

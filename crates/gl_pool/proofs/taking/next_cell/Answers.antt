@@ -15,13 +15,24 @@ after_round : (before after : Place) (result : Option Cell) → hand_deque after
 after_round before after None deque hand all same = record { deque = deque; hand = hand; passes = same; all_put = all }
 after_round before after (Some cell) deque hand all stolen = moves_by_steal before after cell stolen deque hand
 
-pub returns-in-None : goal.returns-in-None
-returns-in-None c =
+pub returns-in-Some-steal : goal.returns-in-Some-steal
+returns-in-Some-steal c =
     let place = c.args.place.now in
     let passes = c.steal.new.passes in
     let next : Place = record { hand = c.take.new.self; passes = with_items place.passes passes } in
     let lent : c.as_mut_slice.result.now ≡ place.passes.items = c.as_mut_slice.ensures.value in
     let same : next.passes.items ≡ passes = with_items_is place.passes passes (omega (arith, c.steal.auto.passes, ap length lent, place.passes.ok.0)) in
-    let before = subst (λ (old : List Pass). MatchOption c.steal.result (map end_of passes ≡ map end_of old) (Steals (map end_of old) (map end_of passes))) lent c.steal.ensures in
-    let round = subst (λ (new : List Pass). MatchOption c.steal.result (map end_of new ≡ ends_of place) (Steals (ends_of place) (map end_of new))) (sym same) before in
-    after_round place next c.steal.result c.in-None.ensures.deque c.in-None.ensures.view c.in-None.ensures.all round
+    let before = subst (λ (old : List Pass). Steals (map end_of old) (map end_of passes) c.in-Some-steal.stolen) lent c.in-Some-steal.ensures in
+    let round = subst (λ (new : List Pass). Steals (ends_of place) (map end_of new) c.in-Some-steal.stolen) (sym same) before in
+    after_round place next (Some c.in-Some-steal.stolen) c.in-None.ensures.deque c.in-None.ensures.view c.in-None.ensures.all round
+
+pub returns-in-None-steal : goal.returns-in-None-steal
+returns-in-None-steal c =
+    let place = c.args.place.now in
+    let passes = c.steal.new.passes in
+    let next : Place = record { hand = c.take.new.self; passes = with_items place.passes passes } in
+    let lent : c.as_mut_slice.result.now ≡ place.passes.items = c.as_mut_slice.ensures.value in
+    let same : next.passes.items ≡ passes = with_items_is place.passes passes (omega (arith, c.steal.auto.passes, ap length lent, place.passes.ok.0)) in
+    let before = subst (λ (old : List Pass). map end_of passes ≡ map end_of old) lent c.in-None-steal.ensures in
+    let round = subst (λ (new : List Pass). map end_of new ≡ ends_of place) (sym same) before in
+    after_round place next None c.in-None.ensures.deque c.in-None.ensures.view c.in-None.ensures.all round

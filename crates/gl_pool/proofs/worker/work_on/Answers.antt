@@ -1,7 +1,7 @@
-use Rattle.std.proofs.Common.{◌∙◌}
+use Rattle.std.proofs.Common.{◌∙◌, refl}
 use Rattle.gl_pool.specs.UnderWay.{Call}
-use Rattle.gl_pool.proofs.Going.{going_end, going_none, going_start}
-use Rattle.gl_pool.proofs.worker.work.Goals as goal
+use Rattle.gl_pool.proofs.Going.{going_end, going_none, going_same, going_start}
+use Rattle.gl_pool.proofs.worker.work_on.Goals as goal
 
 pub returns-in_default : goal.returns-in_default
 returns-in_default g c =
@@ -30,7 +30,7 @@ loop-preserved g c =
     let l = c.loop.invariant in
     record {
       before = c.finish.new.place;
-      on = c.in_ok-finish.ensures.on call (c.in_ok-begin.ensures.on c.args.word.now l.before c.loop.place c.loop.seat l.moved call l.on);
+      on = going_same (g.G.Goal.rule c.args.goal.now) c.args.word.now call c.finish.new.place c.finish.new.seat c.finish.new.bench _ (c.in_ok-finish.ensures.on call (c.in_ok-begin.ensures.on c.args.word.now l.before c.loop.place c.loop.seat l.moved call l.on)) (record { cells = refl; closed = c.in_ok-begin_if.ensures; strange = refl }) refl refl;
       moved = c.in-Some-next_cell.ensures;
       none = c.in_ok-finish.ensures.none;
       legs = c.in_ok-finish.ensures.legs;

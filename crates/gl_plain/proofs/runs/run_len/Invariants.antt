@@ -1,0 +1,12 @@
+use Rattle.std.proofs.Common.{◌+◌, ◌≤◌, length}
+use Rattle.gl_box.specs.Cell.{spans_of}
+use Rattle.gl_box.specs.Laws.Nodes.{spread}
+use Rattle.gl_plain.proofs.Stack.{turns, work_of}
+use Rattle.gl_plain.proofs.runs.run_len.Given as goal
+
+abbrev pub invariant-halves : goal.invariant-halves
+invariant-halves l = l.count ≤ length l.boxes
+
+-- the work that the cell and the open cells can still make
+abbrev pub decreases-halves : goal.decreases-halves
+decreases-halves l = turns (spread (spans_of l.cell)) + work_of l.opened.items
