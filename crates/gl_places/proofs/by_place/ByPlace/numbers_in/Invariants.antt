@@ -1,6 +1,6 @@
 use Rattle.std.proofs.Common.{ℕ, ◌<◌, ◌≤◌}
 use Rattle.std.specs.Prelude.{All, slice_index}
-use Rattle.gl_triangle.proofs.by_place.ByPlace.numbers_in.Given as goal
+use Rattle.gl_places.proofs.by_place.ByPlace.numbers_in.Given as goal
 
 -- the numbers that were gone over lie between the ends, and the higher one is a number
 abbrev pub invariant-loop-place : goal.invariant-loop-place

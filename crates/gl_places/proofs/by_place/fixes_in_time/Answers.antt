@@ -1,8 +1,8 @@
 use Rattle.std.proofs.Common.{◌≡◌, ◌∙◌, suc, ◌+◌, ap, sym, take, length, [], ◌∷◌, ◌++◌, List, arith}
 use Rattle.std.proofs.Math.Seq.{take-length}
 use Rattle.gl_igc.specs.declared.fix.Fix.{Fix}
-use Rattle.gl_triangle.proofs.Orders.{take_more}
-use Rattle.gl_triangle.proofs.by_place.fixes_in_time.Goals as goal
+use Rattle.gl_places.proofs.Orders.{take_more}
+use Rattle.gl_places.proofs.by_place.fixes_in_time.Goals as goal
 
 pub loop-number-preserved : goal.loop-number-preserved
 loop-number-preserved c =

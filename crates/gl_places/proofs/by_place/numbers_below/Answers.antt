@@ -1,7 +1,7 @@
 use Rattle.std.proofs.Common.{◌≡◌, ◌∙◌, ℕ, suc, ◌+◌, ap, sym, [], ◌∷◌, ◌++◌, List, arith}
 use Rattle.gl_goal.specs.Free.{numbers_from}
 use Rattle.gl_goal.proofs.FreeLosses.{numbers_from-more}
-use Rattle.gl_triangle.proofs.by_place.numbers_below.Goals as goal
+use Rattle.gl_places.proofs.by_place.numbers_below.Goals as goal
 
 pub loop-number-preserved : goal.loop-number-preserved
 loop-number-preserved c =

@@ -1,7 +1,7 @@
 use Rattle.std.proofs.Common.{subst, ◌++◌}
 use Rattle.std.specs.Prelude.{IsPermutation}
 use Rattle.std.proofs.lemmas.List.Sorted.{IsPermutation-append, IsPermutation-trans}
-use Rattle.gl_triangle.proofs.by_place.+gather.Goals as goal
+use Rattle.gl_places.proofs.by_place.+gather.Goals as goal
 
 pub returns : goal.returns
 returns t c =

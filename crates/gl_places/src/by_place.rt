@@ -1,10 +1,8 @@
 ghost use Rattle.std.specs.Prelude.{◌≡◌, ℕ, ◌<◌, ◌≤◌, All, IfOk, IsPermutation, length, max, min, slice_index, vec_len};
 ghost use Rattle.gl_goal.specs.Free.{numbers_from};
-ghost use Rattle.gl_triangle.specs.Node.{fixes_of};
-ghost use Rattle.gl_triangle.specs.Order.{IsByPlace};
+ghost use Rattle.gl_places.specs.ByPlace.{IsByPlace};
 
 use gl_box::Span;
-use gl_goal::TriangleGoal;
 use gl_hull::Hulls;
 use gl_igc::Fix;
 use std::alloc::{AllocError, Global};
@@ -12,7 +10,7 @@ use std::alloc::{AllocError, Global};
 /// The fixes of a flight in an order in which those of each half, of each half of a half and so on
 /// lie together.
 #[derive(Drop)]
-pub(crate) struct ByPlace {
+pub struct ByPlace {
     /// The number of the fix at each place.
     pub numbers: Vec<u32>,
     /// The hulls over the fixes in this order.
@@ -156,12 +154,14 @@ fn around(ends: Span, number: u32) -> Span
 }
 
 impl ByPlace {
-    /// The fixes of a goal by place. The only error is want of memory.
-    pub fn new(alloc: Global, goal: &TriangleGoal) -> Result<ByPlace, AllocError>
-        ensures { IfOk result (IsByPlace (fixes_of goal.now)) }
+    /// The fixes of a flight by place, of those in time order. The only error is want of memory.
+    pub fn new(alloc: Global, hulls: &Hulls) -> Result<ByPlace, AllocError>
+        requires some { 0 < length hulls.now }
+        requires few { length hulls.now ≤ 90_000 }
+        ensures { IfOk result (IsByPlace hulls.now) }
     {
-        let fixes = fixes_in_time(alloc, goal.hulls())?;
-        let numbers = gathered(&fixes, numbers_below(alloc, goal.hulls().len())?);
+        let fixes = fixes_in_time(alloc, hulls)?;
+        let numbers = gathered(&fixes, numbers_below(alloc, hulls.len())?);
         let hulls = Hulls::new(alloc, &fixes, &numbers)?;
         Ok(ByPlace { numbers, hulls })
     }
