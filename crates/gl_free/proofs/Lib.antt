@@ -4,3 +4,5 @@ pub mod ReachLemmas
 pub mod ChoiceLemmas
 pub mod SearchLemmas
 pub mod SiftLemmas
+pub mod WayLemmas
+pub mod HalfLemmas

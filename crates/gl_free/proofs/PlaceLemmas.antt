@@ -47,7 +47,7 @@ hull-single fixes span fix same within is =
     ∙ ap hull_of (fixes_in-single fixes span.0 fix within ∙ ap (λ (f : Fix). f ∷ []) (get_or_from_slice_get fixes span.0 fix fix is))
     ∙ hull_of-single fix
 
-held : (fixes : List Fix) (span : ℕ × ℕ) (place : ℕ) (fix : Fix) → IsPlaceOf span place → span.1 < length fixes → slice_get fixes place ≡ Some fix → IsHeld (hull_at fixes span) fix
+pub held : (fixes : List Fix) (span : ℕ × ℕ) (place : ℕ) (fix : Fix) → IsPlaceOf span place → span.1 < length fixes → slice_get fixes place ≡ Some fix → IsHeld (hull_at fixes span) fix
 held fixes span place fix inside within is = hull_of-holds fixes span place fix inside.0 inside.1 within (get_or_from_slice_get fixes place fix fix is)
 
 -- the greatest chord between two hulls is the most that places of the spans can have
@@ -88,6 +88,10 @@ chord_of-limited : (from to : Option Fix) → chord_of from to ≤ 4870756920000
 chord_of-limited None to = omega arith
 chord_of-limited (Some f) None = omega arith
 chord_of-limited (Some f) (Some g) = squared_chord-bound f.at g.at
+
+pub chord-limited : (fixes : List Fix) (i j : ℕ) → chord fixes i j ≤ 4870756920000000000
+unfolding chord
+chord-limited fixes i j = chord_of-limited (slice_get fixes i) (slice_get fixes j)
 
 -- no distance is greater than half the way round the sphere
 pub leg-limited : (fixes : List Fix) (i j : ℕ) → leg fixes i j ≤ 7460377693

@@ -11,12 +11,15 @@ use Rattle.gl_free.specs.declared.ends.Ends.{Ends}
 use Rattle.gl_free.specs.declared.ends.Sides.{Sides}
 use Rattle.gl_free.specs.declared.pair.Pair.{Pair}
 use Rattle.gl_free.specs.declared.search.Search.{Search}
+use Rattle.gl_free.specs.declared.stop.Stop.{Stop}
+use Rattle.gl_free.specs.declared.stop.Stop.TheVariants.{Done, GivenUp, Low}
 use Rattle.gl_free.specs.Arms.{arm_length}
 use Rattle.gl_free.specs.Candidates.{AreCandidates, IsAmong, IsPart, Sifts}
 use Rattle.gl_free.specs.Choices.{IsLow}
 use Rattle.gl_free.specs.Ends.{IsAllowed}
 use Rattle.gl_free.specs.Places.{altitude_at}
-use Rattle.gl_free.specs.Search.{AreBelow, AreFound, AreHalvesOf, IsBetter, IsNarrowed, IsOver, Keeps}
+use Rattle.gl_free.specs.Search.{AreBelow, AreFound, AreHalvesOf, IsBetter, IsHalted, IsNarrowed, IsOver, Keeps}
+use Rattle.gl_free.specs.Stops.{stop_after}
 
 -- what is above the need is a part of its own
 part-refined : (fixes : List Fix) (allowed : Ends) (middle : ℕ × ℕ) (need : ℕ) (kind : ℕ → Type 0) (part : Part) (old new : List Candidate) (least : ℕ) (arm : Arm) → part.to ≤ length old → Sifts fixes allowed middle need kind (take part.to old) new least arm → IsPart fixes allowed middle new (record { from = part.to; to = length new; most = arm.most })
@@ -134,9 +137,20 @@ none-halves fixes sides middle one other found more halves order not_one not_oth
     (λ (in_other : IsPlaceOf other better.third). not_other (narrow other in_other))
     (halves.parts better.third better.third_in)
 
-pub over-halves : (fixes : List Fix) (sides : Sides) (middle one other : ℕ × ℕ) (loss : ℤ) (found more : ℕ) (stop : Option Pair) → AreHalvesOf middle one other → found ≤ more → ¬ IsBetter fixes sides one found → IsOver fixes sides other loss more stop → IsOver fixes sides middle loss more stop
-over-halves fixes sides middle one other loss found more None halves order not_one over = none-halves fixes sides middle one other found more halves order not_one over
-over-halves fixes sides middle one other loss found more (Some pair) halves order not_one over = over
+pub over-halves : (fixes : List Fix) (sides : Sides) (middle one other : ℕ × ℕ) (loss : ℤ) (found more : ℕ) (stop : Stop) → AreHalvesOf middle one other → found ≤ more → ¬ IsBetter fixes sides one found → IsHalted fixes sides other loss more stop → IsHalted fixes sides middle loss more stop
+over-halves fixes sides middle one other loss found more Done halves order not_one over = none-halves fixes sides middle one other found more halves order not_one over
+over-halves fixes sides middle one other loss found more (Low pair) halves order not_one over = over
+over-halves fixes sides middle one other loss found more GivenUp halves order not_one over = over
+
+-- a search of a half that isn't done is a search of the whole that isn't
+pub halted-part : (fixes : List Fix) (sides : Sides) (middle half : ℕ × ℕ) (loss : ℤ) (found : ℕ) (stop : Stop) → (stop ≡ Done → ⊥) → IsHalted fixes sides half loss found stop → IsHalted fixes sides middle loss found stop
+halted-part fixes sides middle half loss found Done open_ over = absurd (open_ refl)
+halted-part fixes sides middle half loss found (Low pair) open_ over = over
+halted-part fixes sides middle half loss found GivenUp open_ over = over
+
+pub halted-after : (fixes : List Fix) (sides : Sides) (middle : ℕ × ℕ) (loss : ℤ) (found : ℕ) (low : Option Pair) → IsOver fixes sides middle loss found low → IsHalted fixes sides middle loss found (stop_after low)
+halted-after fixes sides middle loss found None over = over
+halted-after fixes sides middle loss found (Some pair) over = over
 
 -- what was chosen at a single middle fix
 pub over-single : (fixes : List Fix) (sides : Sides) (middle : ℕ × ℕ) (loss : ℤ) (found more : ℕ) (search : Search) (before after : Part) (arms : Arms) (stop : Option Pair) → middle.0 ≡ middle.1 → search.best.total ≡ found → found ≤ more → IsNarrowed fixes sides middle search before after arms → MatchOption stop (arm_length fixes middle.0 arms.before.inner arms.before.end + arm_length fixes middle.0 arms.after.inner arms.after.end ≤ more) (IsLow fixes loss arms.before.end arms.after.end) → IsOver fixes sides middle loss more stop

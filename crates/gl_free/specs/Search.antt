@@ -13,6 +13,8 @@ use Rattle.gl_free.specs.declared.ends.Sides.{Sides}
 use Rattle.gl_free.specs.declared.pair.Pair.{Pair}
 use Rattle.gl_free.specs.declared.search.Search.{Search}
 use Rattle.gl_free.specs.declared.side.Side.TheVariants.{Before, After}
+use Rattle.gl_free.specs.declared.stop.Stop.{Stop}
+use Rattle.gl_free.specs.declared.stop.Stop.TheVariants.{Done, GivenUp, Low}
 use Rattle.gl_free.specs.Arms.{IsArm, IsTop, arm_length}
 use Rattle.gl_free.specs.Candidates.{IsAmong, IsFlank, IsPart}
 use Rattle.gl_free.specs.Ends.{IsAllowed}
@@ -99,6 +101,12 @@ pub record IsTooLow (fixes : List Fix) (sides : Sides) (loss : ℤ) (pair : Pair
 abbrev pub IsOver : List Fix → Sides → ℕ × ℕ → ℤ → ℕ → Option Pair → Type 0
 IsOver fixes sides middle loss found stop =
     MatchOption stop (¬ IsBetter fixes sides middle found) (IsTooLow fixes sides loss)
+
+-- the same, or the search was given up
+abbrev pub IsHalted : List Fix → Sides → ℕ × ℕ → ℤ → ℕ → Stop → Type 0
+IsHalted fixes sides middle loss found Done = ¬ IsBetter fixes sides middle found
+IsHalted fixes sides middle loss found (Low pair) = IsTooLow fixes sides loss pair
+IsHalted fixes sides middle loss found GivenUp = Unit {0}
 
 -- two spans are the halves of another, in either order
 pub record AreHalvesOf (span one other : ℕ × ℕ) : Type 0 where

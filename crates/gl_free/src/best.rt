@@ -19,6 +19,10 @@ use std::alloc::{AllocError, Global};
 /// Room for ranges of altitudes.
 const RANGES_ROOM: usize = 64;
 
+/// How many candidates are looked at in time order. The flights that were measured take at most a
+/// tenth of them.
+const LOOKS_IN_TIME: usize = 5_000_000;
+
 /// The altitudes of all fixes.
 fn all_altitudes(hulls: &Hulls) -> Altitudes
     requires some { 0 < length hulls.now }
@@ -37,6 +41,9 @@ fn all_altitudes(hulls: &Hulls) -> Altitudes
 
 /// The greatest free distance of a goal, with a tuple that reaches it. Keeps no boxes. The only
 /// error is want of memory.
+///
+/// Spans of time are halved first. On a flight that comes to the same places again and again no
+/// span of time is small, so after many looks the fixes are taken by place instead.
 pub fn best_free(alloc: Global, goal: &FreeGoal) -> Result<Best, AllocError>
     ensures reached { IfOk result
         (λ best. IsReached (rule_of goal.now) best.total (places_of best.tuple)) }
@@ -47,11 +54,12 @@ pub fn best_free(alloc: Global, goal: &FreeGoal) -> Result<Best, AllocError>
         before: Flank::new(alloc, hulls.len())?,
         after: Flank::new(alloc, hulls.len())?,
         best: warm_start(alloc, goal)?,
+        looks: LOOKS_IN_TIME,
     };
     let mut ranges = Vec::with_capacity(alloc, RANGES_ROOM)?;
     ranges.push(all_altitudes(hulls))?;
     while let Some(range) = ranges.pop() {
-        advance(goal, hulls, &mut search, &mut ranges, range)?;
+        advance(alloc, goal, hulls, &mut search, &mut ranges, range)?;
     }
     Ok(search.best)
 }

@@ -4,12 +4,16 @@
 
 mod altitudes;
 mod arm;
+mod beaten;
 mod best;
+mod branch;
 mod candidate;
 mod choice;
 mod ends;
 mod far;
 mod flank;
+mod half;
+mod halves;
 mod known;
 mod node;
 mod pair;
@@ -18,6 +22,9 @@ mod run;
 mod search;
 mod side;
 mod stages;
+mod stop;
+mod tree;
 mod warm;
+mod way;
 
 pub use best::best_free;

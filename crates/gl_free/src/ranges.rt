@@ -9,7 +9,7 @@ use crate::pair::Pair;
 use crate::search::Search;
 use gl_goal::FreeGoal;
 use gl_hull::Hulls;
-use std::alloc::AllocError;
+use std::alloc::{AllocError, Global};
 
 /// An altitude halfway between two.
 fn halfway(low: i32, high: i32) -> i32
@@ -60,6 +60,7 @@ fn gap_of(hulls: &Hulls, pair: Pair, loss: i32) -> (i32, i32)
 /// Runs over a range that was the last. Where the run stopped, two shorter ranges take its place.
 /// The only error is want of memory.
 pub(crate) fn advance(
+    alloc: Global,
     goal: &FreeGoal,
     hulls: &Hulls,
     search: &mut Search,
@@ -79,7 +80,7 @@ pub(crate) fn advance(
     ensures less { OnOk result
         (sum_by turns_of ranges.new.items < sum_by turns_of ranges.old.items + turns_of range) }
 {
-    if let Some(pair) = search.run(goal, hulls, range)? {
+    if let Some(pair) = search.run(alloc, goal, hulls, range)? {
         let (low, high) = gap_of(hulls, pair, goal.loss());
         let (lower, upper) = split(range, low, high);
         ranges.push(upper)?;

@@ -6,16 +6,21 @@ ghost use Rattle.gl_free.specs.Search.{AreFlanks, AreSides, IsValid};
 
 use crate::altitudes::Altitudes;
 use crate::ends::{Ends, Sides};
+use crate::halves::search_by_place;
 use crate::pair::Pair;
 use crate::search::Search;
 use crate::side::Side;
+use crate::stop::Stop;
 use gl_box::Span;
 use gl_goal::FreeGoal;
 use gl_hull::Hulls;
-use std::alloc::AllocError;
+use std::alloc::{AllocError, Global};
 
 /// More metres than any two altitudes differ by.
 const MOST_LOSS: i32 = 50_000;
+
+/// How many candidates a run looks at, in time order, before the fixes are taken by place.
+const LOOKS_OF_A_RUN: usize = 100_000;
 
 /// The ends that are allowed where the first fix has an altitude in a range: the last fix is no
 /// lower than the lowest of them allows.
@@ -46,6 +51,7 @@ impl Search {
     /// the last is too low, and answers them. The only error is want of memory.
     pub(crate) fn run(
         &mut self,
+        alloc: Global,
         goal: &FreeGoal,
         hulls: &Hulls,
         range: Altitudes,
@@ -66,7 +72,14 @@ impl Search {
         };
         let before = self.before.start(hulls, &sides.before, whole)?;
         let after = self.after.start(hulls, &sides.after, whole)?;
-        let stop = self.middle(goal, hulls, &sides, whole, before, after)?;
-        Ok(stop)
+        self.looks = self.looks.max(LOOKS_OF_A_RUN);
+        match self.middle(goal, hulls, &sides, whole, before, after)? {
+            Stop::Done => Ok(None),
+            Stop::Low(pair) => Ok(Some(pair)),
+            Stop::GivenUp => {
+                let low = search_by_place(alloc, goal, &sides, &mut self.best)?;
+                Ok(low)
+            }
+        }
     }
 }

@@ -4,26 +4,28 @@ ghost use Rattle.gl_goal.specs.FreeGoal.{rule_of};
 ghost use Rattle.gl_free.specs.Arms.{IsTop};
 ghost use Rattle.gl_free.specs.Candidates.{IsPart};
 ghost use Rattle.gl_free.specs.Farthest.{IsNode};
-ghost use Rattle.gl_free.specs.Search.{AreBelow, AreFlanks, AreFound, AreSides, AreHalvesOf, IsBetter, IsNarrowed, IsOver, IsValid, Keeps};
+ghost use Rattle.gl_free.specs.Search.{AreBelow, AreFlanks, AreFound, AreSides, AreHalvesOf, IsBetter, IsHalted, IsNarrowed, IsValid, Keeps};
 
 use crate::arm::{Arms, Part};
 use crate::choice::choose;
 use crate::ends::Sides;
 use crate::flank::Flank;
 use crate::node::{Node, halves};
-use crate::pair::Pair;
+use crate::stop::Stop;
 use gl_box::Span;
 use gl_goal::FreeGoal;
 use gl_hull::Hulls;
 use gl_plain::Best;
 use std::alloc::AllocError;
 
-/// What a search has found so far, and what it keeps of both sides of the middle fix.
+/// What a search has found so far, what it keeps of both sides of the middle fix, and how many
+/// candidates it may still look at.
 #[derive(Debug, Drop)]
 pub(crate) struct Search {
     pub before: Flank,
     pub after: Flank,
     pub best: Best,
+    pub looks: usize,
 }
 
 /// The halves of a middle span, the one first that is farther from the inner fixes of the arms.
@@ -82,6 +84,8 @@ impl Search {
             (¬ IsBetter hulls.now sides.now (ends middle.now.span) self.old.best.total)
             (IsNarrowed hulls.now sides.now (ends middle.now.span) self.new before after)) }
     {
+        let looks = (before.to - before.from) + (after.to - after.from);
+        self.looks = self.looks.saturating_sub(looks);
         let most = self.best.total + 2;
         if before.most + after.most <= most {
             return Ok(None);
@@ -102,8 +106,8 @@ impl Search {
     }
 
     /// Looks for better choices with their middle fix in a span, among the candidates of two parts.
-    /// Stops at ends of which the last is too low, and answers them. The only error is want of
-    /// memory.
+    /// Stops at ends of which the last is too low, and answers them, and where no look is left. The
+    /// only error is want of memory.
     pub(crate) fn middle(
         &mut self,
         goal: &FreeGoal,
@@ -112,7 +116,7 @@ impl Search {
         span: Span,
         before: Part,
         after: Part,
-    ) -> Result<Option<Pair>, AllocError>
+    ) -> Result<Stop, AllocError>
         requires same { hulls.now ≡ goal.now.hulls }
         requires valid { IsValid (rule_of goal.now) self.old.best }
         requires sides { AreSides sides.now }
@@ -134,18 +138,21 @@ impl Search {
             (Keeps before self.old.before.candidates.items self.new.before.candidates.items) }
         ensures kept_after { OnOk result
             (Keeps after self.old.after.candidates.items self.new.after.candidates.items) }
-        ensures over { IfOk result (IsOver hulls.now sides.now (ends span) goal.now.loss
+        ensures halted { IfOk result (IsHalted hulls.now sides.now (ends span) goal.now.loss
             self.new.best.total) }
     {
+        if self.looks == 0 {
+            return Ok(Stop::GivenUp);
+        }
         let node = Node {
             span,
             hull: hulls.hull(span),
         };
         let Some(arms) = self.narrow(hulls, sides, &node, before, after)? else {
-            return Ok(None);
+            return Ok(Stop::Done);
         };
         if node.is_single() {
-            return Ok(choose(goal, &mut self.best, span.lo, arms));
+            return Ok(Stop::after(choose(goal, &mut self.best, span.lo, arms)));
         }
         let before = Part {
             from: before.to,
@@ -158,8 +165,9 @@ impl Search {
             most: arms.after.most,
         };
         let (first, second) = ordered(hulls, span, arms);
-        if let Some(pair) = self.middle(goal, hulls, sides, first, before, after)? {
-            return Ok(Some(pair));
+        let stop = self.middle(goal, hulls, sides, first, before, after)?;
+        if !stop.is_done() {
+            return Ok(stop);
         }
         let stop = self.middle(goal, hulls, sides, second, before, after)?;
         Ok(stop)

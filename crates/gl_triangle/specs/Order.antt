@@ -1,12 +1,11 @@
 -- The order of the fixes whose spans a search halves, and which triples of places count there.
-use Rattle.std.specs.Prelude.{◌≡◌, ℕ, ◌≤◌, min, max, List, [], ◌∷◌, length, map, get_or, slice_get, Some, IsPermutation}
+use Rattle.std.specs.Prelude.{◌≡◌, ℕ, ◌≤◌, min, max, List, [], ◌∷◌, length, get_or}
 use Rattle.gl_box.specs.declared.span.Span.{Span}
 use Rattle.gl_igc.specs.declared.fix.Fix.{Fix}
 use Rattle.gl_goal.specs.declared.triangle.TriangleGoal.{TriangleGoal}
-use Rattle.gl_goal.specs.Free.{numbers_from}
 use Rattle.gl_goal.specs.Rule.{IsLegal, IsTuple, value}
 use Rattle.gl_goal.specs.TriangleGoal.{triangle_rule}
-use Rattle.gl_triangle.specs.declared.by_place.ByPlace.{ByPlace}
+use Rattle.gl_places.specs.ByPlace.{IsByPlace}
 use Rattle.gl_triangle.specs.declared.order.Order.{Order}
 use Rattle.gl_triangle.specs.declared.order.Order.TheVariants as variants
 
@@ -19,11 +18,6 @@ number_at (variants.ByPlace by_place) place = get_or by_place.numbers.items plac
 abbrev pub ordered_fixes : List Fix → Order → List Fix
 ordered_fixes fixes variants.InTime = fixes
 ordered_fixes fixes (variants.ByPlace by_place) = by_place.hulls
-
--- the numbers of all fixes, each once, and the hulls over the fixes with these numbers
-pub record IsByPlace (fixes : List Fix) (by_place : ByPlace) : Type 0 where
-  pub numbers : IsPermutation (numbers_from 0 (length fixes)) by_place.numbers.items
-  pub hulls : map Some by_place.hulls ≡ map (slice_get fixes) by_place.numbers.items
 
 abbrev pub IsOrder : List Fix → Order → Type 0
 IsOrder fixes variants.InTime = Unit {0}

@@ -2,7 +2,6 @@
 //! is left out as soon as its hulls show that it holds no better triangle than what was found.
 #![tactic(auto)]
 
-mod by_place;
 mod found;
 mod leg;
 mod legs;

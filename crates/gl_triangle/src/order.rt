@@ -3,11 +3,11 @@ ghost use Rattle.gl_triangle.specs.Node.{fixes_of};
 ghost use Rattle.gl_triangle.specs.Order.{AreNumbers, IsOrder, in_time, number_at, ordered_fixes};
 ghost use Rattle.gl_triangle.specs.Places.{AreAmong, places_in};
 
-use crate::by_place::ByPlace;
 use crate::places::Places;
 use gl_box::Span;
 use gl_goal::TriangleGoal;
 use gl_hull::Hulls;
+use gl_places::ByPlace;
 
 /// An order of the fixes of a flight, whose spans a search halves.
 #[derive(Drop)]

@@ -7,13 +7,13 @@ ghost use Rattle.gl_triangle.specs.Node.{IsNode, IsVisited, fixes_of};
 ghost use Rattle.gl_triangle.specs.Order.{IsOrder};
 ghost use Rattle.gl_triangle.specs.Search.{IsUnderWay, worth_of};
 
-use crate::by_place::ByPlace;
 use crate::found::{consider, worth};
 use crate::node::Node;
 use crate::order::Order;
 use crate::warm::warm_start;
 use gl_box::Span;
 use gl_goal::TriangleGoal;
+use gl_places::ByPlace;
 use gl_plain::Best;
 use std::alloc::{AllocError, Global};
 
@@ -156,7 +156,7 @@ fn search_by_place(
     ensures sound { OnOk result (IsSound (triangle_rule goal.now) best.new) }
     ensures optimum { OnOk result (IsOptimum (triangle_rule goal.now) (total_of best.new)) }
 {
-    let order = Order::ByPlace(ByPlace::new(alloc, goal)?);
+    let order = Order::ByPlace(ByPlace::new(alloc, goal.hulls())?);
     let mut nodes = begin(alloc, goal, &order, best)?;
     run(goal, &order, best, &mut nodes)
 }
