@@ -23,6 +23,9 @@ const RANGES_ROOM: usize = 64;
 /// tenth of them.
 const LOOKS_IN_TIME: usize = 5_000_000;
 
+/// Each run over a range of altitudes has this part of the looks, whatever the others took.
+const RUNS: usize = 50;
+
 /// The altitudes of all fixes.
 fn all_altitudes(hulls: &Hulls) -> Altitudes
     requires some { 0 < length hulls.now }
@@ -43,8 +46,8 @@ fn all_altitudes(hulls: &Hulls) -> Altitudes
 /// error is want of memory.
 ///
 /// Spans of time are halved first. On a flight that comes to the same places again and again no
-/// span of time is small, so after many looks the fixes are taken by place instead.
-pub fn best_free(alloc: Global, goal: &FreeGoal) -> Result<Best, AllocError>
+/// span of time is small, so after so many looks the fixes are taken by place instead.
+pub fn best_free_after(alloc: Global, goal: &FreeGoal, looks: usize) -> Result<Best, AllocError>
     ensures reached { IfOk result
         (λ best. IsReached (rule_of goal.now) best.total (places_of best.tuple)) }
     ensures optimum { IfOk result (λ best. IsOptimum (rule_of goal.now) (Some best.total)) }
@@ -54,7 +57,8 @@ pub fn best_free(alloc: Global, goal: &FreeGoal) -> Result<Best, AllocError>
         before: Flank::new(alloc, hulls.len())?,
         after: Flank::new(alloc, hulls.len())?,
         best: warm_start(alloc, goal)?,
-        looks: LOOKS_IN_TIME,
+        looks,
+        looks_of_a_run: looks / RUNS,
     };
     let mut ranges = Vec::with_capacity(alloc, RANGES_ROOM)?;
     ranges.push(all_altitudes(hulls))?;
@@ -62,4 +66,14 @@ pub fn best_free(alloc: Global, goal: &FreeGoal) -> Result<Best, AllocError>
         advance(alloc, goal, hulls, &mut search, &mut ranges, range)?;
     }
     Ok(search.best)
+}
+
+/// The greatest free distance of a goal, with a tuple that reaches it. Keeps no boxes. The only
+/// error is want of memory.
+pub fn best_free(alloc: Global, goal: &FreeGoal) -> Result<Best, AllocError>
+    ensures reached { IfOk result
+        (λ best. IsReached (rule_of goal.now) best.total (places_of best.tuple)) }
+    ensures optimum { IfOk result (λ best. IsOptimum (rule_of goal.now) (Some best.total)) }
+{
+    best_free_after(alloc, goal, LOOKS_IN_TIME)
 }

@@ -27,4 +27,4 @@ mod tree;
 mod warm;
 mod way;
 
-pub use best::best_free;
+pub use best::{best_free, best_free_after};

@@ -19,9 +19,6 @@ use std::alloc::{AllocError, Global};
 /// More metres than any two altitudes differ by.
 const MOST_LOSS: i32 = 50_000;
 
-/// How many candidates a run looks at, in time order, before the fixes are taken by place.
-const LOOKS_OF_A_RUN: usize = 100_000;
-
 /// The ends that are allowed where the first fix has an altitude in a range: the last fix is no
 /// lower than the lowest of them allows.
 fn sides_of(range: Altitudes, loss: i32) -> Sides
@@ -72,7 +69,7 @@ impl Search {
         };
         let before = self.before.start(hulls, &sides.before, whole)?;
         let after = self.after.start(hulls, &sides.after, whole)?;
-        self.looks = self.looks.max(LOOKS_OF_A_RUN);
+        self.looks = self.looks.max(self.looks_of_a_run);
         match self.middle(goal, hulls, &sides, whole, before, after)? {
             Stop::Done => Ok(None),
             Stop::Low(pair) => Ok(Some(pair)),

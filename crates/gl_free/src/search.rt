@@ -19,13 +19,14 @@ use gl_plain::Best;
 use std::alloc::AllocError;
 
 /// What a search has found so far, what it keeps of both sides of the middle fix, and how many
-/// candidates it may still look at.
+/// candidates it may still look at: at the start of a run so many at least.
 #[derive(Debug, Drop)]
 pub(crate) struct Search {
     pub before: Flank,
     pub after: Flank,
     pub best: Best,
     pub looks: usize,
+    pub looks_of_a_run: usize,
 }
 
 /// The halves of a middle span, the one first that is farther from the inner fixes of the arms.

@@ -1,5 +1,5 @@
 // Free distances without boxes, over flights there and back.
-use gl_free::best_free;
+use gl_free::{best_free, best_free_after};
 use gl_goal::FreeGoal;
 use gl_igc::Fix;
 use gl_sphere::{Grid, vector};
@@ -38,11 +38,13 @@ fn there_and_back(alts: [i16; 9]) -> [Fix; 9] {
     ]
 }
 
-/// The greatest free distance over nine fixes that go there and back.
-fn free_over(alloc: Global, alts: [i16; 9], loss: u16) -> Result<u64, Fail> {
+/// The greatest free distance over nine fixes that go there and back, by spans of time and by place.
+fn free_over(alloc: Global, alts: [i16; 9], loss: u16) -> Result<[u64; 2], Fail> {
     let fixes = there_and_back(alts);
     let goal = FreeGoal::new(alloc, &fixes, 0, 8, i32::from(loss))?;
-    Ok(best_free(alloc, &goal)?.total)
+    let in_time = best_free(alloc, &goal)?;
+    let by_place = best_free_after(alloc, &goal, 0)?;
+    Ok([in_time.total, by_place.total])
 }
 
 #[test]
@@ -66,7 +68,7 @@ fn free_distances_there_and_back(rt: HostRuntime) -> Result<(), Fail> {
         (saw, 40, 44_477_968),
     ];
     for (alts, loss, total) in cases {
-        assert_eq!(rt; free_over(rt.alloc(), alts, loss)?, total);
+        assert_eq!(rt; free_over(rt.alloc(), alts, loss)?, [total; 2]);
     }
     Ok(())
 }

@@ -4,7 +4,7 @@ use Rattle.gl_free.specs.declared.altitudes.Altitudes.{Altitudes}
 use Rattle.gl_free.specs.Ranges.{AreLeft, IsBetterChoice}
 use Rattle.gl_free.proofs.ChoiceLemmas.{count-bounds, optimum-found}
 use Rattle.gl_free.proofs.RangeLemmas.{left-none, left-whole}
-use Rattle.gl_free.proofs.best.best_free.Goals as goal
+use Rattle.gl_free.proofs.best.best_free_after.Goals as goal
 
 pub new-requires : goal.new-requires
 new-requires c =
