@@ -15,13 +15,12 @@ use Rattle.gl_free.specs.declared.far.Far.{Far}
 use Rattle.gl_free.specs.declared.half.Half.{Half}
 use Rattle.gl_free.specs.declared.pair.Pair.{Pair}
 use Rattle.gl_free.specs.declared.side.Side.{Side}
-use Rattle.gl_free.specs.declared.side.Side.TheVariants.{Before, After}
 use Rattle.gl_free.specs.declared.way.Longest.{Longest}
 use Rattle.gl_free.specs.declared.way.Target.{Target}
 use Rattle.gl_free.specs.Arms.{IsArm, arm_length}
 use Rattle.gl_free.specs.Choices.{AreInOrder, IsLow}
 use Rattle.gl_free.specs.Ends.{IsAllowed, Stands}
-use Rattle.gl_free.specs.Farthest.{IsEndOf, IsFarthest}
+use Rattle.gl_free.specs.Farthest.{IsFarthest}
 use Rattle.gl_free.specs.Halves.{AreEnds, AreFarthest, AreLongest, AreWaysBy, IsHalf, IsLongestArm}
 use Rattle.gl_free.specs.Places.{altitude_at, leg}
 use Rattle.gl_free.specs.Search.{AreSides, IsBetter, IsOver}

@@ -1,5 +1,5 @@
 -- Ways that go on by one leg.
-use Rattle.std.proofs.Common.{◌≡◌, ◌∙◌, ap, sym, refl, subst, ℕ, suc, ◌+◌, ◌-◌, ◌*◌, ◌/◌, ◌<◌, ◌≤◌, ◌⊎◌, inl, inr, ⊎_elim, List, ◌++◌, length, take, replicate, get_or, Some, slice_get, arith}
+use Rattle.std.proofs.Common.{◌≡◌, ◌∙◌, ap, sym, subst, ℕ, ◌+◌, ◌-◌, ◌*◌, ◌/◌, ◌<◌, ◌≤◌, ◌⊎◌, inl, inr, ⊎_elim, List, ◌++◌, length, take, replicate, get_or, Some, slice_get, arith}
 use Rattle.std.specs.Prelude.{All}
 use Rattle.std.proofs.lemmas.Bool.{cases_lt}
 use Rattle.std.proofs.lemmas.Int.{ints}
@@ -9,12 +9,11 @@ use Rattle.std.proofs.Math.Nat.{mul-le-mul}
 use Rattle.gl_sphere.specs.declared.place.Vec3.{Vec3}
 use Rattle.gl_sphere.specs.Distance.{arc_over, floor_root, second_term_of, squared_chord, third_term_of, fourth_term_of, written_distance}
 use Rattle.gl_sphere.proofs.Arcs.{arc_over-two, second_term_of-mono, second_term_of-short, written_distance-mono}
-use Rattle.gl_sphere.proofs.Roots.{IsRoot-floor_root, IsRoot-mono, IsRoot}
+use Rattle.gl_sphere.proofs.Roots.{IsRoot-floor_root}
 use Rattle.gl_igc.specs.declared.fix.Fix.{Fix}
 use Rattle.gl_box.specs.Cell.{ends}
 use Rattle.gl_hull.specs.Box.{Box, IsInside, fixes_in, hull_of, point_box}
 use Rattle.gl_hull.specs.Chords.{IsGreatestChord}
-use Rattle.gl_hull.specs.Near.{IsPlaceOf}
 use Rattle.gl_hull.specs.Laws.Held.{named}
 use Rattle.gl_places.specs.declared.by_place.ByPlace.{ByPlace}
 use Rattle.gl_places.specs.ByPlace.{IsByPlace}
@@ -28,7 +27,7 @@ use Rattle.gl_free.specs.declared.side.Side.TheVariants.{Before, After}
 use Rattle.gl_free.specs.Ends.{IsPast, Stands}
 use Rattle.gl_free.specs.Places.{chord, leg}
 use Rattle.gl_free.proofs.PlaceLemmas.{chord-is, held}
-use Rattle.gl_free.specs.Ways.{AreAtMost, IsBranch, IsFound, IsKnown, IsTarget, IsThere, IsWay, Lengthens, onward, way_to}
+use Rattle.gl_free.specs.Ways.{AreAtMost, IsBranch, IsKnown, IsTarget, IsThere, IsWay, Lengthens, onward, way_to}
 
 -- the fix with a number has its place in a span, before another place
 pub record IsThereBelow (numbers : List ℕ) (from before number : ℕ) : Type 0 where

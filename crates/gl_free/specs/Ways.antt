@@ -6,7 +6,6 @@ use Rattle.gl_hull.specs.Near.{IsPlaceOf}
 use Rattle.gl_places.specs.declared.by_place.ByPlace.{ByPlace}
 use Rattle.gl_places.specs.ByPlace.{IsByPlace}
 use Rattle.gl_sphere.specs.Distance.{written_distance}
-use Rattle.gl_free.specs.declared.side.Side.{Side}
 use Rattle.gl_free.specs.declared.branch.Branch.{Branch}
 use Rattle.gl_free.specs.declared.tree.Tree.{Tree}
 use Rattle.gl_free.specs.declared.way.Longest.{Longest}

@@ -19,8 +19,8 @@ use std::alloc::{AllocError, Global};
 /// Room for ranges of altitudes.
 const RANGES_ROOM: usize = 64;
 
-/// How many candidates are looked at in time order. The flights that were measured take at most a
-/// tenth of them.
+/// How many candidates are looked at in time order. The real flights that were measured end long
+/// before.
 const LOOKS_IN_TIME: usize = 5_000_000;
 
 /// Each run over a range of altitudes has this part of the looks, whatever the others took.

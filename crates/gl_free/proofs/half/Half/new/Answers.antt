@@ -1,4 +1,3 @@
-use Rattle.std.proofs.Common.{◌∙◌, sym}
 use Rattle.gl_free.proofs.HalfLemmas.{ways-limited}
 use Rattle.gl_free.proofs.half.Half.new.Goals as goal
 

@@ -1,4 +1,4 @@
-use Rattle.std.proofs.Common.{◌≡◌, ◌∙◌, sym, subst, List, arith}
+use Rattle.std.proofs.Common.{◌≡◌, ◌∙◌, sym, subst, List}
 use Rattle.gl_igc.specs.declared.fix.Fix.{Fix}
 use Rattle.gl_free.specs.Halves.{AreLongest}
 use Rattle.gl_free.proofs.HalfLemmas.{over-chosen}

@@ -1,4 +1,4 @@
-use Rattle.std.proofs.Common.{◌≡◌, inl, inr, ⊎_elim, arith}
+use Rattle.std.proofs.Common.{inl, inr, ⊎_elim}
 use Rattle.gl_box.specs.Cell.{ends}
 use Rattle.gl_free.specs.Ways.{IsThere}
 use Rattle.gl_free.proofs.WayLemmas.{beaten-above, lengthens-none, lengthens-parts, there-parts}

@@ -1,4 +1,4 @@
-use Rattle.std.proofs.Common.{◌-◌, ap, arith}
+use Rattle.std.proofs.Common.{◌-◌, arith}
 use Rattle.gl_free.proofs.WayLemmas.{all-there, beaten-above}
 use Rattle.gl_free.proofs.tree.Tree.bound.Goals as goal
 

@@ -1,9 +1,8 @@
-use Rattle.std.proofs.Common.{◌≡◌, ◌∙◌, ◌<◌, length, ap, sym, refl, arith, rules}
+use Rattle.std.proofs.Common.{◌≡◌, ◌∙◌, ◌<◌, length, ap, sym, refl, arith}
 use Rattle.std.proofs.lemmas.List.{get_or_default}
 use Rattle.gl_box.specs.Cell.{ends}
 use Rattle.gl_sphere.specs.Distance.{squared_chord}
 use Rattle.gl_free.specs.Places.{chord}
-use Rattle.gl_free.specs.Ways.{way_to}
 use Rattle.gl_free.proofs.PlaceLemmas.{chord-is}
 use Rattle.gl_free.proofs.WayLemmas.{lengthens-beaten, lengthens-taken, stood}
 use Rattle.gl_free.proofs.tree.Tree.consider.Goals as goal

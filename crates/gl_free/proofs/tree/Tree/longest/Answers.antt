@@ -1,5 +1,4 @@
 use Rattle.std.proofs.Common.{◌-◌, arith}
-use Rattle.gl_box.specs.Cell.{ends}
 use Rattle.gl_free.proofs.WayLemmas.{all-there, known-none}
 use Rattle.gl_free.proofs.tree.Tree.longest.Goals as goal
 

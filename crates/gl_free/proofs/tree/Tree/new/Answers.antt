@@ -1,4 +1,4 @@
-use Rattle.std.proofs.Common.{◌≡◌, ◌∙◌, ◌*◌, ap, sym, subst, length, List, ℕ, slice_index_or, arith}
+use Rattle.std.proofs.Common.{◌≡◌, ap, sym, subst, length, List, ℕ, slice_index_or, arith}
 use Rattle.std.specs.Prelude.{All}
 use Rattle.gl_free.specs.Ways.{IsBranch}
 use Rattle.gl_places.proofs.Orders.{numbers_below, numbers_long}

@@ -1,5 +1,4 @@
-use Rattle.std.proofs.Common.{◌-◌, ◌<◌, ◌≤◌}
-use Rattle.gl_free.specs.Ways.{Lengthens, IsThere}
+use Rattle.gl_free.specs.Ways.{Lengthens}
 use Rattle.gl_free.proofs.WayLemmas.{IsThereBelow}
 use Rattle.gl_free.proofs.tree.Tree.scan.Given as goal
 
