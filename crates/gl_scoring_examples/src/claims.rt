@@ -1,4 +1,4 @@
-use gl_day::{Checked, Fault, NotProved, check_end, check_flight, claim_of};
+use gl_day::{Alone, Checked, Fault, NotProved, check_end, check_flight, claim_of};
 use gl_desk::Name;
 use gl_goal::{AnyGoal, FreeGoal};
 use gl_igc::Fix;
@@ -98,7 +98,7 @@ fn flight_of_one_fix_has_a_free_distance_of_nothing(rt: HostRuntime) -> Result<(
     let number = Name::from_text(rt.alloc(), "EE")?;
     let mut text = Vec::new(rt.alloc());
     for goal in goals.as_slice() {
-        let claim = claim_of(rt.alloc(), &number, goal.0, &goal.1)?;
+        let claim = claim_of(rt.alloc(), &Alone, &number, goal.0, &goal.1)?;
         write_claim(&mut text, &claim)?;
     }
     assert_eq!(rt; text.as_slice(), CLAIM.as_bytes());
