@@ -88,14 +88,6 @@ pub fn filled(alloc: Global, files: &[File], failing: u64) -> Result<MemDesk, Fa
     Ok(desk)
 }
 
-/// The two stewards of the program.
-pub fn stewards(alloc: Global) -> Result<Vec<Box<dyn Steward>>, AllocError> {
-    let mut stewards: Vec<Box<dyn Steward>> = Vec::new(alloc);
-    stewards.push(Box::new(alloc, Ceiling::new())?)?;
-    stewards.push(Box::new(alloc, EngineNoise::new())?)?;
-    Ok(stewards)
-}
-
 /// How a run ended.
 #[derive(Drop)]
 pub struct Ended {
@@ -129,7 +121,9 @@ pub fn names(alloc: Global, line: &str) -> Result<Vec<Name>, AllocError> {
 pub fn run(alloc: Global, line: &str, files: &[File], failing: u64) -> Result<Ended, Fail> {
     let mut desk = filled(alloc, files, failing)?;
     let words = names(alloc, line)?;
-    let mut stewards = stewards(alloc)?;
+    let mut stewards: Vec<Box<dyn Steward>> = Vec::new(alloc);
+    stewards.push(Box::new(alloc, Ceiling::new())?)?;
+    stewards.push(Box::new(alloc, EngineNoise::new())?)?;
     if worker_count(&words) != 1 {
         return Err("several workers")?;
     }

@@ -71,24 +71,18 @@ struct Ended {
     calls: u64,
 }
 
-/// The two stewards of the program, or none for a line that wants none.
-fn stewards(alloc: Global, line: Line<'_>) -> Result<Vec<Box<dyn Steward>>, AllocError> {
-    let mut stewards: Vec<Box<dyn Steward>> = Vec::new(alloc);
-    if !matches!(line, Line::Bare(_)) {
-        stewards.push(Box::new(alloc, Ceiling::new())?)?;
-        stewards.push(Box::new(alloc, EngineNoise::new())?)?;
-    }
-    Ok(stewards)
-}
-
-/// Runs the words of a line.
+/// Runs the words of a line, with the two stewards of the program, or with none if the line wants none.
 fn end_of<Rt: Threads + Wait + Sync>(
     rt: &Rt,
     alloc: Global,
     desk: &mut MemDesk,
     line: Line<'_>,
 ) -> Result<Ended> {
-    let mut stewards = stewards(alloc, line)?;
+    let mut stewards: Vec<Box<dyn Steward>> = Vec::new(alloc);
+    if !matches!(line, Line::Bare(_)) {
+        stewards.push(Box::new(alloc, Ceiling::new())?)?;
+        stewards.push(Box::new(alloc, EngineNoise::new())?)?;
+    }
     let calls = desk.calls();
     let length = desk.printed().len();
     let words = words(alloc, line.words())?;
