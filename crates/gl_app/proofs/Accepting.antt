@@ -34,8 +34,7 @@ use Rattle.gl_app.specs.Check.{IsCheck, IsDayChecked, IsProofChecked, IsSaidBehi
 use Rattle.gl_app.specs.DayFiles.{IsAirspaceFor, IsAirspaceOf, IsCheckTested, IsDayOf, Tested}
 use Rattle.gl_app.specs.Listed.{most_proof_bytes}
 use Rattle.gl_app.specs.Score.{IsDayScored, IsScore, statements_of_all}
-use Rattle.gl_app.specs.Run.{ChecksScored, IsRight}
-use Rattle.gl_app.specs.Words.{Check, Command, DayNames, Demo, Free, Replay, Score, Triangle}
+use Rattle.gl_app.specs.Words.{DayNames}
 use Rattle.gl_app.proofs.DayPasses.{PassedDay, check_parts, check_with, day_passed, listed_ok, listed_then, new_ok, ok_or_err}
 use Rattle.gl_app.proofs.Flights.{all_asked}
 use Rattle.gl_goal.specs.Laws.Chain.{AllZip-length}
@@ -225,14 +224,3 @@ found_done answer appended (Err refusal) found same = absurd (ok_or_err {X = Che
 pub scored_accepted : (files : FilesByName) (names : DayNames) (answer : Answer) → IsScoredFolder files names → IsCheck (Some files) names answer → answer.status ≡ status.Done
 scored_accepted files names answer folder (tested, is, same) =
     found_done answer folder.answer.appended tested (scored_found files names tested folder is) same
-
--- so a run that isn't stopped ends with a result
-pub right_accepted : (folder : Option FilesByName) (stewards : List StewardRules) (command : Option Command) (answer : Answer) → ChecksScored folder command → IsRight folder stewards command answer → answer.status ≡ status.Done
-right_accepted None stewards command answer checks right = absurd checks
-right_accepted (Some files) stewards None answer checks right = absurd checks
-right_accepted (Some files) stewards (Some (Free file)) answer checks right = absurd checks
-right_accepted (Some files) stewards (Some (Triangle file)) answer checks right = absurd checks
-right_accepted (Some files) stewards (Some (Score names)) answer checks right = absurd checks
-right_accepted (Some files) stewards (Some (Check names)) answer checks right = scored_accepted files names answer checks right
-right_accepted (Some files) stewards (Some (Replay words)) answer checks right = absurd checks
-right_accepted (Some files) stewards (Some (Demo number)) answer checks right = absurd checks

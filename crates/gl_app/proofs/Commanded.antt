@@ -18,12 +18,14 @@ use Rattle.gl_app.specs.declared.halt.Halt.{Halt}
 use Rattle.gl_app.specs.declared.halt.Halt.TheVariants.{Refused, Stopped}
 use Rattle.gl_app.specs.declared.status.Status.{Status}
 use Rattle.gl_app.specs.declared.status.Status.TheVariants.{Done}
-use Rattle.gl_app.specs.Answer.{Answer, answer_with}
+use Rattle.gl_app.specs.Answer.{Answer, answer_of}
 use Rattle.gl_app.specs.Appending.{HasGiven}
+use Rattle.gl_app.specs.Check.{IsCheck, check_promise}
 use Rattle.gl_app.specs.DayFiles.{IsScoreTested}
 use Rattle.gl_app.specs.Halts.{AnswersHalt, IsTested, halt_stop}
-use Rattle.gl_app.specs.Run.{Ends, IsStopped, Stops}
-use Rattle.gl_app.specs.Score.{IsBegun, IsScore, IsScoreBegun, IsScored, statements_of_all, text_so_far}
+use Rattle.gl_app.specs.Promise.{Promise, reading}
+use Rattle.gl_app.specs.Run.{Ends, HasAnswered, IsStopped, Stops}
+use Rattle.gl_app.specs.Score.{IsBegun, IsScore, IsScored, score_promise, statements_of_all, text_so_far}
 use Rattle.gl_app.specs.Scoring.{IsDayDone, IsDayStopped}
 use Rattle.gl_app.specs.Statuses.{status_of}
 use Rattle.gl_app.specs.Words.{DayNames}
@@ -68,8 +70,8 @@ begun_part folder day text k begun =
     }
 
 -- `score` was stopped behind its tests
-pub score_stopped : (names : DayNames) (day : DayFiles) (x m y z : Told) (stop : DeskError) → OnlyReads None x m → IsScoreTested m.folder names (Ok day) → OnlyReads None m y → IsDayStopped day names.proof y z stop → IsStopped (IsScoreBegun x.folder names) (Some names.proof) x z stop
-score_stopped names day x m y z stop lists tested reads stopped =
+pub score_stopped : (names : DayNames) (stewards : List StewardRules) (day : DayFiles) (x m y z : Told) (stop : DeskError) → OnlyReads None x m → IsScoreTested m.folder names (Ok day) → OnlyReads None m y → IsDayStopped day names.proof y z stop → IsStopped (score_promise x.folder stewards names) x z stop
+score_stopped names stewards day x m y z stop lists tested reads stopped =
     let all = reads_twice x m y lists reads in
     let part = part_after names.proof stopped.text x y z stop all stopped.appended in
     record {
@@ -115,7 +117,7 @@ score_right names stewards day x m y z sheet lists tested reads done =
     )
 
 -- `score` refuses a file
-pub score_refused : (names : DayNames) (stewards : List StewardRules) (x m y : Told) (halt : Halt) (result : Result code.Answer DeskError) → OnlyReads None x m → IsTested (IsScoreTested m.folder names) (Err halt) → OnlyReads (halt_stop {X = DayFiles} (Err halt)) m y → AnswersHalt halt result → IfOk result (λ answer. (text : List ℕ) × IsScore x.folder stewards names (answer_with answer text) × HasGiven (Some names.proof) text x y)
+pub score_refused : (names : DayNames) (stewards : List StewardRules) (x m y : Told) (halt : Halt) (result : Result code.Answer DeskError) → OnlyReads None x m → IsTested (IsScoreTested m.folder names) (Err halt) → OnlyReads (halt_stop {X = DayFiles} (Err halt)) m y → AnswersHalt halt result → IfOk result (HasAnswered (score_promise x.folder stewards names) x y)
 score_refused names stewards x m y (Refused refusal) (Ok answer) lists tested reads same =
     let all = reads_twice x m y lists reads in
     ([], (Err refusal, subst (λ (f : Option FilesByName). IsScoreTested f names (Err refusal)) lists.folder tested, same), record { written = HasAppended-reads names.proof [] x x y (HasAppended-none names.proof x) all; untouched = λ none. (all.folder, all.outputs) })
@@ -124,18 +126,24 @@ score_refused names stewards x m y (Stopped stop) (Ok answer) lists tested reads
 score_refused names stewards x m y (Stopped stop) (Err error) lists tested reads same = tt
 
 -- a command that only reads has its answer
-pub reads_right : (P : code.Answer → Type 0) (Q : code.Answer → List ℕ → Type 0) (x y : Told) (result : Result code.Answer DeskError) → ((answer : code.Answer) → P answer → Q answer []) → IfOk result P → OnlyReads (stop_of result) x y → IfOk result (λ answer. (text : List ℕ) × Q answer text × HasGiven None text x y)
-reads_right P Q x y (Ok answer) follows right reads =
-    ([], follows answer right, record { written = record { appended = (refl, reads.folder, reads.outputs); said = reads.said; faults = reads.faults }; untouched = λ none. (reads.folder, reads.outputs) })
-reads_right P Q x y (Err stop) follows right reads = tt
+pub reads_right : (IsRight : Answer → Type 0) (Passes : Type 0) (x y : Told) (result : Result code.Answer DeskError) → IfOk result (λ answer. IsRight (answer_of answer)) → OnlyReads (stop_of result) x y → IfOk result (HasAnswered (reading IsRight Passes) x y)
+reads_right IsRight Passes x y (Ok answer) right reads =
+    ([], right, record { written = record { appended = (refl, reads.folder, reads.outputs); said = reads.said; faults = reads.faults }; untouched = λ none. (reads.folder, reads.outputs) })
+reads_right IsRight Passes x y (Err stop) right reads = tt
+
+-- so has `check`
+pub check_right : (names : DayNames) (x y : Told) (result : Result code.Answer DeskError) → IfOk result (λ answer. IsCheck x.folder names (answer_of answer)) → OnlyReads (stop_of result) x y → IfOk result (HasAnswered (check_promise x.folder names) x y)
+check_right names x y (Ok answer) right reads =
+    ([], right, record { written = record { appended = (refl, reads.folder, reads.outputs); said = reads.said; faults = reads.faults }; untouched = λ none. (reads.folder, reads.outputs) })
+check_right names x y (Err stop) right reads = tt
 
 -- so has one that doesn't use the desk
-pub unread_right : (P : code.Answer → Type 0) (Q : code.Answer → List ℕ → Type 0) (x : Told) (result : Result code.Answer DeskError) → ((answer : code.Answer) → P answer → Q answer []) → IfOk result P → IfOk result (λ answer. (text : List ℕ) × Q answer text × HasGiven None text x x)
-unread_right P Q x (Ok answer) follows right =
-    ([], follows answer right, record { written = record { appended = (refl, refl, refl); said = refl; faults = refl }; untouched = λ none. (refl, refl) })
-unread_right P Q x (Err stop) follows right = tt
+pub unread_right : (IsRight : Answer → Type 0) (Passes : Type 0) (x : Told) (result : Result code.Answer DeskError) → IfOk result (λ answer. IsRight (answer_of answer)) → IfOk result (HasAnswered (reading IsRight Passes) x x)
+unread_right IsRight Passes x (Ok answer) right =
+    ([], right, record { written = record { appended = (refl, refl, refl); said = refl; faults = refl }; untouched = λ none. (refl, refl) })
+unread_right IsRight Passes x (Err stop) right = tt
 
 -- a run that is stopped ends so
-pub stopped_ends : (Right : Answer → Type 0) (target : Option (List ℕ)) (stop : DeskError) (status : Status) (x z : Told) → status ≡ status_of stop → Stops Right target x z → Ends Right target status x z
-stopped_ends Right target Failed status x z is stops = subst (λ (s : Status). Ends Right target s x z) (sym is) stops
-stopped_ends Right target Memory status x z is stops = subst (λ (s : Status). Ends Right target s x z) (sym is) stops
+pub stopped_ends : (promise : Promise) (stop : DeskError) (status : Status) (x z : Told) → status ≡ status_of stop → Stops promise x z → Ends promise status x z
+stopped_ends promise Failed status x z is stops = subst (λ (s : Status). Ends promise s x z) (sym is) stops
+stopped_ends promise Memory status x z is stops = subst (λ (s : Status). Ends promise s x z) (sym is) stops

@@ -1,11 +1,10 @@
 -- What a stopped `score` has begun can be completed: it is a first part of a right answer.
-use Rattle.std.proofs.Common.{◌≡◌, ◌∙◌, sym, ap, subst, refl, ℕ, zero, suc, ◌⊎◌, inl, inr, List, [], ◌∷◌, ◌++◌, take, Option, None, Some, Ok, append_assoc, append-nil}
+use Rattle.std.proofs.Common.{◌≡◌, ◌∙◌, sym, ap, subst, refl, ℕ, zero, suc, ◌⊎◌, inl, inr, List, [], ◌∷◌, ◌++◌, take, Option, None, Some, append_assoc, append-nil}
 use Rattle.std.specs.List.{AllZip, flat_map}
 use Rattle.std.proofs.lemmas.List.Concat.{flat_map-append}
 use Rattle.std.proofs.lemmas.List.Elements.{All-append, All-nil}
 use Rattle.gl_airspace.specs.declared.volume.Airspace.{Airspace}
-use Rattle.gl_desk.specs.Desk.{FilesByName, IsSeenIn, Told, followed_by}
-use Rattle.gl_desk.specs.declared.error.DeskError.{DeskError}
+use Rattle.gl_desk.specs.Desk.{FilesByName, IsSeenIn}
 use Rattle.gl_goal.specs.Rule.{IsGoal}
 use Rattle.gl_proof.specs.Claim.{Statement, claim_text}
 use Rattle.gl_proof.specs.Line.{EndLine, HeadingLine, ended}
@@ -23,11 +22,8 @@ use Rattle.gl_day.proofs.Walked.{zip-length}
 use Rattle.gl_app.specs.declared.day_files.DayFiles.{DayFiles}
 use Rattle.gl_app.specs.declared.status.Status.TheVariants.{Done}
 use Rattle.gl_app.specs.Answer.{Answer}
-use Rattle.gl_app.specs.Appending.{IsAppended}
 use Rattle.gl_app.specs.Asked.{AreAsked}
-use Rattle.gl_app.specs.Run.{GivesBegun, IsBegunFor, IsRight, IsStopped, Stops}
-use Rattle.gl_app.specs.Score.{IsBegun, IsDayScored, IsScoreBegun, IsScored, Scored, flights_of_all, statements_of_all, text_so_far}
-use Rattle.gl_app.specs.Words.{Check, Command, DayNames, Demo, Free, Replay, Score, Triangle}
+use Rattle.gl_app.specs.Score.{IsBegun, IsDayScored, IsScored, Scored, flights_of_all, statements_of_all, text_so_far}
 use Rattle.gl_app.proofs.Flights.{all_texts, length-flights, zip-append}
 
 -- what is seen of a file, where the folder may be told or not
@@ -114,11 +110,11 @@ proof_text-front front back =
     ∙ sym (append_assoc (ended HeadingLine) (flat_map claim_text front) (flat_map claim_text back ++ ended EndLine))
 
 -- an answer of a day, of which a text is a first part
-record IsPartOfDay (folder : Option FilesByName) (day : DayFiles) (stewards : List StewardRules) (text : List ℕ) : Type 0 where
-  answer : Answer
-  right : IsDayScored folder day stewards answer
-  count : ℕ
-  is : text ≡ take count answer.appended
+pub record IsPartOfDay (folder : Option FilesByName) (day : DayFiles) (stewards : List StewardRules) (text : List ℕ) : Type 0 where
+  pub answer : Answer
+  pub right : IsDayScored folder day stewards answer
+  pub count : ℕ
+  pub is : text ≡ take count answer.appended
 
 -- flights of all entrants are an answer
 day_of : (folder : Option FilesByName) (day : DayFiles) (stewards : List StewardRules) (scored : List Scored) (text : List ℕ) (count : ℕ) → AllZip (IsScored folder day stewards) day.task.entrants scored → text ≡ take count (proof_text (statements_of_all scored)) → IsPartOfDay folder day stewards text
@@ -163,54 +159,7 @@ end_begun folder day stewards text begun none proved is =
     (subst (λ (l : List Entrant). AllZip (IsScored folder day stewards) l front.scored) all front.each)
     (is ∙ ap (λ (l : List Statement). take begun.count (proof_text l)) (sym front.are))
 
-begun_either : (folder : Option FilesByName) (day : DayFiles) (stewards : List StewardRules) (text : List ℕ) (begun : IsBegun folder day text) → (text ≡ take begun.count (text_so_far begun.statements)) ⊎ ((begun.others ≡ []) × AllZip Proves begun.expected begun.statements × (text ≡ take begun.count (proof_text begun.statements))) → IsPartOfDay folder day stewards text
+-- each of the two
+pub begun_either : (folder : Option FilesByName) (day : DayFiles) (stewards : List StewardRules) (text : List ℕ) (begun : IsBegun folder day text) → (text ≡ take begun.count (text_so_far begun.statements)) ⊎ ((begun.others ≡ []) × AllZip Proves begun.expected begun.statements × (text ≡ take begun.count (proof_text begun.statements))) → IsPartOfDay folder day stewards text
 begun_either folder day stewards text begun (inl is) = claims_begun folder day stewards text begun is
 begun_either folder day stewards text begun (inr (none, proved, is)) = end_begun folder day stewards text begun none proved is
-
--- a right answer for a command, of which a text is a first part
-record IsPartFor (folder : Option FilesByName) (stewards : List StewardRules) (command : Option Command) (text : List ℕ) : Type 0 where
-  answer : Answer
-  right : IsRight folder stewards command answer
-  count : ℕ
-  is : text ≡ take count answer.appended
-
-score_part : (folder : Option FilesByName) (stewards : List StewardRules) (names : DayNames) (text : List ℕ) → IsScoreBegun folder names text → IsPartFor folder stewards (Some (Score names)) text
-score_part folder stewards names text (day, tested, begun) =
-    let part = begun_either folder day stewards text begun begun.part in
-    record { answer = part.answer; right = (Ok day, tested, part.right); count = part.count; is = part.is }
-
--- what a command has begun is a first part of a right answer
-begun_part_for : (folder : Option FilesByName) (stewards : List StewardRules) (command : Option Command) (text : List ℕ) → IsBegunFor folder command text → IsPartFor folder stewards command text
-begun_part_for folder stewards None text begun = absurd begun
-begun_part_for folder stewards (Some (Free file)) text begun = absurd begun
-begun_part_for folder stewards (Some (Triangle file)) text begun = absurd begun
-begun_part_for folder stewards (Some (Score names)) text begun = score_part folder stewards names text begun
-begun_part_for folder stewards (Some (Check names)) text begun = absurd begun
-begun_part_for folder stewards (Some (Replay words)) text begun = absurd begun
-begun_part_for folder stewards (Some (Demo number)) text begun = absurd begun
-
-said_none : (said : Option (List ℕ)) → said ≡ followed_by said []
-said_none None = refl
-said_none (Some text) = ap Some (sym (append-nil text))
-
-given_part : (folder : Option FilesByName) (stewards : List StewardRules) (command : Option Command) (target : Option (List ℕ)) (x z : Told) → GivesBegun (IsBegunFor folder command) target x z → Stops (IsRight folder stewards command) target x z
-given_part folder stewards command target x z gave =
-    let part = begun_part_for folder stewards command gave.text gave.begun in
-    inr (
-      part.answer,
-      part.right,
-      record {
-        appended_bytes = part.count;
-        said_bytes = 0;
-        said = gave.said ∙ said_none x.said;
-        appended = subst (λ (text : List ℕ). IsAppended target text x z) part.is gave.appended;
-        in_order = inl refl;
-      },
-    )
-
--- a command that is stopped before its answer gave nothing, or a first part of a right answer
-pub stopped_right : (folder : Option FilesByName) (stewards : List StewardRules) (command : Option Command) (target : Option (List ℕ)) (x z : Told) (stop : DeskError) → IsStopped (IsBegunFor folder command) target x z stop → Stops (IsRight folder stewards command) target x z
-stopped_right folder stewards command target x z stop stopped = elim stopped.gave [
-  | inl none ↦ inl none
-  | inr begun ↦ given_part folder stewards command target x z begun
-]

@@ -25,7 +25,6 @@ use Rattle.gl_app.specs.declared.status.Status.TheVariants.{Done}
 use Rattle.gl_app.specs.Answer.{Answer}
 use Rattle.gl_app.specs.Check.{IsCheck, IsProofChecked, checked_answer, not_proved_line}
 use Rattle.gl_app.specs.DayFiles.{IfListed, IfPassed, IsAirspaceFor, IsAirspaceIn, IsAirspaceOf, IsCheckTested, IsDayOf, IsProofIn, IsProofOf, IsRefusedFor, IsScoreTested, IsTaskIn, IsTaskOf, Tested, airspace_cause, proof_cause, task_cause}
-use Rattle.gl_app.specs.Demo.{IsDemo}
 use Rattle.gl_app.specs.Listed.{most_proof_bytes}
 use Rattle.gl_app.specs.Refusals.{file_refusal}
 use Rattle.gl_app.specs.Score.{IsScore}
@@ -164,7 +163,3 @@ pub check_line : (folder : Option FilesByName) (names : DayNames) (answer : Answ
 check_line folder names answer named (Ok said, found, same) unless = checked_line said answer same unless
 check_line folder names answer named (Err refusal, found, same) unless =
     said_by answer refusal.file refusal.cause same (found_named folder names (Err refusal) named found)
-
--- an answer of `demo`
-pub demo_line : (stewards : List StewardRules) (number : ℕ) (answer : Answer) → IsDemo stewards number answer → answer.status ≢ Done → IsLine answer.said
-demo_line stewards number answer (folder, has, day, tested, announced) unless = absurd (unless (ap (λ (a : Answer). a.status) announced.says))

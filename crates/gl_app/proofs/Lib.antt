@@ -1,5 +1,11 @@
 pub mod Accepting
-pub mod AnswerLines
+pub mod CheckLaws
+pub mod CommandNames
+pub mod DemoLaws
+pub mod OfFileLaws
+pub mod Promises
+pub mod ReplayLaws
+pub mod ScoreLaws
 pub mod Appended
 pub mod Compared
 pub mod Completing

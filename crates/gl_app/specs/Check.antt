@@ -1,5 +1,5 @@
 -- The right answer of `check`.
-use Rattle.std.specs.Prelude.{◌≡◌, ◌≢◌, ℕ, ◌≤◌, List, [], ◌∷◌, ◌++◌, Option, Some, Ok, MatchResult, codes, length}
+use Rattle.std.specs.Prelude.{◌≡◌, ◌≢◌, ℕ, ◌≤◌, List, [], ◌∷◌, ◌++◌, Option, Some, Ok, MatchResult, codes, length, None}
 use Rattle.std.specs.Fmt.{decimal}
 use Rattle.gl_desk.specs.Desk.{FilesByName}
 use Rattle.gl_proof.specs.declared.proof.Proof.{Proof}
@@ -19,6 +19,7 @@ use Rattle.gl_day.specs.Asked.{Expected}
 use Rattle.gl_app.specs.Asked.{AreAsked}
 use Rattle.gl_app.specs.DayFiles.{IfPassed, IsCheckTested, Tested}
 use Rattle.gl_app.specs.Listed.{most_proof_bytes}
+use Rattle.gl_app.specs.Promise.{IsTold, Promise}
 use Rattle.gl_app.specs.Score.{IsScore}
 use Rattle.gl_app.specs.Words.{DayNames}
 
@@ -87,3 +88,13 @@ pub record IsScoredFolder (files : FilesByName) (names : DayNames) : Type 0 wher
   pub small : length answer.appended ≤ most_proof_bytes
   pub proof : files names.proof ≡ Some answer.appended
   pub others : (other : List ℕ) → other ≢ names.proof → files other ≡ before other
+
+-- the promise of `check`
+abbrev pub check_promise : Option FilesByName → DayNames → Promise
+check_promise folder names = record {
+  IsRight = IsCheck folder names;
+  IsBegun = λ text. ⊥;
+  Passes = IsTold folder (λ files. PassesCheck files names);
+  ChecksOwn = IsTold folder (λ files. IsScoredFolder files names);
+  target = None;
+}

@@ -1,5 +1,5 @@
 -- The right answer of `demo`.
-use Rattle.std.specs.Prelude.{◌≡◌, ℕ, List, [], ◌∷◌, ◌++◌, length, Some, Ok, IsSome, All, Any, codes}
+use Rattle.std.specs.Prelude.{◌≡◌, ℕ, List, [], ◌∷◌, ◌++◌, length, Option, Some, Ok, IsSome, All, Any, codes, ⊤}
 use Rattle.std.specs.Fmt.{decimal}
 use Rattle.gl_demo.specs.Day.{generated_files}
 use Rattle.gl_demo.specs.Task.{task_file_name}
@@ -11,6 +11,7 @@ use Rattle.gl_app.specs.declared.day_files.DayFiles.{DayFiles}
 use Rattle.gl_app.specs.declared.status.Status.TheVariants.{Done}
 use Rattle.gl_app.specs.Answer.{Answer, saying}
 use Rattle.gl_app.specs.DayFiles.{IsScoreTested}
+use Rattle.gl_app.specs.Promise.{IsTold, Promise, reading}
 use Rattle.gl_app.specs.Score.{IsDayScored}
 use Rattle.gl_app.specs.Words.{DayNames}
 
@@ -49,3 +50,8 @@ IsDemo stewards number answer =
     (folder : FilesByName) × HasJust (generated_files number) folder
     × (day : DayFiles) × IsScoreTested (Some folder) demo_names (Ok day)
     × IsDayAnnounced folder day stewards answer
+
+-- the promise of `demo`: a generated day passes its tests, whatever the folder has
+abbrev pub demo_promise : Option FilesByName → List StewardRules → ℕ → Promise
+demo_promise folder stewards number =
+    reading (IsDemo stewards number) (IsTold folder (λ files. ⊤))

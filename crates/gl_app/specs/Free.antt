@@ -1,12 +1,13 @@
 -- The right answer of the free distance of a file.
 use Rattle.std.specs.Prelude.{ℕ, ◌-◌, List, length, Option, codes, pos}
+use Rattle.gl_desk.specs.Desk.{FilesByName}
 use Rattle.gl_igc.specs.declared.fix.Fix.{Fix}
 use Rattle.gl_igc.specs.Reading.{Reading}
 use Rattle.gl_goal.specs.Rule.{Rule}
 use Rattle.gl_goal.specs.Free.{free_goal}
-use Rattle.gl_app.specs.Answer.{Answer}
 use Rattle.gl_app.specs.Best.{IsBestText, OfFixes}
-use Rattle.gl_app.specs.OfFile.{IsOfFile}
+use Rattle.gl_app.specs.OfFile.{of_file_promise}
+use Rattle.gl_app.specs.Promise.{Promise}
 
 -- the goal over all fixes of a recording, with a loss of at most 1,000 m
 abbrev pub whole_free_goal : List Fix → Rule
@@ -17,6 +18,6 @@ abbrev pub IsFreeText : Reading → List ℕ → Type 0
 IsFreeText reading said =
     OfFixes reading (λ fixes. IsBestText (whole_free_goal fixes) (codes "FREE") said)
 
--- the answer for a file and what the tests saw of it
-abbrev pub IsFree : List ℕ → Option (List ℕ) → Answer → Type 0
-IsFree = IsOfFile IsFreeText
+-- the promise of `free`
+abbrev pub free_promise : Option FilesByName → List ℕ → Promise
+free_promise = of_file_promise IsFreeText

@@ -1,5 +1,6 @@
 -- The right answer of a command that says something of one recording.
 use Rattle.std.specs.Prelude.{◌≡◌, ℕ, ◌≤◌, List, length, Option, None, Some, Result, Ok, Err, IsOk, nat_lt, MatchBool}
+use Rattle.gl_desk.specs.Desk.{FilesByName, IsSeenIn}
 use Rattle.gl_igc.specs.Reading.{Reading, recording_of}
 use Rattle.gl_igc.specs.declared.error.IgcError.{IgcError}
 use Rattle.gl_igc.specs.declared.error.IgcError.TheVariants as igc
@@ -7,6 +8,7 @@ use Rattle.gl_day.specs.Flight.{most_bytes}
 use Rattle.gl_app.specs.declared.status.Status.TheVariants.{Done}
 use Rattle.gl_app.specs.declared.refusal.Cause.TheVariants.{NotListed, TooLarge, NotIgc, NoDate, TooManyFixes, NoFix}
 use Rattle.gl_app.specs.Answer.{Answer, saying, refused}
+use Rattle.gl_app.specs.Promise.{IsTold, Promise, reading}
 
 -- the answer says a text that is right for the recording
 abbrev pub IsOfReading : (Reading → List ℕ → Type 0) → Reading → Answer → Type 0
@@ -39,3 +41,9 @@ IsOfFile IsText file (Some bytes) answer =
 abbrev pub PassesAsRecording : Option (List ℕ) → Type 0
 PassesAsRecording None = ⊥
 PassesAsRecording (Some bytes) = (length bytes ≤ most_bytes) × IsOk (recording_of bytes None)
+
+-- the promise of such a command
+abbrev pub of_file_promise : (Reading → List ℕ → Type 0) → Option FilesByName → List ℕ → Promise
+of_file_promise IsText folder file = reading
+    (λ answer. (seen : Option (List ℕ)) × IsSeenIn folder file seen × IsOfFile IsText file seen answer)
+    (IsTold folder (λ files. PassesAsRecording (files file)))

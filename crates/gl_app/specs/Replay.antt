@@ -12,7 +12,8 @@ use Rattle.gl_app.specs.Answer.{Answer, refused, saying}
 use Rattle.gl_app.specs.Best.{IsBestText}
 use Rattle.gl_app.specs.DayFiles.{Tested}
 use Rattle.gl_app.specs.Free.{whole_free_goal}
-use Rattle.gl_app.specs.ReplayFiles.{IsReplayTested}
+use Rattle.gl_app.specs.Promise.{IsTold, Promise, reading}
+use Rattle.gl_app.specs.ReplayFiles.{IsReplayTested, PassesReplay}
 use Rattle.gl_app.specs.Words.{ReplayWords}
 
 -- the line with the number of the boxes that workers closed by their steps
@@ -54,3 +55,8 @@ IsReplay folder words answer =
     (tested : Tested (Recording × Vec Step Global)) × IsReplayTested folder words tested
     × MatchResult tested (λ read. IsReplayed words.workers read answer)
     (λ refusal. answer ≡ refused refusal.file refusal.cause)
+
+-- the promise of `replay`
+abbrev pub replay_promise : Option FilesByName → ReplayWords → Promise
+replay_promise folder words =
+    reading (IsReplay folder words) (IsTold folder (λ files. PassesReplay files words))

@@ -16,6 +16,7 @@ use Rattle.gl_app.specs.Answer.{Answer, refused}
 use Rattle.gl_day.specs.Asked.{Expected}
 use Rattle.gl_app.specs.Asked.{AreAsked}
 use Rattle.gl_app.specs.DayFiles.{IsScoreTested, Sees, Tested}
+use Rattle.gl_app.specs.Promise.{IsTold, Promise}
 use Rattle.gl_app.specs.Words.{DayNames}
 
 -- what `score` makes of an entrant: the claims that it proved, and the flight
@@ -87,3 +88,13 @@ IsScoreBegun folder names text =
 -- the files of a folder that pass every test of `score`
 abbrev pub PassesScore : FilesByName → DayNames → Type 0
 PassesScore files names = (day : DayFiles) × IsScoreTested (Some files) names (Ok day)
+
+-- the promise of `score`
+abbrev pub score_promise : Option FilesByName → List StewardRules → DayNames → Promise
+score_promise folder stewards names = record {
+  IsRight = IsScore folder stewards names;
+  IsBegun = IsScoreBegun folder names;
+  Passes = IsTold folder (λ files. PassesScore files names);
+  ChecksOwn = ⊥;
+  target = Some names.proof;
+}

@@ -1,12 +1,13 @@
 -- The right answer of the triangle of a file.
 use Rattle.std.specs.Prelude.{◌≡◌, ℕ, ◌-◌, ◌⊎◌, List, length, Option, codes}
+use Rattle.gl_desk.specs.Desk.{FilesByName}
 use Rattle.gl_igc.specs.declared.fix.Fix.{Fix}
 use Rattle.gl_igc.specs.Reading.{Reading}
 use Rattle.gl_goal.specs.Rule.{Rule, HasNoLegal}
 use Rattle.gl_goal.specs.Triangle.{triangle_goal}
-use Rattle.gl_app.specs.Answer.{Answer}
 use Rattle.gl_app.specs.Best.{IsBestText, OfFixes}
-use Rattle.gl_app.specs.OfFile.{IsOfFile}
+use Rattle.gl_app.specs.OfFile.{of_file_promise}
+use Rattle.gl_app.specs.Promise.{Promise}
 use Rattle.gl_app.specs.Texts.{no_flight}
 
 -- the goal over all fixes of a recording, which have to close to at most 1,000 m
@@ -24,6 +25,6 @@ abbrev pub IsTriangleText : Reading → List ℕ → Type 0
 IsTriangleText reading said =
     OfFixes reading (λ fixes. IsTriangleOf (whole_triangle_goal fixes) said)
 
--- the answer for a file and what the tests saw of it
-abbrev pub IsTriangle : List ℕ → Option (List ℕ) → Answer → Type 0
-IsTriangle = IsOfFile IsTriangleText
+-- the promise of `triangle`
+abbrev pub triangle_promise : Option FilesByName → List ℕ → Promise
+triangle_promise = of_file_promise IsTriangleText

@@ -4,10 +4,8 @@ ghost use Rattle.gl_desk.specs.Answers.{CountsFaults};
 ghost use Rattle.gl_goal.specs.AnyGoal.{any_rule};
 ghost use Rattle.gl_plain.specs.Answer.{IsAnswer};
 ghost use Rattle.gl_day.specs.Flight.{steward_rules};
-ghost use Rattle.gl_app.specs.Answer.{answer_with};
-ghost use Rattle.gl_app.specs.Appending.{HasGiven};
 ghost use Rattle.gl_app.specs.Command.{seen};
-ghost use Rattle.gl_app.specs.Run.{ChecksScored, Ends, IsBegunFor, IsRight, IsRightFor, IsRun, IsStopped, PassTests, SaidLine, target_of};
+ghost use Rattle.gl_app.specs.Run.{Ends, HasAnswered, IsRun, IsStopped, SaidLine, promise_of};
 ghost use Rattle.gl_app.specs.Statuses.{stop_at};
 ghost use Rattle.gl_app.specs.Words.{command_of, workers_of};
 
@@ -41,15 +39,12 @@ fn answer_to_command<D: Desk, S: Search>(
     stewards: &mut Vec<Box<dyn Steward>>,
 ) -> Result<Answer, DeskError>
     requires { S.ready search.now }
-    ensures right { IfOk result (λ answer. (text : List ℕ)
-        × IsRightFor (D.told desk.old).folder
+    ensures right { IfOk result (HasAnswered (promise_of (D.told desk.old).folder
         (map (λ s. steward_rules (opening s) (fed s) (owed s)) stewards.old.items)
-        (seen command.entry) (answer_with answer text)
-        × HasGiven (target_of (Some (seen command.entry))) text
-        (D.told desk.old) (D.told desk.new)) }
-    ensures stopped { IfErr result
-        (IsStopped (IsBegunFor (D.told desk.old).folder (Some (seen command.entry)))
-        (target_of (Some (seen command.entry))) (D.told desk.old) (D.told desk.new)) }
+        (Some (seen command.entry))) (D.told desk.old) (D.told desk.new)) }
+    ensures stopped { IfErr result (IsStopped (promise_of (D.told desk.old).folder
+        (map (λ s. steward_rules (opening s) (fed s) (owed s)) stewards.old.items)
+        (Some (seen command.entry))) (D.told desk.old) (D.told desk.new)) }
     ensures kept { map (λ s. steward_rules (opening s) (fed s) (owed s)) stewards.new.items
         ≡ map (λ s. steward_rules (opening s) (fed s) (owed s)) stewards.old.items }
 {
@@ -72,15 +67,12 @@ fn answer_to_words<D: Desk, S: Search>(
     stewards: &mut Vec<Box<dyn Steward>>,
 ) -> Result<Answer, DeskError>
     requires { S.ready search.now }
-    ensures right { IfOk result (λ answer. (text : List ℕ)
-        × IsRight (D.told desk.old).folder
+    ensures right { IfOk result (HasAnswered (promise_of (D.told desk.old).folder
         (map (λ s. steward_rules (opening s) (fed s) (owed s)) stewards.old.items)
-        (command_of words.now) (answer_with answer text)
-        × HasGiven (target_of (command_of words.now)) text
-        (D.told desk.old) (D.told desk.new)) }
-    ensures stopped { IfErr result
-        (IsStopped (IsBegunFor (D.told desk.old).folder (command_of words.now))
-        (target_of (command_of words.now)) (D.told desk.old) (D.told desk.new)) }
+        (command_of words.now)) (D.told desk.old) (D.told desk.new)) }
+    ensures stopped { IfErr result (IsStopped (promise_of (D.told desk.old).folder
+        (map (λ s. steward_rules (opening s) (fed s) (owed s)) stewards.old.items)
+        (command_of words.now)) (D.told desk.old) (D.told desk.new)) }
     ensures kept { map (λ s. steward_rules (opening s) (fed s) (owed s)) stewards.new.items
         ≡ map (λ s. steward_rules (opening s) (fed s) (owed s)) stewards.old.items }
 {
@@ -102,14 +94,15 @@ fn carry_out<D: Desk, S: Search>(
     stewards: &mut Vec<Box<dyn Steward>>,
 ) -> Status
     requires { S.ready search.now }
-    ensures right { Ends (IsRight (D.told desk.old).folder
+    ensures right { Ends (promise_of (D.told desk.old).folder
         (map (λ s. steward_rules (opening s) (fed s) (owed s)) stewards.old.items)
-        (command_of words.now))
-        (target_of (command_of words.now)) result (D.told desk.old) (D.told desk.new) }
-    ensures complete { PassTests (D.told desk.old).folder (command_of words.now)
-        → (result ≢ Status.Words) × (result ≢ Status.Refused) }
-    ensures accepted { ChecksScored (D.told desk.old).folder (command_of words.now)
-        → IfNone (stop_at result) (result ≡ Status.Done) }
+        (command_of words.now)) result (D.told desk.old) (D.told desk.new) }
+    ensures complete { (promise_of (D.told desk.old).folder
+        (map (λ s. steward_rules (opening s) (fed s) (owed s)) stewards.old.items)
+        (command_of words.now)).Passes → (result ≢ Status.Words) × (result ≢ Status.Refused) }
+    ensures accepted { (promise_of (D.told desk.old).folder
+        (map (λ s. steward_rules (opening s) (fed s) (owed s)) stewards.old.items)
+        (command_of words.now)).ChecksOwn → IfNone (stop_at result) (result ≡ Status.Done) }
     ensures words { IfNone (stop_at result)
         ((result ≡ Status.Words) ↔ IsNone (command_of words.now)) }
     ensures line { IfNone (stop_at result)

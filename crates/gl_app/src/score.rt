@@ -1,10 +1,8 @@
-ghost use Rattle.std.specs.Prelude.{◌≡◌, ℕ, List, Some, IfErr, IfOk, map};
+ghost use Rattle.std.specs.Prelude.{◌≡◌, IfErr, IfOk, map};
 ghost use Rattle.gl_day.specs.Flight.{steward_rules};
-ghost use Rattle.gl_app.specs.Answer.{answer_with};
-ghost use Rattle.gl_app.specs.Appending.{HasGiven};
 ghost use Rattle.gl_app.specs.DayNames.{names_seen};
-ghost use Rattle.gl_app.specs.Run.{IsStopped};
-ghost use Rattle.gl_app.specs.Score.{IsScore, IsScoreBegun};
+ghost use Rattle.gl_app.specs.Run.{HasAnswered, IsStopped};
+ghost use Rattle.gl_app.specs.Score.{score_promise};
 
 use crate::answer::Answer;
 use crate::day_files::test_score_files;
@@ -26,14 +24,12 @@ pub fn score<D: Desk, S: Search>(
     stewards: &mut Vec<Box<dyn Steward>>,
 ) -> Result<Answer, DeskError>
     requires { S.ready search.now }
-    ensures right { IfOk result (λ answer. (text : List ℕ)
-        × IsScore (D.told desk.old).folder
+    ensures right { IfOk result (HasAnswered (score_promise (D.told desk.old).folder
         (map (λ s. steward_rules (opening s) (fed s) (owed s)) stewards.old.items)
-        (names_seen day.entry) (answer_with answer text)
-        × HasGiven (Some day.entry.proof.now) text (D.told desk.old) (D.told desk.new)) }
-    ensures stopped { IfErr result
-        (IsStopped (IsScoreBegun (D.told desk.old).folder (names_seen day.entry))
-        (Some day.entry.proof.now) (D.told desk.old) (D.told desk.new)) }
+        (names_seen day.entry)) (D.told desk.old) (D.told desk.new)) }
+    ensures stopped { IfErr result (IsStopped (score_promise (D.told desk.old).folder
+        (map (λ s. steward_rules (opening s) (fed s) (owed s)) stewards.old.items)
+        (names_seen day.entry)) (D.told desk.old) (D.told desk.new)) }
     ensures kept { map (λ s. steward_rules (opening s) (fed s) (owed s)) stewards.new.items
         ≡ map (λ s. steward_rules (opening s) (fed s) (owed s)) stewards.old.items }
 {

@@ -10,7 +10,7 @@ returns-in-Err-clause-right g c =
 pub returns-in_err-sheet-clause-stopped : goal.returns-in_err-sheet-clause-stopped
 returns-in_err-sheet-clause-stopped g c =
     let p = err_from_is_err_and c.from_residual-in_err-sheet.result c.from_residual-in_err-sheet.ensures.1 in
-    rw (p.1, p.2) (score_stopped (names_seen c.args.day) c.in-Ok.files (g.D.Desk.told c.args.desk.now) (g.D.Desk.told c.names.new.self) (g.D.Desk.told c.test_score_files.new.desk) (g.D.Desk.told c.score_day.new.desk) c.in_err-sheet.field-0.0 c.in_ok-names.ensures.reads c.in-Ok.ensures.tested c.in-Ok.ensures.reads c.in_err-sheet.ensures.stopped)
+    rw (p.1, p.2) (score_stopped (names_seen c.args.day) _ c.in-Ok.files (g.D.Desk.told c.args.desk.now) (g.D.Desk.told c.names.new.self) (g.D.Desk.told c.test_score_files.new.desk) (g.D.Desk.told c.score_day.new.desk) c.in_err-sheet.field-0.0 c.in_ok-names.ensures.reads c.in-Ok.ensures.tested c.in-Ok.ensures.reads c.in_err-sheet.ensures.stopped)
 
 pub returns-clause-right : goal.returns-clause-right
 returns-clause-right g c =

@@ -1,25 +1,16 @@
--- A right answer without a result says one line.
-use Rattle.std.proofs.Common.{◌≡◌, ◌≢◌, refl, sym, subst, ℕ, ◌-◌, Bool, true, false, ◌&&◌, if◌then◌else◌, List, [], ◌∷◌, length, take, Option, None, Some, codes}
-use Rattle.std.specs.Prelude.{IfNone, option_map}
+-- The files that words name have names without an LF.
+use Rattle.std.proofs.Common.{◌≡◌, refl, ℕ, Bool, true, false, ◌&&◌, if◌then◌else◌, List, [], ◌∷◌, Option, None, Some, codes}
+use Rattle.std.specs.Prelude.{option_map}
 use Rattle.std.specs.Cmp.{first_so, second_so}
 use Rattle.std.specs.Str.Parse.{digits_value}
 use Rattle.std.specs.Option.{option_or}
-use Rattle.gl_desk.specs.Desk.{FilesByName, followed_by}
-use Rattle.gl_day.specs.Flight.{StewardRules}
-use Rattle.gl_app.specs.declared.status.Status.TheVariants.{Done}
-use Rattle.gl_app.specs.Answer.{Answer}
-use Rattle.gl_app.specs.Free.{IsFreeText}
-use Rattle.gl_app.specs.Triangle.{IsTriangleText}
-use Rattle.gl_app.specs.Run.{IsRight, SaidLine}
-use Rattle.gl_app.specs.Statuses.{stop_at}
-use Rattle.gl_app.specs.Texts.{IsLine, usage_line}
 use Rattle.gl_app.specs.Words.{Check, Command, DayNames, Demo, Free, Replay, ReplayWords, Score, Triangle, check_form, command_of, day_names, demo_form, file_form, is_file_name, is_text, is_worker_count, replay_form, replay_words, score_form}
-use Rattle.gl_app.proofs.DayLines.{AreUnbroken, check_line, score_line, demo_line}
-use Rattle.gl_app.proofs.ReplayLines.{HasUnbrokenFiles, replay_line}
-use Rattle.gl_app.proofs.LineTexts.{of_file_line, is_unbroken, is_unbroken-file, line_of}
+use Rattle.gl_app.proofs.DayLines.{AreUnbroken}
+use Rattle.gl_app.proofs.ReplayLines.{HasUnbrokenFiles}
+use Rattle.gl_app.proofs.LineTexts.{is_unbroken, is_unbroken-file}
 
 -- the files of a command have such names
-abbrev HasUnbrokenNames : Option Command → Type 0
+abbrev pub HasUnbrokenNames : Option Command → Type 0
 HasUnbrokenNames None = Unit {0}
 HasUnbrokenNames (Some (Free file)) = is_unbroken file ≡ true
 HasUnbrokenNames (Some (Triangle file)) = is_unbroken file ≡ true
@@ -132,7 +123,8 @@ or_names : (first other : Option Command) → HasUnbrokenNames first → HasUnbr
 or_names None other named others = others
 or_names (Some command) other named others = named
 
-command_names : (words : List (List ℕ)) → HasUnbrokenNames (command_of words)
+-- those of words
+pub command_names : (words : List (List ℕ)) → HasUnbrokenNames (command_of words)
 unfolding command_of
 command_names words =
     let free = file_form (codes "free") words in
@@ -148,24 +140,3 @@ command_names words =
     (or_names score (option_or check replay) (as_score (score_form words) (score_names words))
     (or_names check replay (as_check (check_form words) (check_names words)) (as_replay (replay_form words) (replay_names words))))
     (as_demo (demo_form words))))
-
-usage_is_line : IsLine usage_line
-usage_is_line = line_of (take (length usage_line - 1) usage_line) refl
-
-answer_line : (folder : Option FilesByName) (stewards : List StewardRules) (command : Option Command) (answer : Answer) → HasUnbrokenNames command → IsRight folder stewards command answer → answer.status ≢ Done → IsLine answer.said
-answer_line folder stewards None answer names right unless = subst (λ (a : Answer). IsLine a.said) (sym right) usage_is_line
-answer_line folder stewards (Some (Free file)) answer names right unless = of_file_line IsFreeText file right.0 answer names right.2 unless
-answer_line folder stewards (Some (Triangle file)) answer names right unless = of_file_line IsTriangleText file right.0 answer names right.2 unless
-answer_line folder stewards (Some (Score files)) answer names right unless = score_line folder stewards files answer names right unless
-answer_line folder stewards (Some (Check files)) answer names right unless = check_line folder files answer names right unless
-answer_line folder stewards (Some (Replay words)) answer names right unless = replay_line folder words answer names right unless
-answer_line folder stewards (Some (Demo number)) answer names right unless = demo_line stewards number answer right unless
-
-pub if_none : {X P : Type 0} (o : Option X) → P → IfNone o P
-if_none None holds = holds
-if_none (Some x) holds = tt
-
-pub said_line : (folder : Option FilesByName) (stewards : List StewardRules) (words : List (List ℕ)) (answer : Answer) (before after : Option (List ℕ)) → IsRight folder stewards (command_of words) answer → after ≡ followed_by before answer.said → IfNone (stop_at answer.status) (answer.status ≢ Done → SaidLine before after)
-said_line folder stewards words answer before after right told =
-    if_none (stop_at answer.status)
-    (λ unless. (answer.said, answer_line folder stewards (command_of words) answer (command_names words) right unless, told))
