@@ -6,7 +6,7 @@ use Rattle.std.specs.Str.Parse.{digits_value}
 use Rattle.std.specs.Option.{option_or}
 use Rattle.gl_app.specs.Words.{Check, Command, DayNames, Demo, Free, Replay, ReplayWords, Score, Triangle, check_form, command_of, day_names, demo_form, file_form, is_file_name, is_text, is_worker_count, replay_form, replay_words, score_form}
 use Rattle.gl_app.proofs.DayLines.{AreUnbroken}
-use Rattle.gl_app.proofs.ReplayLines.{HasUnbrokenFiles}
+use Rattle.gl_app.proofs.ReplayLaws.{HasUnbrokenFiles}
 use Rattle.gl_app.proofs.LineTexts.{is_unbroken, is_unbroken-file}
 
 -- the files of a command have such names

@@ -22,6 +22,7 @@ use Rattle.gl_app.specs.Answer.{Answer, answer_of}
 use Rattle.gl_app.specs.Appending.{HasGiven}
 use Rattle.gl_app.specs.Check.{IsCheck, check_promise}
 use Rattle.gl_app.specs.DayFiles.{IsScoreTested}
+use Rattle.gl_app.specs.FileTests.{FileTest, HasTested, IsByTests}
 use Rattle.gl_app.specs.Halts.{AnswersHalt, IsTested, halt_stop}
 use Rattle.gl_app.specs.Promise.{Promise, reading}
 use Rattle.gl_app.specs.Run.{Ends, HasAnswered, IsStopped, Stops}
@@ -147,3 +148,10 @@ unread_right IsRight Passes x (Err stop) right = tt
 pub stopped_ends : (promise : Promise) (stop : DeskError) (status : Status) (x z : Told) → status ≡ status_of stop → Stops promise x z → Ends promise status x z
 stopped_ends promise Failed status x z is stops = subst (λ (s : Status). Ends promise s x z) (sym is) stops
 stopped_ends promise Memory status x z is stops = subst (λ (s : Status). Ends promise s x z) (sym is) stops
+
+-- What ended the tests of files is answered: the line of the first that failed.
+pub halt_answered : {Seen X : Type 0} (IsSeen : Seen → Type 0) (tests : Seen → List FileTest) (AreRead : Seen → X → Type 0) (Gives : Seen → Answer → Type 0) (halt : Halt) (result : Result code.Answer DeskError) → HasTested IsSeen tests AreRead (Err halt) → AnswersHalt halt result → IfOk result (λ answer. IsByTests IsSeen tests Gives (answer_of answer))
+halt_answered IsSeen tests AreRead Gives (Refused refusal) (Ok answer) (seen, is, fails) same = (seen, is, inr (refusal, fails, same))
+halt_answered IsSeen tests AreRead Gives (Refused refusal) (Err stop) tested same = tt
+halt_answered IsSeen tests AreRead Gives (Stopped stop) (Ok answer) tested same = absurd same
+halt_answered IsSeen tests AreRead Gives (Stopped stop) (Err error) tested same = tt

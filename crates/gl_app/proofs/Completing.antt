@@ -24,12 +24,8 @@ use Rattle.gl_app.specs.declared.status.Status.TheVariants.{Done}
 use Rattle.gl_app.specs.Answer.{Answer}
 use Rattle.gl_app.specs.Asked.{AreAsked}
 use Rattle.gl_app.specs.Score.{IsBegun, IsDayScored, IsScored, Scored, flights_of_all, statements_of_all, text_so_far}
+use Rattle.gl_app.proofs.DayTests.{seen_some}
 use Rattle.gl_app.proofs.Flights.{all_texts, length-flights, zip-append}
-
--- what is seen of a file, where the folder may be told or not
-seen_some : (folder : Option FilesByName) (file : List ℕ) → (seen : Option (List ℕ)) × IsSeenIn folder file seen
-seen_some None file = (None, tt)
-seen_some (Some files) file = (files file, refl)
 
 -- what proves the claims of two parts is what proves those of the first, and what proves those of
 -- the second

@@ -67,6 +67,11 @@ pub not_listed : (folder : Option FilesByName) (names : List (List ℕ)) (file :
 not_listed None names file lists none = tt
 not_listed (Some files) names file lists none = none_seen (files file) (λ there. none ((lists.1 file).1 there))
 
+-- what is seen of a file, where the folder may be told or not
+pub seen_some : (folder : Option FilesByName) (file : List ℕ) → (seen : Option (List ℕ)) × IsSeenIn folder file seen
+seen_some None file = (None, tt)
+seen_some (Some files) file = (files file, refl)
+
 -- a file that the folder has
 some_seen : (seen : Option (List ℕ)) → IsSome seen → (bytes : List ℕ) × (seen ≡ Some bytes)
 some_seen None there = cc

@@ -17,6 +17,7 @@ pub mod DayNumbers
 pub mod DayTests
 pub mod DemoTask
 pub mod Demos
+pub mod FileTests
 pub mod Flights
 pub mod Bests
 pub mod LineTexts
@@ -25,8 +26,6 @@ pub mod OneAnswer
 pub mod OneDay
 pub mod OneFlight
 pub mod Readings
-pub mod ReplayLines
-pub mod ReplayPasses
 pub mod ReplayTests
 pub mod Replays
 pub mod Pieces

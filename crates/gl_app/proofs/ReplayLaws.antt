@@ -1,30 +1,29 @@
 -- The laws of `replay`.
-use Rattle.std.proofs.Common.{◌≢◌, ap, inl, Option, None, Some, Ok, Err}
+use Rattle.std.proofs.Common.{◌≡◌, ◌≢◌, ap, inl, true, Option}
 use Rattle.gl_desk.specs.Desk.{FilesByName}
-use Rattle.gl_app.specs.declared.status.Status.TheVariants.{Refused}
+use Rattle.gl_app.specs.declared.status.Status.TheVariants.{Done, Refused}
 use Rattle.gl_app.specs.Answer.{Answer}
-use Rattle.gl_app.specs.Replay.{IsReplay, replay_promise}
-use Rattle.gl_app.specs.ReplayFiles.{PassesReplay}
+use Rattle.gl_app.specs.Replay.{IsReplay, IsReplayed, replay_promise}
+use Rattle.gl_app.specs.ReplayFiles.{IsReplaySeen, ReplaySeen, replay_tests}
 use Rattle.gl_app.specs.Words.{ReplayWords}
-use Rattle.gl_app.proofs.Promises.{IsLawful, IsResult, done_no_refusal, reading_lawful, refuses}
-use Rattle.gl_app.proofs.ReplayLines.{HasUnbrokenFiles, replay_line}
-use Rattle.gl_app.proofs.ReplayPasses.{replay_not_refused}
+use Rattle.gl_app.proofs.FileTests.{AreNamed, by_tests_line, by_tests_passes, by_tests_result}
+use Rattle.gl_app.proofs.LineTexts.{is_unbroken}
+use Rattle.gl_app.proofs.Promises.{IsLawful, done_no_refusal, reading_lawful}
 
-replay_result : (folder : Option FilesByName) (words : ReplayWords) (answer : Answer) → IsReplay folder words answer → IsResult answer.status
-replay_result folder words answer (Ok read, tested, (said, is, same)) = inl (ap (λ (a : Answer). a.status) same)
-replay_result folder words answer (Err refusal, tested, same) = refuses answer refusal.file refusal.cause same
+-- the names of the files have no LF
+pub record HasUnbrokenFiles (words : ReplayWords) : Type 0 where
+  pub flight : is_unbroken words.flight ≡ true
+  pub schedule : is_unbroken words.schedule ≡ true
 
-replay_passes : (files : FilesByName) (words : ReplayWords) (answer : Answer) → PassesReplay files words → IsReplay (Some files) words answer → answer.status ≢ Refused
-replay_passes files words answer passes (Ok read, tested, (said, is, same)) = done_no_refusal answer.status (inl (ap (λ (a : Answer). a.status) same))
-replay_passes files words answer passes (Err refusal, tested, same) = absurd (replay_not_refused files words refusal passes tested)
+replay_named : (words : ReplayWords) → HasUnbrokenFiles words → (seen : ReplaySeen) → AreNamed (replay_tests words seen)
+replay_named words named seen = (named.flight, (named.schedule, (named.flight, (named.flight, (named.schedule, (named.schedule, tt))))))
 
-told_passes : (folder : Option FilesByName) (words : ReplayWords) → (replay_promise folder words).Passes → (answer : Answer) → IsReplay folder words answer → answer.status ≢ Refused
-told_passes None words passes answer right = absurd passes
-told_passes (Some files) words passes answer right = replay_passes files words answer passes right
+replayed_done : (words : ReplayWords) (seen : ReplaySeen) (answer : Answer) → IsReplayed words seen answer → answer.status ≡ Done
+replayed_done words seen answer (read, are, said, is, same) = ap (λ (a : Answer). a.status) same
 
 pub replay_lawful : (folder : Option FilesByName) (words : ReplayWords) → HasUnbrokenFiles words → IsLawful (replay_promise folder words)
 replay_lawful folder words named =
     reading_lawful (IsReplay folder words) (replay_promise folder words).Passes
-    (replay_result folder words)
-    (told_passes folder words)
-    (λ answer right unless. replay_line folder words answer named right unless)
+    (by_tests_result (IsReplaySeen words folder) (replay_tests words) (IsReplayed words) (λ seen answer is. inl (replayed_done words seen answer is)))
+    (by_tests_passes folder (IsReplaySeen words) (replay_tests words) (IsReplayed words) (λ seen answer is. done_no_refusal answer.status (inl (replayed_done words seen answer is))))
+    (by_tests_line (IsReplaySeen words folder) (replay_tests words) (IsReplayed words) (replay_named words named) (λ seen answer is unless. absurd (unless (replayed_done words seen answer is))))

@@ -18,6 +18,7 @@ pub mod ReplayFiles
 pub mod Replay
 pub mod DayNames
 pub mod Halts
+pub mod FileTests
 pub mod DayFiles
 pub mod Appending
 pub mod Asked

@@ -1,5 +1,5 @@
 -- The right answer of `replay`.
-use Rattle.std.specs.Prelude.{◌≡◌, ℕ, List, [], ◌∷◌, ◌++◌, length, codes, Option, Vec, MatchResult}
+use Rattle.std.specs.Prelude.{◌≡◌, ℕ, List, [], ◌∷◌, ◌++◌, length, codes, Option, Vec}
 use Rattle.std.specs.Fmt.{decimal}
 use Rattle.std.specs.declared.alloc.Global.{Global}
 use Rattle.gl_desk.specs.Desk.{FilesByName}
@@ -8,12 +8,12 @@ use Rattle.gl_igc.specs.declared.recording.Recording.{Recording}
 use Rattle.gl_plain.specs.Machine.{IsAfter, State, closed_in}
 use Rattle.gl_plain.specs.declared.schedule.Step.{Step}
 use Rattle.gl_app.specs.declared.status.Status.TheVariants.{Done}
-use Rattle.gl_app.specs.Answer.{Answer, refused, saying}
+use Rattle.gl_app.specs.Answer.{Answer, saying}
 use Rattle.gl_app.specs.Best.{IsBestText}
-use Rattle.gl_app.specs.DayFiles.{Tested}
+use Rattle.gl_app.specs.FileTests.{IsByTests, PassByTests}
 use Rattle.gl_app.specs.Free.{whole_free_goal}
-use Rattle.gl_app.specs.Promise.{IsTold, Promise, reading}
-use Rattle.gl_app.specs.ReplayFiles.{IsReplayTested, PassesReplay}
+use Rattle.gl_app.specs.Promise.{Promise, reading}
+use Rattle.gl_app.specs.ReplayFiles.{AreReplayRead, IsReplaySeen, ReplaySeen, replay_tests}
 use Rattle.gl_app.specs.Words.{ReplayWords}
 
 -- the line with the number of the boxes that workers closed by their steps
@@ -44,19 +44,19 @@ abbrev pub IsReplayOf : Recording → ℕ → List Step → List ℕ → Type 0
 IsReplayOf recording workers steps said =
     IsReplayText (whole_free_goal recording.fixes) workers steps said
 
--- the answer says what is right for the recording and the steps
-abbrev pub IsReplayed : ℕ → Recording × Vec Step Global → Answer → Type 0
-IsReplayed workers read answer =
-    (said : List ℕ) × IsReplayOf read.0 workers read.1.items said × (answer ≡ saying Done said)
+-- the answer says what is right for the recording and the steps that were seen
+abbrev pub IsReplayed : ReplayWords → ReplaySeen → Answer → Type 0
+IsReplayed words seen answer =
+    (read : Recording × Vec Step Global) × AreReplayRead seen read
+    × (said : List ℕ) × IsReplayOf read.0 words.workers read.1.items said
+    × (answer ≡ saying Done said)
 
--- the answer of `replay`: that of the files that pass the tests, or the first refusal
+-- the answer of `replay`
 abbrev pub IsReplay : Option FilesByName → ReplayWords → Answer → Type 0
 IsReplay folder words answer =
-    (tested : Tested (Recording × Vec Step Global)) × IsReplayTested folder words tested
-    × MatchResult tested (λ read. IsReplayed words.workers read answer)
-    (λ refusal. answer ≡ refused refusal.file refusal.cause)
+    IsByTests (IsReplaySeen words folder) (replay_tests words) (IsReplayed words) answer
 
 -- the promise of `replay`
 abbrev pub replay_promise : Option FilesByName → ReplayWords → Promise
 replay_promise folder words =
-    reading (IsReplay folder words) (IsTold folder (λ files. PassesReplay files words))
+    reading (IsReplay folder words) (PassByTests folder (IsReplaySeen words) (replay_tests words))

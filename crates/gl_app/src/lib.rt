@@ -12,6 +12,7 @@ mod day_files;
 mod day_names;
 mod day_number;
 mod demo;
+mod file_tests;
 mod free;
 mod halt;
 mod laws;

@@ -1,57 +1,22 @@
-ghost use Rattle.std.specs.Prelude.{◌≡◌, ◌≤◌, IfOk, None, length};
+ghost use Rattle.std.specs.Prelude.{◌≡◌, ◌≤◌, IfOk, length};
 ghost use Rattle.gl_desk.specs.Answers.{OnlyReads};
 ghost use Rattle.gl_desk.specs.Desk.{HasFile, ListsNames};
-ghost use Rattle.gl_igc.specs.Reading.{recording_of};
-ghost use Rattle.gl_app.specs.DayFiles.{SeesBytes};
-ghost use Rattle.gl_app.specs.Halts.{IsNoFault, IsTested, halt_stop};
-ghost use Rattle.gl_app.specs.ReplayFiles.{AreStepsOf, IsRecordingIn, IsRecordingOf, IsReplayTested, IsScheduleIn, recording_cause, schedule_cause};
+ghost use Rattle.gl_day.specs.Flight.{most_bytes};
+ghost use Rattle.gl_app.specs.FileTests.{HasRead, HasReadFile, HasTested, ScheduleText, schedule_cause};
+ghost use Rattle.gl_app.specs.Halts.{IsNoFault, halt_stop};
+ghost use Rattle.gl_app.specs.ReplayFiles.{AreReplayRead, AreStepsOf, IsReplaySeen, replay_tests};
 ghost use Rattle.gl_app.specs.ReplayWords.{replay_seen};
 
 use crate::day_files::read_bytes;
-use crate::halt::{Halt, refusing, refusing_for};
+use crate::file_tests::{need, read_recording};
+use crate::halt::{Halt, refusing_for};
 use crate::refusal::Cause;
 use crate::replay_words::ReplayWords;
 use gl_day::MOST_BYTES;
 use gl_desk::{Desk, Name};
-use gl_igc::{IgcError, Recording, read_igc};
+use gl_igc::Recording;
 use gl_plain::{Step, StepError, read_steps};
 use std::alloc::Global;
-
-/// Why a text is no recording; `None` for want of memory. Without a day of a task no recording is
-/// of another day.
-fn recording_cause(error: &IgcError) -> Option<Cause>
-    ensures { result ≡ recording_cause error.now }
-{
-    match error {
-        IgcError::NotIgc => Some(Cause::NotIgc),
-        IgcError::NoDate => Some(Cause::NoDate),
-        IgcError::TooManyFixes { line } => Some(Cause::TooManyFixes(*line)),
-        IgcError::NoFix => Some(Cause::NoFix),
-        IgcError::WrongDay { .. } | IgcError::Memory => None,
-    }
-}
-
-/// The recording of a text.
-fn recording_in(alloc: Global, file: &Name, text: &[u8]) -> Result<Recording, Halt>
-    ensures tested { IsTested (IsRecordingIn file.now (recording_of text.now None)) result }
-    ensures no_fault { IsNoFault result }
-{
-    match read_igc(alloc, text, None) {
-        Ok(recording) => Ok(recording),
-        Err(error) => Err(refusing_for(file, recording_cause(&error))),
-    }
-}
-
-/// The recording of a listed file.
-fn read_recording<D: Desk>(alloc: Global, desk: &mut D, file: &Name) -> Result<Recording, Halt>
-    requires { HasFile (D.told desk.old).folder file.now }
-    ensures tested { IsTested (λ tested. SeesBytes (D.told desk.old).folder file.now
-        (λ bytes. IsRecordingOf file.now bytes tested)) result }
-    ensures reads { OnlyReads (halt_stop result) (D.told desk.old) (D.told desk.new) }
-{
-    let bytes = read_bytes(alloc, desk, file, MOST_BYTES)?;
-    recording_in(alloc, file, &bytes)
-}
 
 /// Why a text is no schedule; `None` for want of memory.
 fn schedule_cause(error: StepError) -> Option<Cause>
@@ -66,7 +31,7 @@ fn schedule_cause(error: StepError) -> Option<Cause>
 
 /// The steps of a text.
 fn steps_in(alloc: Global, file: &Name, text: &[u8]) -> Result<Vec<Step>, Halt>
-    ensures tested { IsTested (IsScheduleIn file.now text.now) result }
+    ensures read { HasRead ScheduleText file.now text.now AreStepsOf result }
     ensures few { IfOk result (λ steps. length steps.items ≤ 1_000_000) }
     ensures no_fault { IsNoFault result }
 {
@@ -79,8 +44,8 @@ fn steps_in(alloc: Global, file: &Name, text: &[u8]) -> Result<Vec<Step>, Halt>
 /// The steps of a listed file.
 fn read_schedule<D: Desk>(alloc: Global, desk: &mut D, file: &Name) -> Result<Vec<Step>, Halt>
     requires { HasFile (D.told desk.old).folder file.now }
-    ensures tested { IsTested (λ tested. SeesBytes (D.told desk.old).folder file.now
-        (λ bytes. AreStepsOf file.now bytes tested)) result }
+    ensures read { HasReadFile ScheduleText most_bytes (D.told desk.old).folder file.now
+        AreStepsOf result }
     ensures few { IfOk result (λ steps. length steps.items ≤ 1_000_000) }
     ensures reads { OnlyReads (halt_stop result) (D.told desk.old) (D.told desk.new) }
 {
@@ -100,17 +65,13 @@ pub fn test_replay_files<D: Desk>(
     words: ReplayWords<'_>,
 ) -> Result<(Recording, Vec<Step>), Halt>
     requires { ListsNames (D.told desk.old).folder names.now }
-    ensures tested { IsTested
-        (IsReplayTested (D.told desk.old).folder (replay_seen words.entry)) result }
+    ensures tested { HasTested (IsReplaySeen (replay_seen words.entry) (D.told desk.old).folder)
+        (replay_tests (replay_seen words.entry)) AreReplayRead result }
     ensures few { IfOk result (λ read. length read.1.items ≤ 1_000_000) }
     ensures reads { OnlyReads (halt_stop result) (D.told desk.old) (D.told desk.new) }
 {
-    if !names.contains(words.flight) {
-        return Err(refusing(words.flight, Cause::NotListed));
-    }
-    if !names.contains(words.schedule) {
-        return Err(refusing(words.schedule, Cause::NotListed));
-    }
+    need(names, words.flight)?;
+    need(names, words.schedule)?;
     let recording = read_recording(alloc, desk, words.flight)?;
     let steps = read_schedule(alloc, desk, words.schedule)?;
     Ok((recording, steps))

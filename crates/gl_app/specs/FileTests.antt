@@ -1,0 +1,154 @@
+-- The tests of a command's files: the first that fails refuses its file.
+use Rattle.std.specs.Prelude.{◌≡◌, ℕ, ◌≤◌, ◌<◌, ◌⊎◌, ℤ, Contains, List, [], ◌∷◌, length, Option, None, Some, Result, Err, Ok, IsNone, IsSome, IsSomeAnd, ⊤}
+use Rattle.gl_desk.specs.Desk.{FilesByName, IsSeenIn}
+use Rattle.gl_igc.specs.Reading.{Reading, recording_of}
+use Rattle.gl_igc.specs.declared.error.IgcError.{IgcError}
+use Rattle.gl_igc.specs.declared.error.IgcError.TheVariants as igc
+use Rattle.gl_plain.specs.Schedule.{IsRefused, IsSchedule}
+use Rattle.gl_plain.specs.declared.error.StepError.{StepError}
+use Rattle.gl_plain.specs.declared.error.StepError.TheVariants as step
+use Rattle.gl_plain.specs.declared.schedule.Step.{Step}
+use Rattle.gl_app.specs.declared.halt.Halt.{Halt}
+use Rattle.gl_app.specs.declared.halt.Halt.TheVariants.{Refused, Stopped}
+use Rattle.gl_app.specs.declared.refusal.Cause.{Cause}
+use Rattle.gl_app.specs.declared.refusal.Cause.TheVariants.{NotIgc, NoDate, NoFix, NotListed, TooLarge, TooManyFixes, TooManySteps, WrongStep}
+use Rattle.gl_app.specs.declared.refusal.Cause.TheVariants as cause
+use Rattle.gl_app.specs.declared.refusal.Refusal.{Refusal}
+use Rattle.gl_app.specs.Answer.{Answer, refused}
+use Rattle.gl_app.specs.Promise.{IsTold}
+use Rattle.gl_app.specs.Refusals.{file_refusal}
+
+-- What a text is to be: a recording, by the day of a task if there is one; a schedule. A further kind
+-- has its line here, and in the two rules below.
+pub data Kind : Type 0 where
+  RecordingText : Option ℤ → Kind
+  ScheduleText : Kind
+
+-- why a text is no recording; without a day of a task none is of another day
+abbrev pub recording_cause : IgcError → Option Cause
+recording_cause igc.NotIgc = Some NotIgc
+recording_cause igc.NoDate = Some NoDate
+recording_cause (igc.WrongDay day) = None
+recording_cause (igc.TooManyFixes line) = Some (TooManyFixes line)
+recording_cause igc.NoFix = Some NoFix
+recording_cause igc.Memory = None
+
+-- why a text is no schedule
+abbrev pub schedule_cause : StepError → Option Cause
+schedule_cause (step.Line line) = Some (WrongStep line)
+schedule_cause step.TooMany = Some TooManySteps
+schedule_cause step.Memory = None
+
+-- a text is of a kind
+abbrev pub IsText : Kind → List ℕ → Type 0
+IsText (RecordingText day) text = (reading : Reading) × (recording_of text day ≡ Ok reading)
+IsText ScheduleText text = (steps : List Step) × IsSchedule text steps
+
+-- a text isn't of a kind, for this cause
+abbrev pub IsNoText : Kind → List ℕ → Cause → Type 0
+IsNoText (RecordingText day) text cause =
+    (error : IgcError) × (recording_of text day ≡ Err error)
+    × (recording_cause error ≡ Some cause)
+IsNoText ScheduleText text cause =
+    (error : StepError) × IsRefused text error × (schedule_cause error ≡ Some cause)
+
+-- What is tested of a file, by what is seen of it, its bytes or that it isn't listed: that it is
+-- listed, that it isn't, that it has at most so many bytes, and what its text is.
+pub data FileTest : Type 0 where
+  Listed : List ℕ → Option (List ℕ) → FileTest
+  Unlisted : List ℕ → Option (List ℕ) → FileTest
+  Small : ℕ → List ℕ → Option (List ℕ) → FileTest
+  Reads : Kind → List ℕ → Option (List ℕ) → FileTest
+
+-- the name of the file
+abbrev pub file_of : FileTest → List ℕ
+file_of (Listed file seen) = file
+file_of (Unlisted file seen) = file
+file_of (Small most file seen) = file
+file_of (Reads kind file seen) = file
+
+-- the test passes
+abbrev pub Passes : FileTest → Type 0
+Passes (Listed file seen) = IsSome seen
+Passes (Unlisted file seen) = IsNone seen
+Passes (Small most file seen) = IsSomeAnd seen (λ bytes. length bytes ≤ most)
+Passes (Reads kind file seen) = IsSomeAnd seen (λ bytes. IsText kind bytes)
+
+-- it fails for a cause
+abbrev pub Fails : FileTest → Cause → Type 0
+Fails (Listed file seen) why = IsNone seen × (why ≡ NotListed)
+Fails (Unlisted file seen) why = IsSome seen × (why ≡ cause.Listed)
+Fails (Small most file seen) why =
+    IsSomeAnd seen (λ bytes. most < length bytes) × (why ≡ TooLarge)
+Fails (Reads kind file seen) why = IsSomeAnd seen (λ bytes. IsNoText kind bytes why)
+
+-- all of some tests pass
+abbrev pub AllPass : List FileTest → Type 0
+AllPass [] = ⊤
+AllPass (test ∷ tests) = Passes test × AllPass tests
+
+-- the first of some tests that fails refuses a file
+abbrev pub FirstFails : List FileTest → Refusal → Type 0
+FirstFails [] refusal = ⊥
+FirstFails (test ∷ tests) refusal =
+    ((refusal.file ≡ file_of test) × Fails test refusal.cause)
+    ⊎ (Passes test × FirstFails tests refusal)
+
+-- An answer by what was seen: where all tests pass it is one that the files then give, else it is the
+-- line of the first that fails.
+abbrev pub IsByTests : {Seen : Type 0} → (Seen → Type 0) → (Seen → List FileTest)
+    → (Seen → Answer → Type 0) → Answer → Type 0
+IsByTests IsSeen tests Gives answer = (seen : _) × IsSeen seen
+    × ((AllPass (tests seen) × Gives seen answer)
+    ⊎ ((refusal : Refusal) × FirstFails (tests seen) refusal
+    × (answer ≡ refused refusal.file refusal.cause)))
+
+-- whatever is seen in a folder that is told passes the tests
+abbrev pub PassByTests : {Seen : Type 0} → Option FilesByName
+    → (Option FilesByName → Seen → Type 0) → (Seen → List FileTest) → Type 0
+PassByTests folder IsSeen tests =
+    IsTold folder (λ files. (seen : _) → IsSeen (Some files) seen → AllPass (tests seen))
+
+-- What the code's tests end with: they all pass and something was read, or the first that fails
+-- refuses a file; what stops them says nothing of the files.
+abbrev pub HasTested : {Seen X : Type 0} → (Seen → Type 0) → (Seen → List FileTest)
+    → (Seen → X → Type 0) → Result X Halt → Type 0
+HasTested IsSeen tests AreRead (Ok x) =
+    (seen : _) × IsSeen seen × AllPass (tests seen) × AreRead seen x
+HasTested IsSeen tests AreRead (Err (Refused refusal)) =
+    (seen : _) × IsSeen seen × FirstFails (tests seen) refusal
+HasTested IsSeen tests AreRead (Err (Stopped stop)) = ⊤
+
+-- the tests of what stands in a file that is listed
+abbrev pub text_tests : Kind → ℕ → List ℕ → Option (List ℕ) → List FileTest
+text_tests kind most file seen = Small most file seen ∷ Reads kind file seen ∷ []
+
+-- What the code made of a text: it is of the kind, and this was read; or it isn't, and its file is
+-- refused.
+abbrev pub HasRead : {X : Type 0} → Kind → List ℕ → List ℕ → (List ℕ → X → Type 0) → Result X Halt
+    → Type 0
+HasRead kind file text IsOf (Ok x) = IsText kind text × IsOf text x
+HasRead kind file text IsOf (Err (Refused refusal)) =
+    (refusal.file ≡ file) × IsNoText kind text refusal.cause
+HasRead kind file text IsOf (Err (Stopped stop)) = ⊤
+
+-- the same of the text of a file that is listed, which has at most so many bytes
+abbrev pub HasReadFile : {X : Type 0} → Kind → ℕ → Option FilesByName → List ℕ
+    → (List ℕ → X → Type 0) → Result X Halt → Type 0
+HasReadFile kind most folder file IsOf result =
+    HasTested (λ seen. IsSeenIn folder file seen) (λ seen. text_tests kind most file seen)
+    (λ seen x. IsSomeAnd seen (λ text. IsOf text x)) result
+
+-- what the code found among the names of a folder: the file is there, or it is refused
+abbrev pub IsNeeded : List (List ℕ) → List ℕ → Result (Unit {0}) Halt → Type 0
+IsNeeded names file (Ok found) = Contains names file
+IsNeeded names file (Err (Refused refusal)) =
+    ¬ Contains names file × (refusal ≡ file_refusal file NotListed)
+IsNeeded names file (Err (Stopped stop)) = ⊤
+
+-- it isn't there, or it is refused
+abbrev pub IsUnused : List (List ℕ) → List ℕ → Result (Unit {0}) Halt → Type 0
+IsUnused names file (Ok found) = ¬ Contains names file
+IsUnused names file (Err (Refused refusal)) =
+    Contains names file × (refusal ≡ file_refusal file cause.Listed)
+IsUnused names file (Err (Stopped stop)) = ⊤
