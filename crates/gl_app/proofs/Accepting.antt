@@ -32,7 +32,7 @@ use Rattle.gl_day.specs.Asked.{AreAskedOf, AreAskedOfReading, Expected}
 use Rattle.gl_app.specs.Asked.{AreAsked, AreAskedIn}
 use Rattle.gl_app.specs.Check.{IsCheck, IsDayChecked, IsProofChecked, IsSaidBehind, IsScoredFolder, checked_answer}
 use Rattle.gl_app.specs.DayFiles.{IsAirspaceFor, IsAirspaceOf, IsCheckTested, IsDayOf, Tested}
-use Rattle.gl_app.specs.Listed.{most_proof_bytes}
+use Rattle.gl_app.specs.FileTests.{most_proof_bytes}
 use Rattle.gl_app.specs.Score.{IsDayScored, IsScore, statements_of_all}
 use Rattle.gl_app.specs.Words.{DayNames}
 use Rattle.gl_app.proofs.DayPasses.{PassedDay, check_parts, check_with, day_passed, listed_ok, listed_then, new_ok, ok_or_err}

@@ -17,7 +17,7 @@ use Rattle.gl_app.specs.Answer.{Answer, saying}
 use Rattle.gl_app.specs.Appending.{HasGiven}
 use Rattle.gl_app.specs.Check.{IsScoredFolder}
 use Rattle.gl_app.specs.Demo.{HasJust, IsCountOf, IsDemo, claims_line, demo_names}
-use Rattle.gl_app.specs.Listed.{most_proof_bytes}
+use Rattle.gl_app.specs.FileTests.{most_proof_bytes}
 use Rattle.gl_app.specs.Score.{IsScore}
 use Rattle.gl_app.specs.Words.{DayNames}
 use Rattle.gl_app.proofs.Accepting.{score_ended}

@@ -21,7 +21,6 @@ pub mod FileTests
 pub mod Flights
 pub mod Bests
 pub mod LineTexts
-pub mod NoTask
 pub mod OneAnswer
 pub mod OneDay
 pub mod OneFlight

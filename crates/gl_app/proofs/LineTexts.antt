@@ -15,7 +15,6 @@ use Rattle.gl_app.specs.declared.refusal.Cause.{Cause}
 use Rattle.gl_app.specs.declared.refusal.Cause.TheVariants.{NotListed, Listed, TooLarge, NotIgc, NoDate, TooManyFixes, NoFix, NotToml, NoKey, WrongValue, NumberTwice, TooManyItems, WrongAirspace, TooMuchAirspace, WrongStep, TooManySteps, NoHeading, WrongProof, ProofCut}
 use Rattle.gl_app.specs.declared.status.Status.TheVariants.{Done}
 use Rattle.gl_app.specs.Answer.{Answer, refused}
-use Rattle.gl_app.specs.OfFile.{IsOfFile, IsOfText}
 use Rattle.gl_day.specs.Flight.{most_bytes}
 use Rattle.gl_app.specs.Refusals.{Parts, Place, Nowhere, AtLine, AtKey, parts_of, place_text, line_with, refusal_line, file_refusal}
 use Rattle.gl_app.specs.Texts.{IsLine}
@@ -106,21 +105,3 @@ refusal_is_line file cause named =
 -- an answer that says the line of a refusal says one line
 pub said_by : (answer : Answer) (file : List ℕ) (cause : Cause) → answer ≡ refused file cause → is_unbroken file ≡ true → IsLine answer.said
 said_by answer file cause same named = subst (λ (a : Answer). IsLine a.said) (sym same) (refusal_is_line file cause named)
-
-of_text_line : (IsText : Reading → List ℕ → Type 0) (file : List ℕ) (read : Result Reading IgcError) (answer : Answer) → is_unbroken file ≡ true → IsOfText IsText file read answer → answer.status ≢ Done → IsLine answer.said
-of_text_line IsText file (Ok reading) answer named right unless = absurd (unless (ap (λ (a : Answer). a.status) right.2))
-of_text_line IsText file (Err igc.NotIgc) answer named right unless = said_by answer file NotIgc right named
-of_text_line IsText file (Err igc.NoDate) answer named right unless = said_by answer file NoDate right named
-of_text_line IsText file (Err (igc.WrongDay day)) answer named right unless = absurd right
-of_text_line IsText file (Err (igc.TooManyFixes line)) answer named right unless = said_by answer file (TooManyFixes line) right named
-of_text_line IsText file (Err igc.NoFix) answer named right unless = said_by answer file NoFix right named
-of_text_line IsText file (Err igc.Memory) answer named right unless = absurd right
-
-of_bytes_line : (IsText : Reading → List ℕ → Type 0) (large : Bool) (file : List ℕ) (read : Result Reading IgcError) (answer : Answer) → is_unbroken file ≡ true → MatchBool large (answer ≡ refused file TooLarge) (IsOfText IsText file read answer) → answer.status ≢ Done → IsLine answer.said
-of_bytes_line IsText true file read answer named right unless = said_by answer file TooLarge right named
-of_bytes_line IsText false file read answer named right unless = of_text_line IsText file read answer named right unless
-
-pub of_file_line : (IsText : Reading → List ℕ → Type 0) (file : List ℕ) (seen : Option (List ℕ)) (answer : Answer) → is_unbroken file ≡ true → IsOfFile IsText file seen answer → answer.status ≢ Done → IsLine answer.said
-of_file_line IsText file None answer named right unless = said_by answer file NotListed right named
-of_file_line IsText file (Some bytes) answer named right unless =
-    of_bytes_line IsText (nat_lt most_bytes (length bytes)) file (recording_of bytes None) answer named right unless

@@ -1,56 +1,43 @@
--- The laws of a command that says something of one recording.
-use Rattle.std.proofs.Common.{◌≡◌, ◌≢◌, ap, subst, ℕ, inl, Bool, true, false, List, length, Option, None, Some, Result, Ok, Err}
-use Rattle.std.specs.Prelude.{IsOk, MatchBool, nat_lt}
-use Rattle.std.proofs.lemmas.Bool.{le-ltb}
-use Rattle.gl_desk.specs.Desk.{FilesByName}
-use Rattle.gl_igc.specs.Reading.{Reading, recording_of}
-use Rattle.gl_igc.specs.declared.error.IgcError.{IgcError}
-use Rattle.gl_igc.specs.declared.error.IgcError.TheVariants as igc
+-- A command that says something of one recording: its tests, and its laws.
+use Rattle.std.proofs.Common.{◌≡◌, ◌≢◌, refl, ap, ℕ, inl, inr, true, List, Option, None, Ok, Err}
+use Rattle.gl_desk.specs.Desk.{FilesByName, HasFile, IsSeenIn, ListsNames}
+use Rattle.gl_igc.specs.declared.recording.Recording.{Recording}
 use Rattle.gl_day.specs.Flight.{most_bytes}
-use Rattle.gl_app.specs.declared.refusal.Cause.TheVariants.{NotListed, TooLarge, NotIgc, NoDate, TooManyFixes, NoFix}
-use Rattle.gl_app.specs.declared.status.Status.TheVariants.{Refused}
-use Rattle.gl_app.specs.Answer.{Answer, refused}
-use Rattle.gl_app.specs.OfFile.{IsOfFile, IsOfText, PassesAsRecording, of_file_promise}
-use Rattle.gl_app.proofs.LineTexts.{is_unbroken, of_file_line}
-use Rattle.gl_app.proofs.Promises.{IsLawful, IsResult, done_no_refusal, reading_lawful, refuses}
+use Rattle.gl_app.specs.declared.halt.Halt.{Halt}
+use Rattle.gl_app.specs.declared.halt.Halt.TheVariants.{Refused, Stopped}
+use Rattle.gl_app.specs.declared.refusal.Refusal.{Refusal}
+use Rattle.gl_app.specs.declared.status.Status.TheVariants.{Done}
+use Rattle.gl_app.specs.Answer.{Answer, saying}
+use Rattle.gl_app.specs.FileTests.{HasReadFile, HasTested, IsNeeded, IsRecordingOf, RecordingText}
+use Rattle.gl_app.specs.OfFile.{IsFlightRead, IsOfFile, IsSaidOf, flight_tests, of_file_promise}
+use Rattle.gl_app.proofs.DayTests.{not_listed}
+use Rattle.gl_app.proofs.FileTests.{by_tests_line, by_tests_passes, by_tests_result, some_text_fails, some_text_passes}
+use Rattle.gl_app.proofs.LineTexts.{is_unbroken}
+use Rattle.gl_app.proofs.Promises.{IsLawful, done_no_refusal, reading_lawful}
 
-of_text : (IsText : Reading → List ℕ → Type 0) (file : List ℕ) (read : Result Reading IgcError) (answer : Answer) → IsOfText IsText file read answer → IsResult answer.status
-of_text IsText file (Ok reading) answer right = inl (ap (λ (a : Answer). a.status) right.2)
-of_text IsText file (Err igc.NotIgc) answer right = refuses answer file NotIgc right
-of_text IsText file (Err igc.NoDate) answer right = refuses answer file NoDate right
-of_text IsText file (Err (igc.WrongDay day)) answer right = absurd right
-of_text IsText file (Err (igc.TooManyFixes line)) answer right = refuses answer file (TooManyFixes line) right
-of_text IsText file (Err igc.NoFix) answer right = refuses answer file NoFix right
-of_text IsText file (Err igc.Memory) answer right = absurd right
+-- the file isn't listed
+pub file_missing : (folder : Option FilesByName) (names : List (List ℕ)) (file : List ℕ) (halt : Halt) → ListsNames folder names → IsNeeded names file (Err halt) → HasTested (λ seen. IsSeenIn folder file seen) (flight_tests file) IsFlightRead (Err halt)
+file_missing folder names file (Refused refusal) lists (none, same) =
+    (None, not_listed folder names file lists none, inl (ap (λ (r : Refusal). r.file) same, (refl, ap (λ (r : Refusal). r.cause) same)))
+file_missing folder names file (Stopped stop) lists needed = tt
 
-of_bytes : (IsText : Reading → List ℕ → Type 0) (large : Bool) (file : List ℕ) (read : Result Reading IgcError) (answer : Answer) → MatchBool large (answer ≡ refused file TooLarge) (IsOfText IsText file read answer) → IsResult answer.status
-of_bytes IsText true file read answer right = refuses answer file TooLarge right
-of_bytes IsText false file read answer right = of_text IsText file read answer right
+-- it is listed, and was read or refused
+pub file_tested : (folder : Option FilesByName) (file : List ℕ) (result : _) → HasReadFile {X = Recording} (RecordingText None) most_bytes folder file (IsRecordingOf None) result → HasTested (λ seen. IsSeenIn folder file seen) (flight_tests file) IsFlightRead result
+file_tested folder file (Ok recording) (seen, is, passes, reads) = (seen, is, (some_text_passes (RecordingText None) most_bytes file seen passes, passes), reads)
+file_tested folder file (Err (Refused refusal)) (seen, is, fails) = (seen, is, inr (some_text_fails (RecordingText None) most_bytes file seen refusal fails, fails))
+file_tested folder file (Err (Stopped stop)) read = tt
 
-of_file_result : (IsText : Reading → List ℕ → Type 0) (file : List ℕ) (seen : Option (List ℕ)) (answer : Answer) → IsOfFile IsText file seen answer → IsResult answer.status
-of_file_result IsText file None answer right = refuses answer file NotListed right
-of_file_result IsText file (Some bytes) answer right = of_bytes IsText (nat_lt most_bytes (length bytes)) file (recording_of bytes None) answer right
+-- the answer for a file that passed
+pub flight_answered : (IsRight : Recording → List ℕ → Type 0) (folder : Option FilesByName) (file : List ℕ) (recording : Recording) (text : List ℕ)
+    → HasTested (λ seen. IsSeenIn folder file seen) (flight_tests file) IsFlightRead (Ok recording) → IsRight recording text → IsOfFile IsRight folder file (saying Done text)
+flight_answered IsRight folder file recording text (seen, is, passes, read) says = (seen, is, inl (passes, (recording, read, text, says, refl)))
 
-of_text_passes : (IsText : Reading → List ℕ → Type 0) (file : List ℕ) (read : Result Reading IgcError) (answer : Answer) → IsOk read → IsOfText IsText file read answer → answer.status ≢ Refused
-of_text_passes IsText file (Ok reading) answer ok right = done_no_refusal answer.status (inl (ap (λ (a : Answer). a.status) right.2))
-of_text_passes IsText file (Err error) answer ok right = absurd (cc)
+said_done : (IsRight : Recording → List ℕ → Type 0) (seen : Option (List ℕ)) (answer : Answer) → IsSaidOf IsRight seen answer → answer.status ≡ Done
+said_done IsRight seen answer (recording, read, said, is, same) = ap (λ (a : Answer). a.status) same
 
-of_bytes_passes : (IsText : Reading → List ℕ → Type 0) (large : Bool) (file : List ℕ) (read : Result Reading IgcError) (answer : Answer) → large ≡ false → IsOk read → MatchBool large (answer ≡ refused file TooLarge) (IsOfText IsText file read answer) → answer.status ≢ Refused
-of_bytes_passes IsText true file read answer small ok right = absurd (cc)
-of_bytes_passes IsText false file read answer small ok right = of_text_passes IsText file read answer ok right
-
-of_file_passes : (IsText : Reading → List ℕ → Type 0) (file : List ℕ) (seen : Option (List ℕ)) (answer : Answer) → PassesAsRecording seen → IsOfFile IsText file seen answer → answer.status ≢ Refused
-of_file_passes IsText file None answer passes right = absurd passes
-of_file_passes IsText file (Some bytes) answer passes right =
-    of_bytes_passes IsText (nat_lt most_bytes (length bytes)) file (recording_of bytes None) answer (le-ltb most_bytes (length bytes) passes.0) passes.1 right
-
-told_passes : (IsText : Reading → List ℕ → Type 0) (folder : Option FilesByName) (file : List ℕ) → (of_file_promise IsText folder file).Passes → (answer : Answer) → (of_file_promise IsText folder file).IsRight answer → answer.status ≢ Refused
-told_passes IsText None file passes answer right = absurd passes
-told_passes IsText (Some files) file passes answer (seen, there, right) = of_file_passes IsText file seen answer (subst PassesAsRecording there passes) right
-
-pub of_file_lawful : (IsText : Reading → List ℕ → Type 0) (folder : Option FilesByName) (file : List ℕ) → is_unbroken file ≡ true → IsLawful (of_file_promise IsText folder file)
-of_file_lawful IsText folder file named =
-    reading_lawful (of_file_promise IsText folder file).IsRight (of_file_promise IsText folder file).Passes
-    (λ answer (seen, there, right). of_file_result IsText file seen answer right)
-    (told_passes IsText folder file)
-    (λ answer (seen, there, right) unless. of_file_line IsText file seen answer named right unless)
+pub of_file_lawful : (IsRight : Recording → List ℕ → Type 0) (folder : Option FilesByName) (file : List ℕ) → is_unbroken file ≡ true → IsLawful (of_file_promise IsRight folder file)
+of_file_lawful IsRight folder file named =
+    reading_lawful (IsOfFile IsRight folder file) (of_file_promise IsRight folder file).Passes
+    (by_tests_result (λ seen. IsSeenIn folder file seen) (flight_tests file) (IsSaidOf IsRight) (λ seen answer is. inl (said_done IsRight seen answer is)))
+    (by_tests_passes folder (λ f seen. IsSeenIn f file seen) (flight_tests file) (IsSaidOf IsRight) (λ seen answer is. done_no_refusal answer.status (inl (said_done IsRight seen answer is))))
+    (by_tests_line (λ seen. IsSeenIn folder file seen) (flight_tests file) (IsSaidOf IsRight) (λ seen. (named, (named, (named, tt)))) (λ seen answer is unless. absurd (unless (said_done IsRight seen answer is))))

@@ -13,9 +13,9 @@ use Rattle.gl_app.specs.declared.halt.Halt.{Halt}
 use Rattle.gl_app.specs.declared.halt.Halt.TheVariants.{Refused, Stopped}
 use Rattle.gl_app.specs.declared.refusal.Cause.{Cause}
 use Rattle.gl_app.specs.declared.refusal.Refusal.{Refusal}
-use Rattle.gl_app.specs.FileTests.{HasRead, HasReadFile, HasTested, IsNeeded, RecordingText, ScheduleText, schedule_cause, text_tests}
+use Rattle.gl_app.specs.FileTests.{HasRead, HasReadFile, HasTested, IsNeeded, IsRecordingOf, RecordingText, ScheduleText, schedule_cause, text_tests}
 use Rattle.gl_app.specs.Halts.{RefusesFor}
-use Rattle.gl_app.specs.ReplayFiles.{AreReplayRead, AreStepsOf, IsRecordingOf, IsReplaySeen, ReplaySeen, replay_tests}
+use Rattle.gl_app.specs.ReplayFiles.{AreReplayRead, AreStepsOf, IsReplaySeen, ReplaySeen, replay_tests}
 use Rattle.gl_app.specs.Words.{ReplayWords}
 use Rattle.gl_app.proofs.DayTests.{is_listed, not_listed, seen_some}
 use Rattle.gl_app.proofs.FileTests.{all_pass, fails_behind, fails_in_front, some_text_fails, some_text_passes}
@@ -53,7 +53,7 @@ schedule_missing folder names words (Stopped stop) lists flight needed = tt
 
 -- both are listed, and the recording was refused
 pub flight_refused : (folder : Option FilesByName) (words : ReplayWords) (halt : Halt)
-    → HasFile folder words.schedule → HasReadFile {X = Recording} (RecordingText None) most_bytes folder words.flight IsRecordingOf (Err halt)
+    → HasFile folder words.schedule → HasReadFile {X = Recording} (RecordingText None) most_bytes folder words.flight (IsRecordingOf None) (Err halt)
     → HasTested (IsReplaySeen words folder) (replay_tests words) AreReplayRead (Err halt)
 flight_refused folder words (Refused refusal) schedule (seen, is, fails) =
     let lines = is_listed folder words.schedule schedule in
@@ -64,7 +64,7 @@ flight_refused folder words (Stopped stop) schedule read = tt
 
 -- both are listed, the recording passed, and the schedule was refused
 pub steps_refused : (folder : Option FilesByName) (words : ReplayWords) (recording : Recording) (halt : Halt)
-    → HasReadFile (RecordingText None) most_bytes folder words.flight IsRecordingOf (Ok recording)
+    → HasReadFile (RecordingText None) most_bytes folder words.flight (IsRecordingOf None) (Ok recording)
     → HasReadFile {X = Vec Step Global} ScheduleText most_bytes folder words.schedule AreStepsOf (Err halt)
     → HasTested (IsReplaySeen words folder) (replay_tests words) AreReplayRead (Err halt)
 steps_refused folder words recording (Refused refusal) (seen, is, passes, reads) (lines, are, fails) =
@@ -75,7 +75,7 @@ steps_refused folder words recording (Stopped stop) read lines = tt
 
 -- both are listed, and passed
 pub both_read : (folder : Option FilesByName) (words : ReplayWords) (recording : Recording) (steps : Vec Step Global)
-    → HasReadFile (RecordingText None) most_bytes folder words.flight IsRecordingOf (Ok recording)
+    → HasReadFile (RecordingText None) most_bytes folder words.flight (IsRecordingOf None) (Ok recording)
     → HasReadFile ScheduleText most_bytes folder words.schedule AreStepsOf (Ok steps)
     → HasTested (IsReplaySeen words folder) (replay_tests words) AreReplayRead (Ok (recording, steps))
 both_read folder words recording steps (seen, is, passes, reads) (lines, are, pass, read) =

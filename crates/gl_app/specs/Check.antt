@@ -18,7 +18,7 @@ use Rattle.gl_app.specs.Answer.{Answer, refused, saying}
 use Rattle.gl_day.specs.Asked.{Expected}
 use Rattle.gl_app.specs.Asked.{AreAsked}
 use Rattle.gl_app.specs.DayFiles.{IfPassed, IsCheckTested, Tested}
-use Rattle.gl_app.specs.Listed.{most_proof_bytes}
+use Rattle.gl_app.specs.FileTests.{most_proof_bytes}
 use Rattle.gl_app.specs.Promise.{IsTold, Promise}
 use Rattle.gl_app.specs.Score.{IsScore}
 use Rattle.gl_app.specs.Words.{DayNames}

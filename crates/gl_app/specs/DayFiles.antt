@@ -20,7 +20,7 @@ use Rattle.gl_app.specs.declared.day_files.DayFiles.{DayFiles}
 use Rattle.gl_app.specs.declared.refusal.Cause.{Cause}
 use Rattle.gl_app.specs.declared.refusal.Cause.TheVariants.{NotListed, Listed, TooLarge, NotToml, NoKey, WrongValue, NumberTwice, TooManyItems, WrongAirspace, TooMuchAirspace, NoHeading, WrongProof, ProofCut}
 use Rattle.gl_app.specs.declared.refusal.Refusal.{Refusal}
-use Rattle.gl_app.specs.Listed.{most_proof_bytes}
+use Rattle.gl_app.specs.FileTests.{most_proof_bytes}
 use Rattle.gl_day.specs.Flight.{most_bytes}
 use Rattle.gl_app.specs.Refusals.{file_refusal}
 use Rattle.gl_app.specs.Words.{DayNames}

@@ -2,6 +2,8 @@
 use Rattle.std.specs.Prelude.{◌≡◌, ℕ, ◌≤◌, ◌<◌, ◌⊎◌, ℤ, Contains, List, [], ◌∷◌, length, Option, None, Some, Result, Err, Ok, IsNone, IsSome, IsSomeAnd, ⊤}
 use Rattle.gl_desk.specs.Desk.{FilesByName, IsSeenIn}
 use Rattle.gl_igc.specs.Reading.{Reading, recording_of}
+use Rattle.gl_igc.specs.Recording.{reading_of}
+use Rattle.gl_igc.specs.declared.recording.Recording.{Recording}
 use Rattle.gl_igc.specs.declared.error.IgcError.{IgcError}
 use Rattle.gl_igc.specs.declared.error.IgcError.TheVariants as igc
 use Rattle.gl_plain.specs.Schedule.{IsRefused, IsSchedule}
@@ -118,6 +120,14 @@ HasTested IsSeen tests AreRead (Ok x) =
 HasTested IsSeen tests AreRead (Err (Refused refusal)) =
     (seen : _) × IsSeen seen × FirstFails (tests seen) refusal
 HasTested IsSeen tests AreRead (Err (Stopped stop)) = ⊤
+
+-- the most bytes that a proof may have; any other file has at most those of a recording
+abbrev pub most_proof_bytes : ℕ
+most_proof_bytes = 1_073_741_824
+
+-- a text reads as this recording, by the day of a task if there is one
+abbrev pub IsRecordingOf : Option ℤ → List ℕ → Recording → Type 0
+IsRecordingOf day text recording = recording_of text day ≡ Ok (reading_of recording)
 
 -- the tests of what stands in a file that is listed
 abbrev pub text_tests : Kind → ℕ → List ℕ → Option (List ℕ) → List FileTest

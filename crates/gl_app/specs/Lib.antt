@@ -28,7 +28,6 @@ pub mod Scoring
 pub mod Shelf
 pub mod Laws
 pub mod Lines
-pub mod Listed
 pub use Rattle.gl_desk.specs.Desk
 pub use Rattle.gl_goal.specs.Free as FreeGoal
 pub use Rattle.gl_goal.specs.Triangle as TriangleGoal

@@ -1,14 +1,12 @@
 -- The files of `replay`: their tests in their order, and what they give.
-use Rattle.std.specs.Prelude.{◌≡◌, ℕ, List, ◌∷◌, ◌++◌, Option, None, IsSomeAnd, Ok, Vec}
+use Rattle.std.specs.Prelude.{ℕ, List, ◌∷◌, ◌++◌, Option, None, IsSomeAnd, Vec}
 use Rattle.std.specs.declared.alloc.Global.{Global}
 use Rattle.gl_desk.specs.Desk.{FilesByName, IsSeenIn}
-use Rattle.gl_igc.specs.Reading.{recording_of}
-use Rattle.gl_igc.specs.Recording.{reading_of}
 use Rattle.gl_igc.specs.declared.recording.Recording.{Recording}
 use Rattle.gl_plain.specs.Schedule.{IsSchedule}
 use Rattle.gl_plain.specs.declared.schedule.Step.{Step}
 use Rattle.gl_day.specs.Flight.{most_bytes}
-use Rattle.gl_app.specs.FileTests.{FileTest, Listed, RecordingText, ScheduleText, text_tests}
+use Rattle.gl_app.specs.FileTests.{FileTest, IsRecordingOf, Listed, RecordingText, ScheduleText, text_tests}
 use Rattle.gl_app.specs.Words.{ReplayWords}
 
 -- what is seen of the two files
@@ -27,10 +25,6 @@ replay_tests words seen =
     ∷ (text_tests (RecordingText None) most_bytes words.flight seen.flight
     ++ text_tests ScheduleText most_bytes words.schedule seen.schedule)
 
--- a text reads as this recording
-abbrev pub IsRecordingOf : List ℕ → Recording → Type 0
-IsRecordingOf text recording = recording_of text None ≡ Ok (reading_of recording)
-
 -- a text has these steps
 abbrev pub AreStepsOf : List ℕ → Vec Step Global → Type 0
 AreStepsOf text steps = IsSchedule text steps.items
@@ -38,5 +32,5 @@ AreStepsOf text steps = IsSchedule text steps.items
 -- this recording and these steps were read
 abbrev pub AreReplayRead : ReplaySeen → Recording × Vec Step Global → Type 0
 AreReplayRead seen read =
-    IsSomeAnd seen.flight (λ text. IsRecordingOf text read.0)
+    IsSomeAnd seen.flight (λ text. IsRecordingOf None text read.0)
     × IsSomeAnd seen.schedule (λ text. AreStepsOf text read.1)

@@ -2,10 +2,10 @@
 use Rattle.std.specs.Prelude.{◌≡◌, ℕ, ◌-◌, ◌⊎◌, List, length, Option, codes}
 use Rattle.gl_desk.specs.Desk.{FilesByName}
 use Rattle.gl_igc.specs.declared.fix.Fix.{Fix}
-use Rattle.gl_igc.specs.Reading.{Reading}
+use Rattle.gl_igc.specs.declared.recording.Recording.{Recording}
 use Rattle.gl_goal.specs.Rule.{Rule, HasNoLegal}
 use Rattle.gl_goal.specs.Triangle.{triangle_goal}
-use Rattle.gl_app.specs.Best.{IsBestText, OfFixes}
+use Rattle.gl_app.specs.Best.{IsBestText}
 use Rattle.gl_app.specs.OfFile.{of_file_promise}
 use Rattle.gl_app.specs.Promise.{Promise}
 use Rattle.gl_app.specs.Texts.{no_flight}
@@ -21,9 +21,9 @@ IsTriangleOf rule said =
 
 -- The text has the greatest triangle of the recording and legal fixes that reach it, or says that
 -- it has none.
-abbrev pub IsTriangleText : Reading → List ℕ → Type 0
-IsTriangleText reading said =
-    OfFixes reading (λ fixes. IsTriangleOf (whole_triangle_goal fixes) said)
+abbrev pub IsTriangleText : Recording → List ℕ → Type 0
+IsTriangleText recording said =
+    IsTriangleOf (whole_triangle_goal recording.fixes) said
 
 -- the promise of `triangle`
 abbrev pub triangle_promise : Option FilesByName → List ℕ → Promise

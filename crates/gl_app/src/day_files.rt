@@ -7,7 +7,7 @@ ghost use Rattle.gl_app.specs.Halts.{AreBytes, IsNoFault, IsTested, halt_stop};
 
 use crate::day_names::DayNames;
 use crate::halt::{Halt, refusing, refusing_for};
-use crate::listed::MOST_PROOF_BYTES;
+use crate::file_tests::MOST_PROOF_BYTES;
 use crate::refusal::Cause;
 use gl_airspace::{AirError, Airspace, empty, read_openair};
 use gl_day::MOST_BYTES;

@@ -4,7 +4,7 @@ ghost use Rattle.gl_app.specs.Answer.{answer_of};
 ghost use Rattle.gl_app.specs.Check.{IsScoredFolder};
 ghost use Rattle.gl_app.specs.DayNames.{names_seen};
 ghost use Rattle.gl_app.specs.Demo.{IsCountOf, IsDemo, claims_line};
-ghost use Rattle.gl_app.specs.Listed.{most_proof_bytes};
+ghost use Rattle.gl_app.specs.FileTests.{most_proof_bytes};
 ghost use Rattle.gl_app.specs.Shelf.{folder_on};
 
 use crate::answer::Answer;
@@ -12,7 +12,7 @@ use crate::check::check_proof;
 use crate::day_names::DayNames;
 use crate::day_number::DayNumber;
 use crate::halt::Halt;
-use crate::listed::MOST_PROOF_BYTES;
+use crate::file_tests::MOST_PROOF_BYTES;
 use crate::score::score;
 use crate::shelf::Shelf;
 use crate::status::Status;

@@ -1,10 +1,8 @@
-ghost use Rattle.std.specs.Prelude.{◌≡◌, IfOk, Ok};
+ghost use Rattle.std.specs.Prelude.{◌≡◌, None};
 ghost use Rattle.gl_desk.specs.Answers.{OnlyReads};
 ghost use Rattle.gl_desk.specs.Desk.{HasFile};
-ghost use Rattle.gl_igc.specs.Reading.{recording_of};
-ghost use Rattle.gl_igc.specs.Recording.{reading_of};
 ghost use Rattle.gl_day.specs.Flight.{most_bytes};
-ghost use Rattle.gl_app.specs.FileTests.{HasRead, HasReadFile, IsNeeded, RecordingText, recording_cause};
+ghost use Rattle.gl_app.specs.FileTests.{HasRead, HasReadFile, IsNeeded, IsRecordingOf, RecordingText, recording_cause};
 ghost use Rattle.gl_app.specs.Halts.{IsNoFault, halt_stop};
 
 use crate::day_files::read_bytes;
@@ -14,6 +12,9 @@ use gl_day::MOST_BYTES;
 use gl_desk::{Desk, Name};
 use gl_igc::{IgcError, Recording, read_igc};
 use std::alloc::Global;
+
+/// The most bytes that a proof may have; any other file has at most those of a recording.
+pub const MOST_PROOF_BYTES: u64 = 1_073_741_824;
 
 /// Tests that a file is among the names of the folder.
 pub fn need(names: &[Name], file: &Name) -> Result<(), Halt>
@@ -43,7 +44,7 @@ fn recording_cause(error: &IgcError) -> Option<Cause>
 /// The recording of a text.
 fn recording_in(alloc: Global, file: &Name, text: &[u8]) -> Result<Recording, Halt>
     ensures read { HasRead (RecordingText None) file.now text.now
-        (λ text recording. recording_of text None ≡ Ok (reading_of recording)) result }
+        (IsRecordingOf None) result }
     ensures no_fault { IsNoFault result }
 {
     match read_igc(alloc, text, None) {
@@ -56,7 +57,7 @@ fn recording_in(alloc: Global, file: &Name, text: &[u8]) -> Result<Recording, Ha
 pub fn read_recording<D: Desk>(alloc: Global, desk: &mut D, file: &Name) -> Result<Recording, Halt>
     requires { HasFile (D.told desk.old).folder file.now }
     ensures read { HasReadFile (RecordingText None) most_bytes (D.told desk.old).folder file.now
-        (λ text recording. recording_of text None ≡ Ok (reading_of recording)) result }
+        (IsRecordingOf None) result }
     ensures reads { OnlyReads (halt_stop result) (D.told desk.old) (D.told desk.new) }
 {
     let bytes = read_bytes(alloc, desk, file, MOST_BYTES)?;

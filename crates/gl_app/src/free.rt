@@ -1,7 +1,6 @@
 ghost use Rattle.std.specs.Prelude.{◌≡◌, ◌∷◌, [], IfOk};
 ghost use Rattle.gl_goal.specs.FreeGoal.{rule_of};
 ghost use Rattle.gl_goal.specs.Rule.{IsGoal, IsLegal};
-ghost use Rattle.gl_igc.specs.Recording.{reading_of};
 ghost use Rattle.gl_app.specs.Free.{IsFreeText, whole_free_goal};
 
 use crate::best::best_lines;
@@ -26,7 +25,7 @@ pub fn whole_free_goal(alloc: Global, recording: &Recording) -> Result<FreeGoal,
 
 /// The two lines of the best free distance of a recording.
 pub fn free_of_recording(alloc: Global, recording: &Recording) -> Result<Vec<u8>, AllocError>
-    ensures { IfOk result (λ text. IsFreeText (reading_of recording.now) text.items) }
+    ensures { IfOk result (λ text. IsFreeText recording.now text.items) }
 {
     let goal = whole_free_goal(alloc, recording)?;
     let best = best_free(alloc, &goal)?;

@@ -17,7 +17,6 @@ mod free;
 mod halt;
 mod laws;
 mod line;
-mod listed;
 mod of_file;
 mod program;
 mod racing;

@@ -1,22 +1,21 @@
-ghost use Rattle.std.specs.Prelude.{◌≡◌, ℕ, List, Option, None, Err, IfOk};
+ghost use Rattle.std.specs.Prelude.{IfOk};
 ghost use Rattle.gl_desk.specs.Answers.{OnlyReads, stop_of};
-ghost use Rattle.gl_desk.specs.Desk.{IsSeenIn};
-ghost use Rattle.gl_igc.specs.Reading.{recording_of};
-ghost use Rattle.gl_igc.specs.Recording.{reading_of};
+ghost use Rattle.gl_desk.specs.Desk.{HasFile, IsSeenIn, ListsNames};
 ghost use Rattle.gl_app.specs.Answer.{answer_of};
 ghost use Rattle.gl_app.specs.Course.{IsTextOf};
-ghost use Rattle.gl_app.specs.OfFile.{IsOfFile, IsOfText};
+ghost use Rattle.gl_app.specs.FileTests.{HasTested};
+ghost use Rattle.gl_app.specs.Halts.{halt_stop};
+ghost use Rattle.gl_app.specs.OfFile.{IsFlightRead, IsOfFile, flight_tests};
 
 use crate::answer::Answer;
+use crate::file_tests::{need, read_recording};
 use crate::free::free_of_recording;
-use crate::line::refuse;
-use crate::listed::{Listed, read_listed};
-use crate::refusal::Cause;
+use crate::halt::Halt;
+use crate::line::answer_halt;
 use crate::status::Status;
 use crate::triangle::triangle_of_recording;
-use gl_day::MOST_BYTES;
 use gl_desk::{Desk, DeskError, Name};
-use gl_igc::{IgcError, Recording, read_igc};
+use gl_igc::Recording;
 use std::alloc::{AllocError, Global};
 
 /// What is sought in a recording.
@@ -34,7 +33,7 @@ fn text_of_recording(
     course: Course,
     recording: &Recording,
 ) -> Result<Vec<u8>, AllocError>
-    ensures { IfOk result (λ text. IsTextOf course (reading_of recording.now) text.items) }
+    ensures { IfOk result (λ text. IsTextOf course recording.now text.items) }
 {
     match course {
         Course::Free => free_of_recording(alloc, recording),
@@ -42,31 +41,21 @@ fn text_of_recording(
     }
 }
 
-/// The answer for a recording's text: what is said of it, or what it is refused for.
-fn answer_of_text(
+/// The recording of a file that passes its tests: FILE is of the folder's names; it has at most
+/// 16,777,216 bytes; it is a recording.
+fn test_flight<D: Desk>(
     alloc: Global,
-    course: Course,
+    desk: &mut D,
+    names: &[Name],
     file: &Name,
-    text: &[u8],
-) -> Result<Answer, DeskError>
-    ensures right { IfOk result (λ answer.
-        IsOfText (IsTextOf course) file.now (recording_of text.now None) (answer_of answer)) }
-    ensures no_fault { result ≡ Err DeskError.Failed → ⊥ }
+) -> Result<Recording, Halt>
+    requires { ListsNames (D.told desk.old).folder names.now }
+    ensures tested { HasTested (λ seen. IsSeenIn (D.told desk.old).folder file.now seen)
+        (flight_tests file.now) IsFlightRead result }
+    ensures reads { OnlyReads (halt_stop result) (D.told desk.old) (D.told desk.new) }
 {
-    match read_igc(alloc, text, None) {
-        Ok(recording) => Ok(Answer {
-            status: Status::Done,
-            text: text_of_recording(alloc, course, &recording)?,
-        }),
-        Err(IgcError::NotIgc) => Ok(refuse(alloc, file, Cause::NotIgc)?),
-        Err(IgcError::NoDate) => Ok(refuse(alloc, file, Cause::NoDate)?),
-        Err(IgcError::WrongDay { .. }) => unreachable!(),
-        Err(IgcError::TooManyFixes { line }) => {
-            Ok(refuse(alloc, file, Cause::TooManyFixes(line))?)
-        }
-        Err(IgcError::NoFix) => Ok(refuse(alloc, file, Cause::NoFix)?),
-        Err(IgcError::Memory) => Err(DeskError::Memory),
-    }
+    need(names, file)?;
+    read_recording(alloc, desk, file)
 }
 
 /// The answer of a command for a recording's file.
@@ -77,14 +66,15 @@ pub fn answer_of_file<D: Desk>(
     file: &Name,
 ) -> Result<Answer, DeskError>
     ensures right { IfOk result (λ answer.
-        (seen : Option (List ℕ)) × IsSeenIn (D.told desk.old).folder file.now seen
-        × IsOfFile (IsTextOf course) file.now seen (answer_of answer)) }
+        IsOfFile (IsTextOf course) (D.told desk.old).folder file.now (answer_of answer)) }
     ensures reads { OnlyReads (stop_of result) (D.told desk.old) (D.told desk.new) }
 {
     let names = desk.names(alloc)?;
-    match read_listed(alloc, desk, &names, file, MOST_BYTES)? {
-        Listed::Missing => Ok(refuse(alloc, file, Cause::NotListed)?),
-        Listed::Large => Ok(refuse(alloc, file, Cause::TooLarge)?),
-        Listed::Bytes(bytes) => answer_of_text(alloc, course, file, &bytes),
+    match test_flight(alloc, desk, &names, file) {
+        Ok(recording) => Ok(Answer {
+            status: Status::Done,
+            text: text_of_recording(alloc, course, &recording)?,
+        }),
+        Err(halt) => answer_halt(alloc, halt),
     }
 }

@@ -1,5 +1,4 @@
 ghost use Rattle.std.specs.Prelude.{IfOk};
-ghost use Rattle.gl_igc.specs.Recording.{reading_of};
 ghost use Rattle.gl_app.specs.Triangle.{IsTriangleText};
 
 use crate::best::best_lines;
@@ -14,7 +13,7 @@ const CLOSING: u64 = 100_000;
 
 /// The two lines of the best triangle of a recording, or the line that says that none is legal.
 pub fn triangle_of_recording(alloc: Global, recording: &Recording) -> Result<Vec<u8>, AllocError>
-    ensures { IfOk result (λ text. IsTriangleText (reading_of recording.now) text.items) }
+    ensures { IfOk result (λ text. IsTriangleText recording.now text.items) }
 {
     let fixes = recording.fixes.as_slice();
     let last = fixes.len() - 1;
