@@ -28,6 +28,3 @@ pub use pairs::{FlightAndPlace, Pairs, TwoFlights};
 pub use read::read_near;
 pub use search::search_near;
 pub use write::write_near;
-
-#[cfg(test)]
-mod tests;

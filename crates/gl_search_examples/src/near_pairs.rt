@@ -1,8 +1,9 @@
 ghost use Rattle.std.specs.Prelude.{◌≤◌};
 
-use super::*;
 use gl_igc::read_igc;
+use gl_near::*;
 use gl_sphere::{read_place, vector};
+use std::alloc::Global;
 use std::process::Abort;
 use std::test::Fail;
 
@@ -58,6 +59,9 @@ fn found(
     let mut out = Vec::new(rt.alloc());
     write_near(&mut out, &claim)?;
     assert_eq!(rt; out.as_slice(), text);
+    let again = read_near(rt.alloc(), text)?;
+    assert_eq!(rt; again.best, claim.best);
+    assert_eq!(rt; again.closed.as_slice(), claim.closed.as_slice());
     Ok(())
 }
 
@@ -112,6 +116,40 @@ fn what_is_wrong_with_a_claim(rt: HostRuntime) -> Result<(), Fail> {
             closed: Vec::new(rt.alloc()),
         };
         assert_eq!(rt; check_near(rt.alloc(), &same, &claim)?, verdict);
+    }
+    Ok(())
+}
+
+/// How many boxes the proof of a text has, or why it is none.
+fn boxes_in(alloc: Global, text: &[u8]) -> Result<usize, NearError> {
+    match read_near(alloc, text) {
+        Ok(claim) => Ok(claim.closed.len()),
+        Err(error) => Err(error),
+    }
+}
+
+#[test]
+fn what_is_no_text_of_a_proof(rt: HostRuntime) -> Result<(), Fail> {
+    let cases: [(&[u8], Result<usize, NearError>); 16] = [
+        (b"GLIDENEAR 1\nLEAST NONE\nBOX T 0-0 0-0\nEND\n", Ok(1)),
+        (b"GLIDENEAR 1\nLEAST 7\nPAIR 4294967295 0\nEND\n", Ok(0)),
+        (b"", Err(NearError::Heading)),
+        (b"GLIDENEAR 1", Err(NearError::Heading)),
+        (b"GLIDEPROOF 1\nEND\n", Err(NearError::Heading)),
+        (b"GLIDENEAR 1\n", Err(NearError::Cut)),
+        (b"GLIDENEAR 1\nEND\n", Err(NearError::Line(2))),
+        (b"GLIDENEAR 1\nLEAST 07\nPAIR 1 0\nEND\n", Err(NearError::Line(2))),
+        (b"GLIDENEAR 1\nLEAST 7\nEND\n", Err(NearError::Line(3))),
+        (b"GLIDENEAR 1\nLEAST 7\nPAIR 4294967296 0\n", Err(NearError::Line(3))),
+        (b"GLIDENEAR 1\nLEAST NONE\nPAIR 1 0\n", Err(NearError::Line(3))),
+        (b"GLIDENEAR 1\nLEAST NONE\nBOX T 1-0 0-0\n", Err(NearError::Line(3))),
+        (b"GLIDENEAR 1\nLEAST NONE\nBOX T 0-0\nEND\n", Err(NearError::Line(3))),
+        (b"GLIDENEAR 1\nLEAST NONE\nBOX T 0-0 0-0 0-0\n", Err(NearError::Line(3))),
+        (b"GLIDENEAR 1\nLEAST NONE\nEND", Err(NearError::Cut)),
+        (b"GLIDENEAR 1\nLEAST NONE\nEND\nX", Err(NearError::Line(4))),
+    ];
+    for (text, told) in cases {
+        assert_eq!(rt; boxes_in(rt.alloc(), text), told);
     }
     Ok(())
 }
