@@ -9,7 +9,7 @@ use Rattle.gl_day.specs.Laws.Airspaces.{airspace_same, no_volumes_same}
 use Rattle.gl_proof.proofs.Unique.{text_refused, text_unique}
 use Rattle.gl_proof.specs.Claim.{Statement}
 use Rattle.gl_proof.specs.Text.{IsTextOf, statements_of}
-use Rattle.gl_proof.specs.declared.error.ProofError.{ProofError}
+use Rattle.gl_lines.specs.declared.error.ProofError.{ProofError}
 use Rattle.gl_proof.specs.declared.proof.Proof.{Proof}
 use Rattle.gl_task.specs.Reading.{IsReadFrom}
 use Rattle.gl_task.specs.declared.error.TaskError.{TaskError}

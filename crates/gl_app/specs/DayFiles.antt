@@ -9,8 +9,8 @@ use Rattle.gl_airspace.specs.declared.error.AirError.TheVariants as air
 use Rattle.gl_airspace.specs.declared.volume.Airspace.{Airspace}
 use Rattle.gl_proof.specs.Refusal.{IsRefused}
 use Rattle.gl_proof.specs.Text.{IsTextOf, statements_of}
-use Rattle.gl_proof.specs.declared.error.ProofError.{ProofError}
-use Rattle.gl_proof.specs.declared.error.ProofError.TheVariants as proof
+use Rattle.gl_lines.specs.declared.error.ProofError.{ProofError}
+use Rattle.gl_lines.specs.declared.error.ProofError.TheVariants as proof
 use Rattle.gl_proof.specs.declared.proof.Proof.{Proof}
 use Rattle.gl_task.specs.Reading.{IsReadFrom, IsRefusalOf}
 use Rattle.gl_task.specs.declared.error.TaskError.{TaskError}

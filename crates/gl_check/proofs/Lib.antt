@@ -1,4 +1,4 @@
 pub mod Choices
 pub mod Exact
-pub mod Frontiers
 pub mod Judged
+pub mod Said

@@ -1,6 +1,5 @@
 pub mod Checked
 pub mod Verdict
-pub mod Walk
 pub use Rattle.gl_box.specs.Cell
 pub use Rattle.gl_box.specs.Closed
 pub use Rattle.gl_box.specs.Frontier
@@ -8,3 +7,4 @@ pub use Rattle.gl_box.specs.Tuple
 pub use Rattle.gl_goal.specs.Certificate
 pub use Rattle.gl_goal.specs.Rule
 pub use Rattle.gl_proof.specs.Claim
+pub use Rattle.gl_walk.specs.Boxes

@@ -1,26 +1,16 @@
-ghost use Rattle.std.specs.Prelude.{◌≡◌, ◌↔◌, ℕ, List, [], map, IfOk, IsTrue};
+ghost use Rattle.std.specs.Prelude.{◌≡◌, ◌↔◌, ◌≤◌, ◌<◌, ℕ, List, length, map, IfOk, IsTrue, MatchOption};
+ghost use Rattle.std.specs.List.{HoldsAt};
 ghost use Rattle.gl_box.specs.Cell.{Covers, spans_of};
 ghost use Rattle.gl_box.specs.Closed.{box_of};
 ghost use Rattle.gl_goal.specs.Rule.{whole_cell};
 ghost use Rattle.gl_goal.specs.Certificate.{IsClaimed, IsClosedFor};
-ghost use Rattle.gl_check.specs.Verdict.{IsVerdict, NumbersBox};
-ghost use Rattle.gl_check.specs.Walk.{IsWalked, open_cells};
+ghost use Rattle.gl_check.specs.Verdict.{IsClosedAt, IsVerdict};
 
 use crate::verdict::Verdict;
-use crate::walk::go_down;
-use gl_box::{Cell, Closed, Why};
+use gl_box::{Closed, Why};
 use gl_goal::{Goal, Leg, measured_legs, whole};
+use gl_walk::{WalkEnd, number_of, walk_along};
 use std::alloc::{AllocError, Global};
-
-/// Room for open cells: each cut adds one, and a cell can be cut at most 32 times on each axis.
-const OPEN_ROOM: usize = 512;
-
-/// The number of the box at a place, as it is told.
-fn number_of(place: usize) -> u32
-    ensures { NumbersBox result place }
-{
-    place.saturating_add(1).min(u32::MAX as usize) as u32
-}
 
 /// Whether a box is closed for the total by its reason.
 fn is_closed<G: Goal>(goal: &G, total: Option<u64>, closed: &Closed, legs: &mut [Leg]) -> bool
@@ -40,36 +30,33 @@ fn is_closed<G: Goal>(goal: &G, total: Option<u64>, closed: &Closed, legs: &mut 
     }
 }
 
-/// What is said of boxes, one after the other. The only error is want of memory.
-fn walk_boxes<G: Goal>(
+/// The place of the first of so many boxes that isn't closed for the total by its reason.
+fn first_unclosed<G: Goal>(
     goal: &G,
     total: Option<u64>,
     cells: &[Closed],
-    opened: &mut Vec<Cell>,
+    count: usize,
     legs: &mut [Leg],
-) -> Result<Verdict, AllocError>
-    requires walked { IsWalked (whole_cell (G.rule goal.now).axes) []
-        (open_cells opened.old.items) }
+) -> Option<usize>
+    requires within { count ≤ length cells.now }
+    requires covers { (place : ℕ) → place < count
+        → HoldsAt (λ box. Covers (whole_cell (G.rule goal.now).axes) box.0)
+        (map box_of cells.now) place }
     requires legs { G.are_legs goal.now legs.old }
-    ensures { IfOk result (λ verdict. (fixes : List ℕ)
-        → IsClaimed (G.rule goal.now) total fixes
-        → IsVerdict (G.rule goal.now) total fixes (map box_of cells.now) verdict) }
+    ensures { MatchOption result
+        ((place : ℕ) → place < count
+        → IsClosedAt (G.rule goal.now) total (map box_of cells.now) place)
+        (λ place. (place < count)
+        × ((before : ℕ) → before < place
+        → IsClosedAt (G.rule goal.now) total (map box_of cells.now) before)
+        × ¬ IsClosedAt (G.rule goal.now) total (map box_of cells.now) place) }
 {
-    for (place, closed) in cells.iter().enumerate() {
-        if opened.is_empty() {
-            return Ok(Verdict::Extra(number_of(place)));
-        }
-        if !go_down(opened, &closed.cell)? {
-            return Ok(Verdict::Place(number_of(place)));
-        }
-        if !is_closed(goal, total, closed, legs) {
-            return Ok(Verdict::Cell(number_of(place)));
+    for place in 0..count {
+        if !is_closed(goal, total, &cells[place], legs) {
+            return Some(place);
         }
     }
-    if opened.is_empty() {
-        return Ok(Verdict::Yes);
-    }
-    Ok(Verdict::Open)
+    None
 }
 
 /// What is said of the boxes of a claim whose fixes reach its total. The only error is want of
@@ -85,7 +72,15 @@ pub fn check_boxes<G: Goal>(
         → IsVerdict (G.rule goal.now) total fixes (map box_of cells.now) verdict) }
 {
     let mut legs = measured_legs(alloc, goal)?;
-    let mut opened = Vec::with_capacity(alloc, OPEN_ROOM)?;
-    opened.push(whole(goal))?;
-    walk_boxes(goal, total, cells, &mut opened, legs.as_mut_slice())
+    let walked = walk_along(alloc, whole(goal), cells)?;
+    if let Some(place) = first_unclosed(goal, total, cells, walked.count, legs.as_mut_slice()) {
+        return Ok(Verdict::Cell(number_of(place)));
+    }
+    let number = number_of(walked.count);
+    Ok(match walked.end {
+        WalkEnd::Whole => Verdict::Yes,
+        WalkEnd::Extra => Verdict::Extra(number),
+        WalkEnd::Place => Verdict::Place(number),
+        WalkEnd::Open => Verdict::Open,
+    })
 }

@@ -6,7 +6,6 @@ mod boxes;
 mod check;
 mod choice;
 mod verdict;
-mod walk;
 
 pub use check::check_claim;
 pub use verdict::Verdict;

@@ -8,34 +8,29 @@ use Rattle.std.proofs.lemmas.List.Concat.{flat_map-append}
 use Rattle.std.proofs.lemmas.List.Elements.{All-head, All-tail}
 use Rattle.gl_box.specs.declared.closed.Why.{Why}
 use Rattle.gl_proof.specs.declared.claim.ClaimKind.{ClaimKind}
-use Rattle.gl_proof.specs.declared.error.ProofError.{ProofError}
-use Rattle.gl_proof.specs.declared.error.ProofError.TheVariants.{Heading, Line as WrongLine, Cut, Memory}
+use Rattle.gl_lines.specs.declared.error.ProofError.{ProofError}
+use Rattle.gl_lines.specs.declared.error.ProofError.TheVariants.{Heading, Line as WrongLine, Cut, Memory}
+use Rattle.gl_lines.specs.Misfit.{OrMemory}
+use Rattle.gl_lines.specs.Refusal.{Follow, NoneFollows, RunsThrough, last_line}
+use Rattle.gl_lines.proofs.Refused.{follow_append, last-append, runs_more, told_on}
 use Rattle.gl_proof.specs.Claim.{IsStatement, Statement, box_line, claim_lines, claim_text, fix_lines, spelled}
 use Rattle.gl_proof.specs.Fronts.{IsClaimAt}
-use Rattle.gl_proof.specs.Line.{AreFixes, AreSpans, Line, HeadingLine, ClaimLine, FixLine, BoxLine, EndLine, IsLine, ended, goes_on, may_follow}
+use Rattle.gl_proof.specs.Line.{AreFixes, AreSpans, Line, HeadingLine, ClaimLine, FixLine, BoxLine, EndLine, IsLine, ended, goes_on, may_follow, proof_grammar}
 use Rattle.gl_proof.specs.Number.{is_number}
-use Rattle.gl_proof.specs.Passage.{AreBoxesAt, AreClaimedAt, IsClaimRead, LacksClaim, NoBox, NoClaim, NoFixes, OrMemory}
-use Rattle.gl_proof.specs.Refusal.{Follow, IsRefused, NoneFollows, RunsThrough, last_line}
-
-pub follow_append : (last : Line) (a b : List Line) → Follow last a → Follow (last_line last a) b → Follow last (a ++ b)
-follow_append last [] b front back = back
-follow_append last (l ∷ ls) b front back = (front.0, front.1, follow_append l ls b front.2 back)
-
-pub last-append : (last : Line) (a b : List Line) → last_line last (a ++ b) ≡ last_line (last_line last a) b
-last-append last [] b = refl
-last-append last (l ∷ ls) b = last-append l ls b
+use Rattle.gl_proof.specs.Passage.{AreBoxesAt, AreClaimedAt, IsClaimRead, LacksClaim, NoBox, NoClaim, NoFixes}
+use Rattle.gl_proof.specs.Refusal.{IsRefused}
 
 -- behind a line a claim goes on or ends
 abbrev pub GoesOn : Line → Type 0
 GoesOn last = (next : Line) → may_follow last next ≡ goes_on next
 
-boxes_follow : (last : Line) (boxes : List (List (ℕ × ℕ) × Why)) → GoesOn last → All (λ box. AreSpans box.0) boxes → Follow last (map box_line boxes) × GoesOn (last_line last (map box_line boxes))
+boxes_follow : (last : Line) (boxes : List (List (ℕ × ℕ) × Why)) → GoesOn last → All (λ box. AreSpans box.0) boxes → Follow proof_grammar last (map box_line boxes) × GoesOn (last_line last (map box_line boxes))
 boxes_follow last [] on each = (tt, on)
 boxes_follow last (box ∷ boxes) on each =
     let rest = boxes_follow (box_line box) boxes (λ next. refl) (All-tail (λ (b : List (ℕ × ℕ) × Why). AreSpans b.0) box boxes each) in
     ((All-head (λ (b : List (ℕ × ℕ) × Why). AreSpans b.0) box boxes each, on (box_line box), rest.0), rest.1)
 
-claim_follows' : (last : Line) (number : List ℕ) (kind : ClaimKind) (total : Option ℕ) (fixes : List ℕ) (boxes : List (List (ℕ × ℕ) × Why)) → IsTrue (is_number number) → IfSome total (λ greatest. greatest < 2 ^ 64) → MatchOption total (fixes ≡ []) (λ _. AreFixes fixes) → All (λ box. AreSpans box.0) boxes → may_follow last (ClaimLine number kind total) ≡ true → Follow last (ClaimLine number kind total ∷ (fix_lines total fixes ++ map box_line boxes)) × GoesOn (last_line last (ClaimLine number kind total ∷ (fix_lines total fixes ++ map box_line boxes)))
+claim_follows' : (last : Line) (number : List ℕ) (kind : ClaimKind) (total : Option ℕ) (fixes : List ℕ) (boxes : List (List (ℕ × ℕ) × Why)) → IsTrue (is_number number) → IfSome total (λ greatest. greatest < 2 ^ 64) → MatchOption total (fixes ≡ []) (λ _. AreFixes fixes) → All (λ box. AreSpans box.0) boxes → may_follow last (ClaimLine number kind total) ≡ true → Follow proof_grammar last (ClaimLine number kind total ∷ (fix_lines total fixes ++ map box_line boxes)) × GoesOn (last_line last (ClaimLine number kind total ∷ (fix_lines total fixes ++ map box_line boxes)))
 claim_follows' last number kind None fixes boxes is_number small named each may =
     let rest = boxes_follow (ClaimLine number kind None) boxes (λ next. refl) each in
     (((is_number, small), may, rest.0), rest.1)
@@ -43,23 +38,23 @@ claim_follows' last number kind (Some total) fixes boxes is_number small named e
     let rest = boxes_follow (FixLine fixes) boxes (λ next. refl) each in
     (((is_number, small), may, (named, refl, rest.0)), rest.1)
 
-pub claim_follows : (last : Line) (s : Statement) → IsStatement s → may_follow last (ClaimLine s.number s.kind s.total) ≡ true → Follow last (claim_lines s) × GoesOn (last_line last (claim_lines s))
+pub claim_follows : (last : Line) (s : Statement) → IsStatement s → may_follow last (ClaimLine s.number s.kind s.total) ≡ true → Follow proof_grammar last (claim_lines s) × GoesOn (last_line last (claim_lines s))
 claim_follows last s is may = claim_follows' last s.number s.kind s.total s.fixes s.boxes is.number is.total is.fixes is.boxes may
 
-pub claims_follow : (last : Line) (ss : List Statement) → GoesOn last → All IsStatement ss → Follow last (flat_map claim_lines ss) × GoesOn (last_line last (flat_map claim_lines ss))
+pub claims_follow : (last : Line) (ss : List Statement) → GoesOn last → All IsStatement ss → Follow proof_grammar last (flat_map claim_lines ss) × GoesOn (last_line last (flat_map claim_lines ss))
 claims_follow last [] on each = (tt, on)
 claims_follow last (s ∷ ss) on each =
     let one = claim_follows last s (All-head IsStatement s ss each) (on (ClaimLine s.number s.kind s.total)) in
     let rest = claims_follow (last_line last (claim_lines s)) ss one.1 (All-tail IsStatement s ss each) in
-    (follow_append last (claim_lines s) (flat_map claim_lines ss) one.0 rest.0, subst GoesOn (sym (last-append last (claim_lines s) (flat_map claim_lines ss))) rest.1)
+    (follow_append proof_grammar last (claim_lines s) (flat_map claim_lines ss) one.0 rest.0, subst GoesOn (sym (last-append last (claim_lines s) (flat_map claim_lines ss))) rest.1)
 
 -- the lines of claims behind the heading
-pub lines_follow : (ss : List Statement) → All IsStatement ss → Follow HeadingLine (flat_map claim_lines ss) × (0 < length ss → GoesOn (last_line HeadingLine (flat_map claim_lines ss)))
+pub lines_follow : (ss : List Statement) → All IsStatement ss → Follow proof_grammar HeadingLine (flat_map claim_lines ss) × (0 < length ss → GoesOn (last_line HeadingLine (flat_map claim_lines ss)))
 lines_follow [] each = (tt, λ some. absurd (omega arith))
 lines_follow (s ∷ ss) each =
     let one = claim_follows HeadingLine s (All-head IsStatement s ss each) refl in
     let rest = claims_follow (last_line HeadingLine (claim_lines s)) ss one.1 (All-tail IsStatement s ss each) in
-    (follow_append HeadingLine (claim_lines s) (flat_map claim_lines ss) one.0 rest.0, λ some. subst GoesOn (sym (last-append HeadingLine (claim_lines s) (flat_map claim_lines ss))) rest.1)
+    (follow_append proof_grammar HeadingLine (claim_lines s) (flat_map claim_lines ss) one.0 rest.0, λ some. subst GoesOn (sym (last-append HeadingLine (claim_lines s) (flat_map claim_lines ss))) rest.1)
 
 -- the end may stand behind them
 pub end_follows : (ss : List Statement) → All IsStatement ss → may_follow (last_line HeadingLine (flat_map claim_lines ss)) EndLine ≡ true
@@ -74,7 +69,7 @@ claim_may_follow (s ∷ ss) number kind total each = (lines_follow (s ∷ ss) ea
 pub not_ended : (ss : List Statement) → All IsStatement ss → last_line HeadingLine (flat_map claim_lines ss) ≢ EndLine
 not_ended ss each same = false≢true (sym (ap (λ (last : Line). may_follow last EndLine) same) ∙ end_follows ss each)
 
-heading_none : (rest : List ℕ) → NoClaim rest → ((more : List ℕ) → rest ≡ ended EndLine ++ more → ⊥) → NoneFollows HeadingLine rest
+heading_none : (rest : List ℕ) → NoClaim rest → ((more : List ℕ) → rest ≡ ended EndLine ++ more → ⊥) → NoneFollows proof_grammar HeadingLine rest
 heading_none rest no_claim no_end HeadingLine more is may text = false≢true may
 heading_none rest no_claim no_end (ClaimLine number kind total) more is may text = no_claim (number, kind, total) more (is, text)
 heading_none rest no_claim no_end (FixLine fixes) more is may text = false≢true may
@@ -88,29 +83,19 @@ goes_none rest (FixLine fixes) more no_claim no_box no_end is may text = false�
 goes_none rest (BoxLine why spans) more no_claim no_box no_end is may text = no_box (spans, why) more (is, text)
 goes_none rest EndLine more no_claim no_box no_end is may text = no_end more text
 
-pub none_follows : (ss : List Statement) (rest : List ℕ) → All IsStatement ss → (0 < length ss → NoBox rest) → NoClaim rest → ((more : List ℕ) → rest ≡ ended EndLine ++ more → ⊥) → NoneFollows (last_line HeadingLine (flat_map claim_lines ss)) rest
+pub none_follows : (ss : List Statement) (rest : List ℕ) → All IsStatement ss → (0 < length ss → NoBox rest) → NoClaim rest → ((more : List ℕ) → rest ≡ ended EndLine ++ more → ⊥) → NoneFollows proof_grammar (last_line HeadingLine (flat_map claim_lines ss)) rest
 none_follows [] rest each no_box no_claim no_end line more is may text = heading_none rest no_claim no_end line more is may text
 none_follows (s ∷ ss) rest each no_box no_claim no_end line more is may text =
     goes_none rest line more no_claim (no_box (omega arith)) no_end is (sym ((lines_follow (s ∷ ss) each).1 (omega arith) line) ∙ may) text
 
 -- behind the line of a claim with a total only its fixes may stand
-pub fixes_none : (number : List ℕ) (kind : ClaimKind) (total : Option ℕ) (rest : List ℕ) → IsSome total → NoFixes rest → NoneFollows (ClaimLine number kind total) rest
+pub fixes_none : (number : List ℕ) (kind : ClaimKind) (total : Option ℕ) (rest : List ℕ) → IsSome total → NoFixes rest → NoneFollows proof_grammar (ClaimLine number kind total) rest
 fixes_none number kind None rest some none line more is may text = false≢true some
 fixes_none number kind (Some total) rest some none HeadingLine more is may text = false≢true may
 fixes_none number kind (Some total) rest some none (ClaimLine n k t) more is may text = false≢true may
 fixes_none number kind (Some total) rest some none (FixLine fixes) more is may text = none fixes more is text
 fixes_none number kind (Some total) rest some none (BoxLine why spans) more is may text = false≢true may
 fixes_none number kind (Some total) rest some none EndLine more is may text = false≢true may
-
--- a line more
-pub runs_more : (text : List ℕ) (lines : List Line) (rest : List ℕ) (line : Line) (more : List ℕ) → RunsThrough text lines rest → rest ≡ ended line ++ more → IsLine line → may_follow (last_line HeadingLine lines) line ≡ true → RunsThrough text (lines ++ line ∷ []) more
-runs_more text lines rest line more runs front is may =
-    let all = spelled (HeadingLine ∷ lines) in
-    let added : spelled (HeadingLine ∷ (lines ++ line ∷ [])) ≡ all ++ ended line = flat_map-append ended (HeadingLine ∷ lines) (line ∷ []) ∙ ap (λ (l : List ℕ). all ++ l) (append-nil (ended line)) in
-    record {
-      is = runs.is ∙ ap (λ (l : List ℕ). all ++ l) front ∙ sym (append_assoc all (ended line) more) ∙ ap (λ (l : List ℕ). l ++ more) (sym added);
-      follow = follow_append HeadingLine lines (line ∷ []) runs.follow (is, may, tt);
-    }
 
 -- a claim more
 pub claims_more : (text : List ℕ) (ss : List Statement) (rest : List ℕ) (s : Statement) (more : List ℕ) → text ≡ spelled (HeadingLine ∷ flat_map claim_lines ss) ++ rest → rest ≡ claim_text s ++ more → text ≡ spelled (HeadingLine ∷ flat_map claim_lines (ss ++ s ∷ [])) ++ more
@@ -123,15 +108,6 @@ claims_more text ss rest s more is front =
 pub length-claims_more : (ss : List Statement) (s : Statement) → length (flat_map claim_lines (ss ++ s ∷ [])) ≡ length (flat_map claim_lines ss) + length (claim_lines s)
 length-claims_more ss s =
     ap length (flat_map-append claim_lines ss (s ∷ []) ∙ ap (λ (l : List Line). flat_map claim_lines ss ++ l) (append-nil (claim_lines s))) ∙ length-append (flat_map claim_lines ss) (claim_lines s)
-
-pub told_on : (told line count more : ℕ) → told ≡ min (line + more) 4_294_967_295 → line ≡ min count 4_294_967_295 → told ≡ min (count + more) 4_294_967_295
-told_on told line count more is counted = omega arith
-
-pub or_weaker : (error : ProofError) (P Q : Type 0) → (P → Q) → OrMemory error P → OrMemory error Q
-or_weaker Heading P Q to fault = to fault
-or_weaker (WrongLine told) P Q to fault = to fault
-or_weaker Cut P Q to fault = to fault
-or_weaker Memory P Q to fault = fault
 
 -- a claim whose parts were read
 pub claim_read : (text rest after more name number : List ℕ) (kind : ClaimKind) (total : Option ℕ) (fixes : List ℕ) (boxes : List (List (ℕ × ℕ) × Why)) (line lines second next : ℕ) → name ≡ number → IsClaimAt text (number, kind, total) rest → AreClaimedAt total rest fixes after → AreBoxesAt after boxes more → lines ≡ 1 + length (fix_lines total fixes) → second ≡ min (line + lines) 4_294_967_295 → next ≡ min (second + length boxes) 4_294_967_295 → IsClaimRead text line (record { number = name; kind = kind; total = total; fixes = fixes; boxes = boxes }) more next
@@ -171,15 +147,15 @@ refused_claim text ss rest line (WrongLine told) each is counted no_box no_end (
 refused_claim text ss rest line (WrongLine told) each is counted no_box no_end (inr at) =
     let lines = flat_map claim_lines ss in
     let next = ClaimLine at.said.0 at.said.1 at.said.2 in
-    let runs : RunsThrough text lines rest = record { is = is; follow = (lines_follow ss each).0 } in
+    let runs : RunsThrough proof_grammar text lines rest = record { is = is; follow = (lines_follow ss each).0 } in
     let last : last_line HeadingLine (lines ++ next ∷ []) ≡ next = last-append HeadingLine lines (next ∷ []) in (
       length lines + 2 + 1,
       record {
         lines = lines ++ next ∷ [];
         rest = at.rest;
-        runs = runs_more text lines rest next at.rest runs at.claim.1 at.claim.0 (claim_may_follow ss at.said.0 at.said.1 at.said.2 each);
+        runs = runs_more proof_grammar text lines rest next at.rest runs at.claim.1 at.claim.0 (claim_may_follow ss at.said.0 at.said.1 at.said.2 each);
         counted = omega (arith, length-append lines (next ∷ []));
-        wrong = inl (at.lacks.misfit.0, subst (λ (l : Line). NoneFollows l at.rest) (sym last) (fixes_none at.said.0 at.said.1 at.said.2 at.rest at.lacks.some at.lacks.none));
+        wrong = inl (at.lacks.misfit.0, subst (λ (l : Line). NoneFollows proof_grammar l at.rest) (sym last) (fixes_none at.said.0 at.said.1 at.said.2 at.rest at.lacks.some at.lacks.none));
       },
       told_on told line (length lines + 2) 1 at.lacks.misfit.1 counted,
     )
@@ -193,12 +169,12 @@ refused_claim text ss rest line Cut each is counted no_box no_end (inl at) = rec
 refused_claim text ss rest line Cut each is counted no_box no_end (inr at) =
     let lines = flat_map claim_lines ss in
     let next = ClaimLine at.said.0 at.said.1 at.said.2 in
-    let runs : RunsThrough text lines rest = record { is = is; follow = (lines_follow ss each).0 } in
+    let runs : RunsThrough proof_grammar text lines rest = record { is = is; follow = (lines_follow ss each).0 } in
     let last : last_line HeadingLine (lines ++ next ∷ []) ≡ next = last-append HeadingLine lines (next ∷ []) in
     record {
       lines = lines ++ next ∷ [];
       rest = at.rest;
-      runs = runs_more text lines rest next at.rest runs at.claim.1 at.claim.0 (claim_may_follow ss at.said.0 at.said.1 at.said.2 each);
+      runs = runs_more proof_grammar text lines rest next at.rest runs at.claim.1 at.claim.0 (claim_may_follow ss at.said.0 at.said.1 at.said.2 each);
       unended = λ same. let both : next ≡ EndLine = sym last ∙ same in cc;
       broken = at.lacks.misfit;
     }
@@ -207,12 +183,12 @@ refused_claim text ss rest line Cut each is counted no_box no_end (inr at) =
 pub refused_after : (text : List ℕ) (ss : List Statement) (rest : List ℕ) (line told : ℕ) (after : List ℕ) → All IsStatement ss → text ≡ spelled (HeadingLine ∷ flat_map claim_lines ss) ++ rest → line ≡ min (length (flat_map claim_lines ss) + 2) 4_294_967_295 → rest ≡ ended EndLine ++ after → (after ≡ [] → ⊥) → told ≡ min (line + 1) 4_294_967_295 → IsRefused text (WrongLine told)
 refused_after text ss rest line told after each is counted front some is_told =
     let lines = flat_map claim_lines ss in
-    let runs : RunsThrough text lines rest = record { is = is; follow = (lines_follow ss each).0 } in (
+    let runs : RunsThrough proof_grammar text lines rest = record { is = is; follow = (lines_follow ss each).0 } in (
       length lines + 2 + 1,
       record {
         lines = lines ++ EndLine ∷ [];
         rest = after;
-        runs = runs_more text lines rest EndLine after runs front tt (end_follows ss each);
+        runs = runs_more proof_grammar text lines rest EndLine after runs front tt (end_follows ss each);
         counted = omega (arith, length-append lines (EndLine ∷ []));
         wrong = inr (last-append HeadingLine lines (EndLine ∷ []), some);
       },

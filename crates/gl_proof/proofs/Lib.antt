@@ -1,5 +1,5 @@
 pub mod Appended
 pub mod Chain
-pub mod Codes
+pub mod Entrants
 pub mod Lines
 pub mod Unique

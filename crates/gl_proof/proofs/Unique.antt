@@ -1,27 +1,30 @@
 -- A text has one reading: at most one proof has it, and at most one refusal is told of it.
-use Rattle.std.proofs.Common.{◌≡◌, ◌∙◌, sym, ap, refl, subst, ℕ, ◌+◌, ◌^◌, ◌<◌, inl, inr, List, [], ◌∷◌, ◌++◌, length, get_or, map, append_assoc, Option, Some, None, arith}
+use Rattle.std.proofs.Common.{◌≡◌, ◌∙◌, sym, ap, refl, subst, ℕ, ◌^◌, ◌<◌, List, [], ◌∷◌, ◌++◌, get_or, map, append_assoc, Option, Some, None, arith}
 use Rattle.std.specs.Fmt.{decimal}
 use Rattle.std.specs.List.{flat_map}
 use Rattle.std.proofs.Common.{Bor}
-use Rattle.std.specs.Prelude.{All, IfOk, MatchOption, Result, Ok, Err, codes, min}
-use Rattle.std.proofs.lemmas.Bool.{false≢true}
-use Rattle.std.proofs.lemmas.List.{append-nil, append_cancel_left, get_or_at, length-append}
+use Rattle.std.specs.Prelude.{All, IfOk, MatchOption, Result, Ok, Err, codes}
+use Rattle.std.proofs.lemmas.List.{append-nil, append_cancel_left}
 use Rattle.std.proofs.lemmas.List.Elements.{All-head, All-tail}
 use Rattle.gl_box.specs.declared.closed.Closed.{Closed}
 use Rattle.gl_box.specs.declared.closed.Why.{Why}
 use Rattle.gl_box.specs.Cell.{spans_of}
 use Rattle.gl_box.specs.declared.closed.Why.TheVariants.{Disordered, Shut, Bound}
 use Rattle.gl_proof.specs.declared.claim.ClaimKind.{ClaimKind}
-use Rattle.gl_proof.specs.declared.error.ProofError.{ProofError}
-use Rattle.gl_proof.specs.declared.error.ProofError.TheVariants.{Heading, Line as WrongLine, Cut, Memory}
-use Rattle.gl_proof.specs.Claim.{IsStatement, Statement, box_line, claim_lines, fix_lines, spelled}
+use Rattle.gl_lines.specs.declared.error.ProofError.{ProofError}
+use Rattle.gl_lines.specs.declared.error.ProofError.TheVariants.{Memory}
+use Rattle.gl_lines.specs.Grammar.{IsPlain}
+use Rattle.gl_lines.specs.Words.{IsSpan, spaced, span_word, total_word}
+use Rattle.gl_lines.proofs.Codes.{words_front}
+use Rattle.gl_lines.proofs.Refused.{IsFull, follow_append, full_refused, full_unique, last-append, refused_once}
+use Rattle.gl_lines.proofs.Words.{feed_first, no_word, number_once, span_once, total_there, total_unique}
+use Rattle.gl_proof.specs.Claim.{IsStatement, Statement, box_line, claim_lines, fix_lines}
 use Rattle.gl_proof.specs.Fronts.{Adds, AddsBox, AreSpansAt}
-use Rattle.gl_proof.specs.Line.{AreFixes, Line, HeadingLine, ClaimLine, FixLine, BoxLine, EndLine, IsLine, IsSpan, ended, kind_word, may_follow, reason_word, spaced, span_word, total_word}
-use Rattle.gl_proof.specs.Refusal.{Follow, HasLine, IsCut, IsFirstWrong, IsHeadless, IsRefused, NoneFollows, RunsThrough, last_line}
+use Rattle.gl_proof.specs.Line.{AreFixes, Line, HeadingLine, ClaimLine, FixLine, BoxLine, EndLine, IsLine, ended, kind_word, proof_grammar, reason_word}
+use Rattle.gl_proof.specs.Refusal.{IsRefused}
 use Rattle.gl_proof.specs.Text.{IsTextOf, lines_of, proof_text}
-use Rattle.gl_proof.proofs.Chain.{end_follows, follow_append, last-append, lines_follow}
-use Rattle.gl_proof.proofs.Codes.{words_front}
-use Rattle.gl_proof.proofs.Lines.{box_is, claim_is, entrant_unique, fix_is, kind_unique, no_word, number_once, span_once, total_there, total_unique}
+use Rattle.gl_proof.proofs.Chain.{end_follows, lines_follow}
+use Rattle.gl_proof.proofs.Lines.{box_is, claim_is, entrant_unique, fix_is, kind_unique}
 
 -- the byte with which a line begins
 tag : Line → ℕ
@@ -49,10 +52,6 @@ reason_unique Shut Disordered r q same = let byte : 83 ≡ 68 = ap (λ (l : List
 reason_unique Shut Bound r q same = let byte : 83 ≡ 66 = ap (λ (l : List ℕ). get_or l 0 0) same in absurd (omega (arith, byte))
 reason_unique Bound Disordered r q same = let byte : 66 ≡ 68 = ap (λ (l : List ℕ). get_or l 0 0) same in absurd (omega (arith, byte))
 reason_unique Bound Shut r q same = let byte : 66 ≡ 83 = ap (λ (l : List ℕ). get_or l 0 0) same in absurd (omega (arith, byte))
-
--- what begins with LF begins with no space
-feed_first : (r behind : List ℕ) → 10 ∷ r ≡ 32 ∷ behind → ⊥
-feed_first r behind same = let byte : 10 ≡ 32 = ap (λ (l : List ℕ). get_or l 0 0) same in absurd (omega (arith, byte))
 
 claims_unique : (m n : List ℕ) (k j : ClaimKind) (t u : Option ℕ) (r q : List ℕ) → IsLine (ClaimLine m k t) → IsLine (ClaimLine n j u) → ended (ClaimLine m k t) ++ r ≡ ended (ClaimLine n j u) ++ q → (ClaimLine m k t ≡ ClaimLine n j u) × (r ≡ q)
 claims_unique m n k j t u r q is_one is_other same =
@@ -86,117 +85,32 @@ line_unique (BoxLine why spans) (BoxLine reason others) r q is_l is_m same =
 line_unique l m r q is_l is_m same =
     absurd (omega (arith, sym (tag_is l r) ∙ ap (λ (t : List ℕ). get_or t 0 0) same ∙ tag_is m q))
 
-spelled_on : (line : Line) (lines : List Line) (r : List ℕ) → spelled (line ∷ lines) ++ r ≡ ended line ++ (spelled lines ++ r)
-spelled_on line lines r = append_assoc (ended line) (spelled lines) r
+-- no line of a proof is spelled in two ways, and nothing may stand behind its end
+pub proof_plain : IsPlain proof_grammar
+proof_plain = record {
+  once = λ line other rest more is_line is_other same. line_unique line other rest more is_line is_other same;
+  ends = λ line. refl;
+}
 
--- two runs behind which no further line may stand are one
-pub stuck_unique : (last : Line) (us vs : List Line) (r q : List ℕ) → Follow last us → Follow last vs → NoneFollows (last_line last us) r → NoneFollows (last_line last vs) q → spelled us ++ r ≡ spelled vs ++ q → (us ≡ vs) × (r ≡ q)
-stuck_unique last [] [] r q follow_us follow_vs none_us none_vs same = (refl, same)
-stuck_unique last [] (v ∷ vs) r q follow_us follow_vs none_us none_vs same =
-    absurd (none_us v (spelled vs ++ q) follow_vs.0 follow_vs.1 (same ∙ spelled_on v vs q))
-stuck_unique last (u ∷ us) [] r q follow_us follow_vs none_us none_vs same =
-    absurd (none_vs u (spelled us ++ r) follow_us.0 follow_us.1 (sym same ∙ spelled_on u us r))
-stuck_unique last (u ∷ us) (v ∷ vs) r q follow_us follow_vs none_us none_vs same =
-    let one = line_unique u v (spelled us ++ r) (spelled vs ++ q) follow_us.0 follow_vs.0 (sym (spelled_on u us r) ∙ same ∙ spelled_on v vs q) in
-    let first : u ≡ v = one.0 in
-    let rest = stuck_unique u us vs r q follow_us.2 (subst (λ (l : Line). Follow l vs) (sym first) follow_vs.2) none_us (subst (λ (l : Line). NoneFollows (last_line l vs) q) (sym first) none_vs) one.1 in
-    (λ i. first i ∷ rest.0 i, rest.1)
-
--- a run of a text behind which no further line may stand
-pub record Stuck (text : List ℕ) (lines : List Line) (rest : List ℕ) : Type 0 where
-  pub runs : RunsThrough text lines rest
-  pub none : NoneFollows (last_line HeadingLine lines) rest
-
-pub stuck_same : (text : List ℕ) (us vs : List Line) (r q : List ℕ) → Stuck text us r → Stuck text vs q → (us ≡ vs) × (r ≡ q)
-stuck_same text us vs r q one other =
-    let both : ended HeadingLine ++ (spelled us ++ r) ≡ ended HeadingLine ++ (spelled vs ++ q) =
-    sym (spelled_on HeadingLine us r) ∙ sym one.runs.is ∙ other.runs.is ∙ spelled_on HeadingLine vs q in
-    stuck_unique HeadingLine us vs r q one.runs.follow other.runs.follow one.none other.none (append_cancel_left (ended HeadingLine) _ _ both)
-
-none_behind : (last : Line) (rest : List ℕ) → last ≡ EndLine → NoneFollows last rest
-none_behind last rest ends line more is may text =
-    false≢true (sym (ap (λ (l : Line). may_follow l line) ends) ∙ may)
-
-has_line : (line : Line) (more : List ℕ) → HasLine (ended line ++ more)
-has_line line more = has_feed _ where
-  has_feed : (front : List ℕ) → HasLine ((front ++ 10 ∷ []) ++ more)
-  has_feed front =
-      let regroup : (front ++ 10 ∷ []) ++ more ≡ front ++ 10 ∷ more = append_assoc front (10 ∷ []) more in
-      (length front, omega (arith, ap length regroup, length-append front (10 ∷ more)), ap (λ (l : List ℕ). get_or l (length front) 10) regroup ∙ get_or_at front 10 more 10 (length front) refl)
-
-none_broken : (last : Line) (rest : List ℕ) → (HasLine rest → ⊥) → NoneFollows last rest
-none_broken last rest broken line more is may text = broken (subst HasLine (sym text) (has_line line more))
-
-pub text_stuck : (text : List ℕ) (ss : List Statement) → IsTextOf text ss → Stuck text (lines_of ss) []
-text_stuck text ss of =
+-- the text of a proof runs through to its end
+text_full : (text : List ℕ) (ss : List Statement) → IsTextOf text ss → IsFull proof_grammar text (lines_of ss)
+text_full text ss of =
     let lines = flat_map claim_lines ss in
     record {
       runs = record {
         is = of.is ∙ sym (append-nil (proof_text ss));
-        follow = follow_append HeadingLine lines (EndLine ∷ []) (lines_follow ss of.each).0 (tt, end_follows ss of.each, tt);
+        follow = follow_append proof_grammar HeadingLine lines (EndLine ∷ []) (lines_follow ss of.each).0 (tt, end_follows ss of.each, tt);
       };
-      none = none_behind _ [] (last-append HeadingLine lines (EndLine ∷ []));
+      ends = last-append HeadingLine lines (EndLine ∷ []);
     }
-
-pub wrong_stuck : (text : List ℕ) (number : ℕ) (wrong : IsFirstWrong text number) → Stuck text wrong.lines wrong.rest
-wrong_stuck text number wrong = record {
-  runs = wrong.runs;
-  none = elim wrong.wrong [ inl at ↦ at.1 | inr at ↦ none_behind _ wrong.rest at.0 ];
-}
-
-pub cut_stuck : (text : List ℕ) (cut : IsCut text) → Stuck text cut.lines cut.rest
-cut_stuck text cut = record { runs = cut.runs; none = none_broken _ cut.rest cut.broken }
-
-runs_headed : (text : List ℕ) (lines : List Line) (rest : List ℕ) → RunsThrough text lines rest → IsHeadless text → ⊥
-runs_headed text lines rest runs headless = headless (spelled lines ++ rest) (runs.is ∙ spelled_on HeadingLine lines rest)
-
-wrong_cut : (text : List ℕ) (number : ℕ) → IsFirstWrong text number → IsCut text → ⊥
-wrong_cut text number wrong cut =
-    let same = stuck_same text wrong.lines cut.lines wrong.rest cut.rest (wrong_stuck text number wrong) (cut_stuck text cut) in
-    elim wrong.wrong [
-      | inl at ↦ cut.broken (subst HasLine same.1 at.0)
-      | inr at ↦ cut.unended (ap (last_line HeadingLine) (sym same.0) ∙ at.0)
-    ]
-
-wrong_number : (text : List ℕ) (m n : ℕ) → IsFirstWrong text m → IsFirstWrong text n → m ≡ n
-wrong_number text m n one other =
-    let same = stuck_same text one.lines other.lines one.rest other.rest (wrong_stuck text m one) (wrong_stuck text n other) in
-    one.counted ∙ ap (λ (lines : List Line). length lines + 2) same.0 ∙ sym other.counted
 
 -- one refusal is told of a text, beside want of memory
 pub refused_unique : (text : List ℕ) (a b : ProofError) → (a ≡ Memory → ⊥) → (b ≡ Memory → ⊥) → IsRefused text a → IsRefused text b → a ≡ b
-refused_unique text Memory b some_a some_b is_a is_b = absurd (some_a refl)
-refused_unique text a Memory some_a some_b is_a is_b = absurd (some_b refl)
-refused_unique text Heading Heading some_a some_b is_a is_b = refl
-refused_unique text Heading (WrongLine m) some_a some_b is_a is_b = absurd (runs_headed text is_b.1.lines is_b.1.rest is_b.1.runs is_a)
-refused_unique text Heading Cut some_a some_b is_a is_b = absurd (runs_headed text is_b.lines is_b.rest is_b.runs is_a)
-refused_unique text (WrongLine m) Heading some_a some_b is_a is_b = absurd (runs_headed text is_a.1.lines is_a.1.rest is_a.1.runs is_b)
-refused_unique text (WrongLine m) (WrongLine n) some_a some_b is_a is_b =
-    ap WrongLine (is_a.2 ∙ ap (λ (k : ℕ). min k 4_294_967_295) (wrong_number text is_a.0 is_b.0 is_a.1 is_b.1) ∙ sym is_b.2)
-refused_unique text (WrongLine m) Cut some_a some_b is_a is_b = absurd (wrong_cut text is_a.0 is_a.1 is_b)
-refused_unique text Cut Heading some_a some_b is_a is_b = absurd (runs_headed text is_a.lines is_a.rest is_a.runs is_b)
-refused_unique text Cut (WrongLine n) some_a some_b is_a is_b = absurd (wrong_cut text is_b.0 is_b.1 is_a)
-refused_unique text Cut Cut some_a some_b is_a is_b = refl
+refused_unique text a b some_a some_b is_a is_b = refused_once proof_grammar proof_plain text a b some_a some_b is_a is_b
 
 -- and none of the text of a proof
-text_wrong : (text : List ℕ) (ss : List Statement) (number : ℕ) → IsTextOf text ss → IsFirstWrong text number → ⊥
-text_wrong text ss number of wrong =
-    let same = stuck_same text (lines_of ss) wrong.lines [] wrong.rest (text_stuck text ss of) (wrong_stuck text number wrong) in
-    elim wrong.wrong [
-      | inl at ↦ let has : HasLine [] = subst HasLine (sym same.1) at.0 in absurd (omega (arith, has.1))
-      | inr at ↦ at.1 (sym same.1)
-    ]
-
-text_cut : (text : List ℕ) (ss : List Statement) → IsTextOf text ss → IsCut text → ⊥
-text_cut text ss of cut =
-    let same = stuck_same text (lines_of ss) cut.lines [] cut.rest (text_stuck text ss of) (cut_stuck text cut) in
-    cut.unended (ap (last_line HeadingLine) (sym same.0) ∙ last-append HeadingLine (flat_map claim_lines ss) (EndLine ∷ []))
-
 pub text_refused : (text : List ℕ) (ss : List Statement) (error : ProofError) → IsTextOf text ss → IsRefused text error → error ≡ Memory
-text_refused text ss Memory of is = refl
-text_refused text ss Heading of is = let stuck = text_stuck text ss of in absurd (runs_headed text (lines_of ss) [] stuck.runs is)
-text_refused text ss (WrongLine told) of is = absurd (text_wrong text ss is.0 of is.1)
-text_refused text ss Cut of is = absurd (text_cut text ss of is)
+text_refused text ss error of is = full_refused proof_grammar proof_plain text (lines_of ss) error (text_full text ss of) is
 
 -- lines that begin with no box
 no_box_first : List Line → Type 0
@@ -262,7 +176,7 @@ lines_injective (s ∷ ss) (t ∷ ts) each_s each_t same =
 -- one proof has a text
 pub text_unique : (text : List ℕ) (ss ts : List Statement) → IsTextOf text ss → IsTextOf text ts → ss ≡ ts
 text_unique text ss ts one other =
-    lines_injective ss ts one.each other.each (stuck_same text (lines_of ss) (lines_of ts) [] [] (text_stuck text ss one) (text_stuck text ts other)).0
+    lines_injective ss ts one.each other.each (full_unique proof_grammar proof_plain text (lines_of ss) (lines_of ts) (text_full text ss one) (text_full text ts other))
 
 -- with the word of a box and the letter of its reason before them, spans are the line of a box
 pub box_adds : (text words tail : List ℕ) (why : Why) (before after : List Closed) (taken : Option (Bor (List ℕ))) → text ≡ codes "BOX " ++ words → words ≡ reason_word why ++ tail → Adds (AreSpansAt tail) why before after taken → AddsBox text before after taken

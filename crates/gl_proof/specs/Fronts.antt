@@ -1,6 +1,5 @@
 -- What stands at the front of a text, and what a reader says of it.
-use Rattle.std.specs.Prelude.{◌≡◌, ℕ, ◌^◌, ◌<◌, Bool, false, IsTrue, List, [], ◌∷◌, ◌++◌, map, Option, None, Some}
-use Rattle.std.specs.Char.{is_ascii_digit}
+use Rattle.std.specs.Prelude.{◌≡◌, ℕ, IsTrue, List, [], ◌∷◌, ◌++◌, map, Option, None, Some}
 use Rattle.std.specs.Fmt.{decimal}
 use Rattle.std.proofs.Common.{Bor}
 use Rattle.gl_box.specs.declared.cell.Cell.{Cell}
@@ -8,34 +7,11 @@ use Rattle.gl_box.specs.declared.closed.Closed.{Closed}
 use Rattle.gl_box.specs.declared.closed.Why.{Why}
 use Rattle.gl_box.specs.Cell.{spans_of}
 use Rattle.gl_box.specs.Closed.{box_of}
+use Rattle.gl_lines.specs.Words.{spaced, span_word}
 use Rattle.gl_proof.specs.declared.claim.ClaimKind.{ClaimKind}
 use Rattle.gl_proof.specs.Claim.{box_line}
-use Rattle.gl_proof.specs.Line.{AreFixes, AreSpans, ClaimLine, IsLine, IsSpan, ended, kind_word, reason_word, spaced, span_word, total_word}
+use Rattle.gl_proof.specs.Line.{AreFixes, AreSpans, ClaimLine, IsLine, ended, kind_word, reason_word}
 use Rattle.gl_proof.specs.Number.{is_number}
-
--- A reader took something from the front of a text and left the rest, or nothing of the kind stands
--- there.
-abbrev pub Reads : {X Y : Type 0} → (Y → X) → (X → List ℕ → Type 0) → Option (Y × Bor (List ℕ))
-    → Type 0
-Reads view StandsAt None = (x : _) (rest : List ℕ) → StandsAt x rest → ⊥
-Reads view StandsAt (Some taken) = StandsAt (view taken.0) taken.1.now
-
--- a text doesn't begin with a byte that passes a test
-abbrev pub Stops : (ℕ → Bool) → List ℕ → Type 0
-Stops test [] = Unit {0}
-Stops test (b ∷ bs) = test b ≡ false
-
--- the digits of a number below a limit, and no digit behind them
-pub record IsNumberAt (limit : ℕ) (text : List ℕ) (number : ℕ) (rest : List ℕ) : Type 0 where
-  pub below : number < limit
-  pub is : text ≡ decimal number ++ rest
-  pub stops : Stops is_ascii_digit rest
-
--- a span, and no digit behind it
-pub record IsSpanAt (text : List ℕ) (span : ℕ × ℕ) (rest : List ℕ) : Type 0 where
-  pub is_span : IsSpan span
-  pub is : text ≡ span_word span ++ rest
-  pub stops : Stops is_ascii_digit rest
 
 -- the spans of a box, each behind a space, and LF
 pub record AreSpansAt (text : List ℕ) (spans : List (ℕ × ℕ)) (rest : List ℕ) : Type 0 where
@@ -79,11 +55,6 @@ IsEntrantAt text number rest = IsTrue (is_number number) × (text ≡ number ++ 
 -- the word of a kind of claim, and a space
 abbrev pub IsKindAt : List ℕ → ClaimKind → List ℕ → Type 0
 IsKindAt text kind rest = text ≡ kind_word kind ++ 32 ∷ rest
-
--- a total, and LF
-abbrev pub IsTotalAt : List ℕ → Option ℕ → List ℕ → Type 0
-IsTotalAt text None rest = text ≡ total_word None ++ 10 ∷ rest
-IsTotalAt text (Some total) rest = (total < 2 ^ 64) × (text ≡ total_word (Some total) ++ 10 ∷ rest)
 
 -- the line with which a claim begins
 abbrev pub IsClaimAt : List ℕ → List ℕ × ClaimKind × Option ℕ → List ℕ → Type 0

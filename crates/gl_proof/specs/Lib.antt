@@ -1,7 +1,6 @@
 pub mod Claim
 pub mod ClaimFront
 pub mod Fronts
-pub mod Kept
 pub mod Line
 pub mod Number
 pub mod Passage
@@ -9,3 +8,7 @@ pub mod Refusal
 pub mod Text
 pub use Rattle.gl_box.specs.Cell
 pub use Rattle.gl_box.specs.Closed
+pub use Rattle.gl_lines.specs.Grammar
+pub use Rattle.gl_lines.specs.Kept
+pub use Rattle.gl_lines.specs.Misfit
+pub use Rattle.gl_lines.specs.Words

@@ -1,9 +1,10 @@
 -- A line of a proof, and how it is spelled.
 use Rattle.std.specs.Prelude.{ℕ, ◌^◌, ◌<◌, ◌≤◌, Bool, true, false, IsTrue, List, [], ◌∷◌, ◌++◌, length, map, Option, None, Some, IfSome, codes, All}
 use Rattle.std.specs.Fmt.{decimal}
-use Rattle.std.specs.List.{flat_map}
 use Rattle.gl_box.specs.declared.closed.Why.{Why}
 use Rattle.gl_box.specs.declared.closed.Why.TheVariants.{Disordered, Shut, Bound}
+use Rattle.gl_lines.specs.Grammar.{Grammar}
+pub use Rattle.gl_lines.specs.Words.{IsSpan, spaced, span_word, total_word}
 use Rattle.gl_proof.specs.declared.claim.ClaimKind.{ClaimKind}
 use Rattle.gl_proof.specs.declared.claim.ClaimKind.TheVariants.{Area, Out, Free, Triangle}
 use Rattle.gl_proof.specs.Number.{is_number}
@@ -24,22 +25,10 @@ kind_word Out = codes "OUT"
 kind_word Free = codes "FREE"
 kind_word Triangle = codes "TRIANGLE"
 
-abbrev pub total_word : Option ℕ → List ℕ
-total_word None = codes "NONE"
-total_word (Some total) = decimal total
-
 abbrev pub reason_word : Why → List ℕ
 reason_word Disordered = codes "D"
 reason_word Shut = codes "S"
 reason_word Bound = codes "B"
-
--- the ends of a span with a hyphen, the byte 45, between them
-abbrev pub span_word : ℕ × ℕ → List ℕ
-span_word span = decimal span.0 ++ 45 ∷ decimal span.1
-
--- words, each behind a space, the byte 32
-abbrev pub spaced : List (List ℕ) → List ℕ
-spaced words = flat_map (λ word. 32 ∷ word) words
 
 -- the heading of a proof; it tells the version of the format
 abbrev pub heading : List ℕ
@@ -56,10 +45,6 @@ line_text EndLine = codes "END"
 -- a line with the LF, the byte 10, that ends it
 abbrev pub ended : Line → List ℕ
 ended line = line_text line ++ 10 ∷ []
-
--- a span of places: from its low end to its high end, numbers of 32 bits
-abbrev pub IsSpan : ℕ × ℕ → Type 0
-IsSpan span = (span.0 ≤ span.1) × (span.1 < 2 ^ 32)
 
 -- the spans of a box: one for each of 1 to 10 axes
 pub record AreSpans (spans : List (ℕ × ℕ)) : Type 0 where
@@ -103,3 +88,13 @@ may_follow (ClaimLine number kind (Some total)) other = false
 may_follow (FixLine fixes) next = goes_on next
 may_follow (BoxLine why spans) next = goes_on next
 may_follow EndLine next = false
+
+-- the lines of proofs, and how they follow each other
+abbrev pub proof_grammar : Grammar Line
+proof_grammar = record {
+  spelling = line_text;
+  IsLine = IsLine;
+  may_follow = may_follow;
+  heading = HeadingLine;
+  last = EndLine;
+}

@@ -1,13 +1,12 @@
 -- How a text is gone over, claim by claim.
-use Rattle.std.specs.Prelude.{◌≡◌, ℕ, ◌+◌, ◌<◌, min, List, [], ◌++◌, length, map, Option, IsSome, MatchOption, All, ⊤, ◌⊎◌}
+use Rattle.std.specs.Prelude.{◌≡◌, ℕ, ◌+◌, ◌<◌, min, List, [], ◌++◌, length, map, Option, IsSome, MatchOption, All, ◌⊎◌}
 use Rattle.gl_box.specs.declared.closed.Why.{Why}
 use Rattle.gl_proof.specs.declared.claim.ClaimKind.{ClaimKind}
-use Rattle.gl_proof.specs.declared.error.ProofError.{ProofError}
-use Rattle.gl_proof.specs.declared.error.ProofError.TheVariants.{Heading, Line as WrongLine, Cut, Memory}
+use Rattle.gl_lines.specs.declared.error.ProofError.{ProofError}
+use Rattle.gl_lines.specs.Misfit.{IsMisfit}
 use Rattle.gl_proof.specs.Claim.{IsStatement, Statement, box_line, claim_lines, claim_text, fix_lines, spelled}
 use Rattle.gl_proof.specs.Fronts.{IsBoxAt, IsClaimAt}
 use Rattle.gl_proof.specs.Line.{AreFixes, AreSpans, FixLine, ended}
-use Rattle.gl_proof.specs.Refusal.{HasLine}
 
 -- no line of a box begins a text
 abbrev pub NoBox : List ℕ → Type 0
@@ -32,21 +31,6 @@ pub record AreBoxesAt (text : List ℕ) (boxes : List (List (ℕ × ℕ) × Why)
 pub record AreClaimedAt (total : Option ℕ) (text numbers rest : List ℕ) : Type 0 where
   pub fixes : MatchOption total (numbers ≡ []) (λ _. AreFixes numbers)
   pub is : text ≡ spelled (fix_lines total numbers) ++ rest
-
--- the line at the front of a text, which has this number, can't stand there: it is wrong where it
--- is ended by LF, and cut else
-abbrev pub IsMisfit : List ℕ → ℕ → ProofError → Type 0
-IsMisfit text number Heading = ⊥
-IsMisfit text number (WrongLine told) = HasLine text × (told ≡ number)
-IsMisfit text number Cut = HasLine text → ⊥
-IsMisfit text number Memory = ⊥
-
--- want of memory, or another fault
-abbrev pub OrMemory : ProofError → Type 0 → Type 0
-OrMemory Heading P = P
-OrMemory (WrongLine told) P = P
-OrMemory Cut P = P
-OrMemory Memory P = ⊤
 
 -- there is a total, and no line of fixes begins the text
 pub record LacksFixes (total : Option ℕ) (text : List ℕ) (number : ℕ) (error : ProofError)

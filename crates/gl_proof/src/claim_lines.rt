@@ -1,43 +1,17 @@
-ghost use Rattle.std.specs.Prelude.{◌≡◌, ◌+◌, ◌↔◌, ℕ, List, length, map, min, IfOk, IfErr, IsTrue};
+ghost use Rattle.std.specs.Prelude.{◌≡◌, ◌+◌, ℕ, List, length, map, IfOk, IfErr, IsTrue};
 ghost use Rattle.gl_box.specs.Closed.{box_of};
 ghost use Rattle.gl_proof.specs.Claim.{fix_lines, statement_of};
 ghost use Rattle.gl_proof.specs.Number.{is_number};
-ghost use Rattle.gl_proof.specs.Passage.{AreBoxesAt, AreClaimedAt, IsClaimRead, IsMisfit, LacksClaim, LacksFixes, OrMemory};
-ghost use Rattle.gl_proof.specs.Refusal.{HasLine};
+ghost use Rattle.gl_lines.specs.Misfit.{OrMemory};
+ghost use Rattle.gl_proof.specs.Passage.{AreBoxesAt, AreClaimedAt, IsClaimRead, LacksClaim, LacksFixes};
 
 use crate::claim::Claim;
-use crate::error::ProofError;
-use crate::front::behind;
 use crate::line::{add_box_at, claim_line_at, fixes_at};
 use gl_box::Closed;
 use gl_desk::Name;
+use gl_lines::{ProofError, behind, later, misfit};
 use std::alloc::{AllocError, Global};
 use std::str::from_utf8;
-
-/// The number of the line that stands so many lines later, as it is told.
-pub fn later(line: u32, lines: usize) -> u32
-    ensures { result ≡ min (line + lines) 4_294_967_295 }
-{
-    line.saturating_add(lines.min(u32::MAX as usize) as u32)
-}
-
-/// Whether LF comes in a text.
-fn has_line(text: &[u8]) -> bool
-    ensures { IsTrue result ↔ HasLine text.now }
-{
-    text.contains(&b'\n')
-}
-
-/// What is told of the line at the front of a text, which has this number, where it can't stand
-/// there.
-fn misfit(text: &[u8], line: u32) -> ProofError
-    ensures { IsMisfit text.now line result }
-{
-    if has_line(text) {
-        return ProofError::Line(line);
-    }
-    ProofError::Cut
-}
 
 /// The boxes whose lines stand at the front of a text, and what follows them. The only error is
 /// want of memory.

@@ -2,18 +2,16 @@
 //! A proof has one spelling; docs/proof-file.md explains it line by line.
 #![tactic(auto)]
 
-mod backwards;
 mod claim;
 mod claim_lines;
-mod error;
-mod front;
+mod entrant;
 mod line;
 mod proof;
 mod read;
 mod write;
 
 pub use claim::{Claim, ClaimKind};
-pub use error::ProofError;
+pub use gl_lines::ProofError;
 pub use proof::Proof;
 pub use read::read_proof;
 pub use write::{write_boxes, write_claim, write_front};

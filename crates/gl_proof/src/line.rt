@@ -1,10 +1,12 @@
 ghost use Rattle.std.specs.Prelude.{◌≡◌, ◌≢◌, ◌≤◌, ℕ, List, [], ◌∷◌, ◌++◌, length, IfOk, OnOk, MatchOption, codes};
-ghost use Rattle.gl_proof.specs.Fronts.{AreFixesAt, Adds, AddsBox, AreSpansAt, IsClaimAt, IsKindAt, IsReasonAt, IsTotalAt, Reads};
+ghost use Rattle.gl_lines.specs.Fronts.{Reads};
+ghost use Rattle.gl_proof.specs.Fronts.{AreFixesAt, Adds, AddsBox, AreSpansAt, IsClaimAt, IsKindAt, IsReasonAt};
 ghost use Rattle.gl_proof.specs.ClaimFront.{said_of};
 
 use crate::claim::ClaimKind;
-use crate::front::{behind, entrant_at, number_at, short_number_at, span_at};
+use crate::entrant::entrant_at;
 use gl_box::{Cell, Closed, MOST_AXES, Span, Why};
+use gl_lines::{behind, short_number_at, span_at, total_at};
 use std::alloc::{AllocError, Global};
 
 /// A full list of boxes gets room for so many more, and for a quarter of those that it has.
@@ -157,18 +159,6 @@ fn kind_at(text: &[u8]) -> Option<(ClaimKind, &[u8])>
         return Some((ClaimKind::Triangle, rest));
     }
     None
-}
-
-/// The total at the front of a text with LF behind it, and what follows that.
-fn total_at(text: &[u8]) -> Option<(Option<u64>, &[u8])>
-    ensures { Reads (λ total. total) (IsTotalAt text.now) result }
-{
-    if let Some(rest) = behind(text, b"NONE\n") {
-        return Some((None, rest));
-    }
-    let (total, rest) = number_at(text)?;
-    let rest = behind(rest, b"\n")?;
-    Some((Some(total), rest))
 }
 
 /// What the first line of a claim says, which stands at the front of a text, and what follows.

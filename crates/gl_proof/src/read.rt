@@ -1,15 +1,14 @@
 ghost use Rattle.std.specs.Prelude.{◌≡◌, ◌≢◌, ◌↔◌, ◌⊎◌, ◌++◌, ℕ, List, IfOk, IfErr, IsErrOf, IsTrue, MatchResult};
-ghost use Rattle.gl_proof.specs.declared.error.ProofError.{ProofError};
-ghost use Rattle.gl_proof.specs.declared.error.ProofError.TheVariants.{Memory};
+ghost use Rattle.gl_lines.specs.declared.error.ProofError.{ProofError};
+ghost use Rattle.gl_lines.specs.declared.error.ProofError.TheVariants.{Memory};
 ghost use Rattle.gl_proof.specs.Claim.{Statement};
 ghost use Rattle.gl_proof.specs.Line.{EndLine, ended};
 ghost use Rattle.gl_proof.specs.Refusal.{IsRefused};
 ghost use Rattle.gl_proof.specs.Text.{IsTextOf, statements_of};
 
-use crate::claim_lines::{claim_at, later};
-use crate::error::ProofError;
-use crate::front::behind;
+use crate::claim_lines::claim_at;
 use crate::proof::Proof;
+use gl_lines::{ProofError, behind, later};
 use std::alloc::Global;
 
 /// The heading of a proof, which tells the version of the format.

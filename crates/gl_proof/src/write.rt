@@ -3,14 +3,14 @@ ghost use Rattle.std.specs.Fmt.{decimal};
 ghost use Rattle.std.specs.List.{flat_map};
 ghost use Rattle.gl_box.specs.Cell.{spans_of};
 ghost use Rattle.gl_box.specs.Closed.{box_of};
+ghost use Rattle.gl_lines.specs.Kept.{Keeps};
+ghost use Rattle.gl_lines.specs.Words.{spaced, span_word, total_word};
 ghost use Rattle.gl_proof.specs.Claim.{IsWritable, box_line, claim_text, front_text, spelled, statement_of};
-ghost use Rattle.gl_proof.specs.Kept.{Keeps};
-ghost use Rattle.gl_proof.specs.Line.{BoxLine, ClaimLine, FixLine, ended, kind_word, reason_word, span_word, spaced, total_word};
+ghost use Rattle.gl_proof.specs.Line.{BoxLine, ClaimLine, FixLine, ended, kind_word, reason_word};
 
-use crate::backwards::{SPAN_ROOM, write_spans};
 use crate::claim::{Claim, ClaimKind};
 use gl_box::{Closed, MOST_AXES, Why};
-use gl_text::push_u64;
+use gl_lines::{SPAN_ROOM, push_number, push_total, push_word, write_spans};
 use std::alloc::AllocError;
 
 /// Room for the spans of a box and LF behind them.
@@ -37,24 +37,6 @@ fn box_words(why: Why) -> &'static [u8]
         Why::Shut => b"BOX S",
         Why::Bound => b"BOX B",
     }
-}
-
-/// Appends a byte and a word behind it.
-fn push_word(out: &mut Vec<u8>, before: u8, word: &[u8]) -> Result<(), AllocError>
-    ensures ok { OnOk result (out.new.items ≡ out.old.items ++ before ∷ word.now) }
-    ensures err { OnErr result (Keeps out.old.items out.new.items) }
-{
-    out.push(before)?;
-    out.extend_from_slice(word)
-}
-
-/// Appends a byte and the digits of a number behind it.
-fn push_number(out: &mut Vec<u8>, before: u8, number: u64) -> Result<(), AllocError>
-    ensures ok { OnOk result (out.new.items ≡ out.old.items ++ before ∷ decimal number) }
-    ensures err { OnErr result (Keeps out.old.items out.new.items) }
-{
-    out.push(before)?;
-    push_u64(out, number)
 }
 
 /// Appends the numbers of fixes, each behind a space.
@@ -90,17 +72,6 @@ fn push_fix_line(out: &mut Vec<u8>, fixes: &[u32]) -> Result<(), AllocError>
     push_fixes(out, fixes)?;
     out.push(b'\n')?;
     Ok(())
-}
-
-/// Appends a total behind a space.
-fn push_total(out: &mut Vec<u8>, total: Option<u64>) -> Result<(), AllocError>
-    ensures ok { OnOk result (out.new.items ≡ out.old.items ++ 32 ∷ total_word total) }
-    ensures err { OnErr result (Keeps out.old.items out.new.items) }
-{
-    match total {
-        None => push_word(out, b' ', b"NONE"),
-        Some(total) => push_number(out, b' ', total),
-    }
 }
 
 /// Appends the line with which a claim begins.

@@ -1,4 +1,4 @@
-//! Worked examples of cells, hulls, goals, proofs and the checker.
+//! Worked examples of cells, hulls, goals, proofs, the checker and the closest approach.
 //! They are tests alone.
 #![tactic(auto)]
 
@@ -14,6 +14,8 @@ mod free_alone;
 mod free_goals;
 #[cfg(test)]
 mod hulls;
+#[cfg(test)]
+mod near_pairs;
 #[cfg(test)]
 mod ordered;
 #[cfg(test)]

@@ -3,7 +3,8 @@ use Rattle.std.proofs.lemmas.List.{length-map}
 use Rattle.gl_box.specs.Closed.{box_of}
 use Rattle.gl_proof.specs.ClaimFront.{said_of}
 use Rattle.gl_proof.specs.Passage.{LacksClaim, LacksFixes}
-use Rattle.gl_proof.proofs.Chain.{claim_read, or_weaker}
+use Rattle.gl_lines.proofs.Refused.{or_weaker}
+use Rattle.gl_proof.proofs.Chain.{claim_read}
 use Rattle.gl_proof.proofs.claim_lines.claim_at.Goals as goal
 
 pub returns-in-Err-clause-refused : goal.returns-in-Err-clause-refused

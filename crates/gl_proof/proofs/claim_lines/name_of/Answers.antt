@@ -1,5 +1,5 @@
 use Rattle.std.proofs.lemmas.Str.{IsUtf8-from_ascii}
-use Rattle.gl_proof.proofs.Codes.{is_number_parts, letters_ascii}
+use Rattle.gl_proof.proofs.Entrants.{is_number_parts, letters_ascii}
 use Rattle.gl_proof.proofs.claim_lines.name_of.Goals as goal
 
 pub unreachable-requires : goal.unreachable-requires

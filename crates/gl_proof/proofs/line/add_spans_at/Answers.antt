@@ -4,8 +4,9 @@ use Rattle.std.proofs.lemmas.List.{drop-set-lt, drop_more, length-set}
 use Rattle.std.proofs.lemmas.List.Elements.{All-push, All-rest}
 use Rattle.gl_box.specs.declared.span.Span.{Span}
 use Rattle.gl_box.specs.Cell.{ends}
-use Rattle.gl_proof.specs.Line.{IsSpan, spaced, span_word}
-use Rattle.gl_proof.proofs.Lines.{ends_more, length-read, next_word, no_word, span_next_stops, spans_on, word_taken}
+use Rattle.gl_lines.specs.Words.{IsSpan, spaced, span_word}
+use Rattle.gl_lines.proofs.Words.{next_word, no_word, span_next_stops, word_taken}
+use Rattle.gl_proof.proofs.Lines.{ends_more, length-read, spans_on}
 use Rattle.gl_proof.proofs.line.add_spans_at.Goals as goal
 
 pub returns-then-axes-eq-MOST_AXES : goal.returns-then-axes-eq-MOST_AXES

@@ -1,6 +1,8 @@
 use Rattle.std.proofs.Common.{◌∙◌, sym, ◌∷◌, ◌++◌}
-use Rattle.gl_proof.specs.Line.{kind_word, total_word}
-use Rattle.gl_proof.proofs.Lines.{claim_tail, entrant_unique, kind_unique, total_there}
+use Rattle.gl_lines.specs.Words.{total_word}
+use Rattle.gl_proof.specs.Line.{kind_word}
+use Rattle.gl_lines.proofs.Words.{total_there}
+use Rattle.gl_proof.proofs.Lines.{claim_tail, entrant_unique, kind_unique}
 use Rattle.gl_proof.proofs.line.claim_line_at.Goals as goal
 
 pub returns-in_err-kind : goal.returns-in_err-kind

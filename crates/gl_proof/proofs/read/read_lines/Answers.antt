@@ -6,7 +6,8 @@ use Rattle.std.proofs.lemmas.List.{map_push}
 use Rattle.std.proofs.lemmas.List.Elements.{All-push}
 use Rattle.gl_proof.specs.Claim.{IsStatement, Statement, claim_lines, spelled, statement_of}
 use Rattle.gl_proof.specs.Line.{HeadingLine}
-use Rattle.gl_proof.proofs.Chain.{claims_more, length-claims_more, refused_after, refused_claim, told_on}
+use Rattle.gl_lines.proofs.Refused.{told_on}
+use Rattle.gl_proof.proofs.Chain.{claims_more, length-claims_more, refused_after, refused_claim}
 use Rattle.gl_proof.proofs.read.read_lines.Goals as goal
 
 pub returns-in-Err-clause-refused : goal.returns-in-Err-clause-refused

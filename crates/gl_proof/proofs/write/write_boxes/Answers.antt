@@ -1,5 +1,6 @@
 use Rattle.std.proofs.lemmas.Result.{err_from_is_err_and}
-use Rattle.gl_proof.proofs.Appended.{box_more, keeps_behind}
+use Rattle.gl_lines.proofs.Pieces.{keeps_behind}
+use Rattle.gl_proof.proofs.Appended.{box_more}
 use Rattle.gl_proof.proofs.write.write_boxes.Goals as goal
 
 pub returns-in_err-push_box_line-clause-err : goal.returns-in_err-push_box_line-clause-err

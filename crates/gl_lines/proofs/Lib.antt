@@ -1,0 +1,4 @@
+pub mod Codes
+pub mod Pieces
+pub mod Refused
+pub mod Words

@@ -1,0 +1,10 @@
+use Rattle.std.proofs.Common.{◌≡◌, ◌<◌, ◌++◌, ◌^◌}
+use Rattle.std.specs.Fmt.{decimal}
+use Rattle.gl_lines.proofs.front.common_number_at.Given as goal
+
+-- the number is what was read
+abbrev pub invariant-digits : goal.invariant-digits
+invariant-digits l = record {
+  small : l.number < 2 ^ 32;
+  is : l.fn.text ≡ decimal l.number ++ l.rest;
+}

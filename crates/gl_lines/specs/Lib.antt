@@ -1,0 +1,7 @@
+pub mod Fronts
+pub mod Grammar
+pub mod Kept
+pub mod Misfit
+pub mod Refusal
+pub mod Words
+pub use Rattle.gl_box.specs.Cell

@@ -1,0 +1,11 @@
+use Rattle.gl_near.specs.Pairs.{pairing_of}
+use Rattle.gl_near.specs.Search.{IsUnderWay}
+use Rattle.gl_near.proofs.Stack.{work_of}
+use Rattle.gl_near.proofs.search.run.Given as goal
+
+abbrev pub invariant-loop-best : goal.invariant-loop-best
+invariant-loop-best l = IsUnderWay (pairing_of l.pairs) l.best l.cells.items l.boxes.items
+
+-- the work that the open cells can still make
+abbrev pub decreases-loop-best : goal.decreases-loop-best
+decreases-loop-best l = work_of l.cells.items

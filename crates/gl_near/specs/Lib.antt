@@ -1,0 +1,14 @@
+pub mod Pairing
+pub mod Pairs
+pub mod Certificate
+pub mod Search
+pub mod Verdict
+pub mod Line
+pub mod Fronts
+pub mod Laws
+pub use Rattle.gl_box.specs.Cell
+pub use Rattle.gl_box.specs.Frontier
+pub use Rattle.gl_lines.specs.Grammar
+pub use Rattle.gl_lines.specs.Refusal
+pub use Rattle.gl_lines.specs.Words
+pub use Rattle.gl_walk.specs.Boxes

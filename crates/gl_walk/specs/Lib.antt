@@ -1,0 +1,4 @@
+pub mod Boxes
+pub mod Walk
+pub use Rattle.gl_box.specs.Cell
+pub use Rattle.gl_box.specs.Frontier
