@@ -1,11 +1,13 @@
 -- The files that words name have names without an LF.
 use Rattle.std.proofs.Common.{◌≡◌, refl, ℕ, Bool, true, false, ◌&&◌, if◌then◌else◌, List, [], ◌∷◌, Option, None, Some, codes}
-use Rattle.std.specs.Prelude.{option_map}
+use Rattle.std.specs.Prelude.{is_some, option_map}
 use Rattle.std.specs.Cmp.{first_so, second_so}
 use Rattle.std.specs.Str.Parse.{digits_value}
 use Rattle.std.specs.Option.{option_or}
-use Rattle.gl_app.specs.Words.{Check, Command, DayNames, Demo, Free, Replay, ReplayWords, Score, Triangle, check_form, command_of, day_names, demo_form, file_form, is_file_name, is_text, is_worker_count, replay_form, replay_words, score_form}
+use Rattle.gl_sphere.specs.PlaceText.{place_of_text}
+use Rattle.gl_app.specs.Words.{Check, Command, DayNames, Demo, Free, Near, NearCheck, NearWords, Point, Replay, ReplayWords, Score, Triangle, check_form, command_of, day_names, demo_form, file_form, is_file_name, is_text, is_worker_count, near_form, near_words, number_within, point_form, replay_form, replay_words, score_form}
 use Rattle.gl_app.proofs.DayLines.{AreUnbroken}
+use Rattle.gl_app.proofs.NearLaws.{HasUnbrokenNear}
 use Rattle.gl_app.proofs.ReplayLaws.{HasUnbrokenFiles}
 use Rattle.gl_app.proofs.LineTexts.{is_unbroken, is_unbroken-file}
 
@@ -17,6 +19,9 @@ HasUnbrokenNames (Some (Triangle file)) = is_unbroken file ≡ true
 HasUnbrokenNames (Some (Score names)) = AreUnbroken names
 HasUnbrokenNames (Some (Check names)) = AreUnbroken names
 HasUnbrokenNames (Some (Replay words)) = HasUnbrokenFiles words
+HasUnbrokenNames (Some (Near words)) = HasUnbrokenNear words
+HasUnbrokenNames (Some (NearCheck words)) = HasUnbrokenNear words
+HasUnbrokenNames (Some (Point words)) = is_unbroken words.flight ≡ true
 HasUnbrokenNames (Some (Demo number)) = Unit {0}
 
 -- so has one file
@@ -107,6 +112,59 @@ as_replay : (words : Option ReplayWords) → HaveUnbrokenFiles words → HasUnbr
 as_replay None named = tt
 as_replay (Some words) named = named
 
+-- so have the three files of `near`
+abbrev HaveUnbrokenNear : Option NearWords → Type 0
+HaveUnbrokenNear None = Unit {0}
+HaveUnbrokenNear (Some words) = HasUnbrokenNear words
+
+some_near : (one other third : Bool) (words : NearWords) → (one ≡ true → other ≡ true → third ≡ true → HasUnbrokenNear words) → HaveUnbrokenNear (if one && other && third then Some words else None)
+some_near true true true words named = named refl refl refl
+some_near true true false words named = tt
+some_near true false third words named = tt
+some_near false other third words named = tt
+
+near_files : (flight other : List ℕ) (seconds : Option ℕ) (proof : List ℕ) → HaveUnbrokenNear (near_words flight other seconds proof)
+near_files flight other None proof = tt
+near_files flight other (Some seconds) proof =
+    some_near (is_file_name flight) (is_file_name other) (is_file_name proof) (record { flight = flight; other = other; seconds = seconds; proof = proof })
+    (λ one two three. record { flight = is_unbroken-file flight one; other = is_unbroken-file other two; proof = is_unbroken-file proof three })
+
+if_near : (is : Bool) (words : Option NearWords) → HaveUnbrokenNear words → HaveUnbrokenNear (if is then words else None)
+if_near true words named = named
+if_near false words named = tt
+
+near_names : (first : List ℕ) (words : List (List ℕ)) → HaveUnbrokenNear (near_form first words)
+near_names first [] = tt
+near_names first (word ∷ []) = tt
+near_names first (word ∷ flight ∷ []) = tt
+near_names first (word ∷ flight ∷ other ∷ []) = tt
+near_names first (word ∷ flight ∷ other ∷ seconds ∷ []) = tt
+near_names first (word ∷ flight ∷ other ∷ seconds ∷ proof ∷ []) =
+    if_near (is_text word first) (near_words flight other (number_within 0 3_600 seconds) proof) (near_files flight other (number_within 0 3_600 seconds) proof)
+near_names first (word ∷ flight ∷ other ∷ seconds ∷ proof ∷ more ∷ words) = tt
+
+as_near : (words : Option NearWords) → HaveUnbrokenNear words → HasUnbrokenNames (option_map Near words)
+as_near None named = tt
+as_near (Some words) named = named
+
+as_near_check : (words : Option NearWords) → HaveUnbrokenNear words → HasUnbrokenNames (option_map NearCheck words)
+as_near_check None named = tt
+as_near_check (Some words) named = named
+
+some_point : (one other third : Bool) (flight place : List ℕ) → (other ≡ true → is_unbroken flight ≡ true) → HasUnbrokenNames (option_map Point (if one && other && third then Some (record { flight = flight; place = place }) else None))
+some_point true true true flight place named = named refl
+some_point true true false flight place named = tt
+some_point true false third flight place named = tt
+some_point false other third flight place named = tt
+
+point_names : (words : List (List ℕ)) → HasUnbrokenNames (option_map Point (point_form words))
+point_names [] = tt
+point_names (word ∷ []) = tt
+point_names (word ∷ flight ∷ []) = tt
+point_names (word ∷ flight ∷ place ∷ []) =
+    some_point (is_text word (codes "point")) (is_file_name flight) (is_some (place_of_text place)) flight place (is_unbroken-file flight)
+point_names (word ∷ flight ∷ place ∷ more ∷ words) = tt
+
 as_score : (names : Option DayNames) → HaveUnbroken names → HasUnbrokenNames (option_map Score names)
 as_score None named = tt
 as_score (Some names) named = named
@@ -133,10 +191,18 @@ command_names words =
     let check = option_map Check (check_form words) in
     let replay = option_map Replay (replay_form words) in
     let demo = option_map Demo (demo_form words) in
+    let near = option_map Near (near_form (codes "near") words) in
+    let near_check = option_map NearCheck (near_form (codes "nearcheck") words) in
+    let point = option_map Point (point_form words) in
     let pair = option_or score (option_or check replay) in
-    or_names (option_map Free free) (option_or (option_map Triangle triangle) (option_or pair demo)) (as_free free (file_names (codes "free") words))
-    (or_names (option_map Triangle triangle) (option_or pair demo) (as_triangle triangle (file_names (codes "triangle") words))
-    (or_names pair demo
+    let nearest = option_or near (option_or near_check point) in
+    let last = option_or nearest demo in
+    or_names (option_map Free free) (option_or (option_map Triangle triangle) (option_or pair last)) (as_free free (file_names (codes "free") words))
+    (or_names (option_map Triangle triangle) (option_or pair last) (as_triangle triangle (file_names (codes "triangle") words))
+    (or_names pair last
     (or_names score (option_or check replay) (as_score (score_form words) (score_names words))
     (or_names check replay (as_check (check_form words) (check_names words)) (as_replay (replay_form words) (replay_names words))))
-    (as_demo (demo_form words))))
+    (or_names nearest demo
+    (or_names near (option_or near_check point) (as_near (near_form (codes "near") words) (near_names (codes "near") words))
+    (or_names near_check point (as_near_check (near_form (codes "nearcheck") words) (near_names (codes "nearcheck") words)) (point_names words)))
+    (as_demo (demo_form words)))))

@@ -30,7 +30,7 @@ use Rattle.gl_app.specs.Refusals.{file_refusal}
 use Rattle.gl_app.specs.Score.{IsScore}
 use Rattle.gl_app.specs.Texts.{IsLine}
 use Rattle.gl_app.specs.Words.{DayNames}
-use Rattle.gl_app.proofs.LineTexts.{is_inside, is_unbroken, line_of, number_unbroken, said_by}
+use Rattle.gl_app.proofs.LineTexts.{wrong_is_line, is_inside, is_unbroken, line_of, number_unbroken, said_by}
 
 -- the names of the files of a day have no LF
 pub record AreUnbroken (names : DayNames) : Type 0 where
@@ -145,10 +145,7 @@ word_unbroken Open = refl
 word_unbroken Surplus = refl
 
 not_proved_is_line : (wrong : NotProved) → IsLine (not_proved_line wrong)
-unfolding not_proved_line
-not_proved_is_line wrong =
-    line_of (codes "NOT PROVED " ++ decimal wrong.claim ++ codes " " ++ word_of wrong.fault ++ codes " " ++ decimal (box_of_fault wrong.fault))
-    (simp (list_all-append, number_unbroken wrong.claim, word_unbroken wrong.fault, number_unbroken (box_of_fault wrong.fault)) refl)
+not_proved_is_line wrong = wrong_is_line wrong.claim (word_of wrong.fault) (box_of_fault wrong.fault) (word_unbroken wrong.fault)
 
 checked_line : (said : Checked) (answer : Answer) → answer ≡ checked_answer said → answer.status ≢ Done → IsLine answer.said
 checked_line (checked.Accepted claims) answer same unless = absurd (unless (ap (λ (a : Answer). a.status) same))

@@ -6,6 +6,7 @@ use Rattle.gl_desk.specs.Desk.{FilesByName, IsSeenIn}
 use Rattle.gl_igc.specs.Reading.{Reading, recording_of}
 use Rattle.gl_igc.specs.declared.error.IgcError.{IgcError}
 use Rattle.gl_igc.specs.declared.error.IgcError.TheVariants as igc
+use Rattle.gl_near.proofs.Reading.{text_refused}
 use Rattle.gl_plain.proofs.StepLines.{schedule_told}
 use Rattle.gl_plain.specs.declared.error.StepError.{StepError}
 use Rattle.gl_plain.specs.declared.error.StepError.TheVariants as step
@@ -16,7 +17,7 @@ use Rattle.gl_app.specs.declared.refusal.Cause.TheVariants.{TooLarge}
 use Rattle.gl_app.specs.declared.refusal.Refusal.{Refusal}
 use Rattle.gl_app.specs.declared.status.Status.TheVariants as status
 use Rattle.gl_app.specs.Answer.{Answer, refused}
-use Rattle.gl_app.specs.FileTests.{AllPass, Fails, FileTest, FirstFails, HasRead, HasReadFile, IsByTests, IsNoText, IsText, Kind, Listed, PassByTests, Passes, Reads, RecordingText, ScheduleText, Small, Unlisted, file_of, recording_cause, schedule_cause, text_tests}
+use Rattle.gl_app.specs.FileTests.{AllPass, Fails, NearProofText, near_proof_cause, FileTest, FirstFails, HasRead, HasReadFile, IsByTests, IsNoText, IsText, Kind, Listed, PassByTests, Passes, Reads, RecordingText, ScheduleText, Small, Unlisted, file_of, recording_cause, schedule_cause, text_tests}
 use Rattle.gl_app.specs.Halts.{AreBytes, RefusesFor}
 use Rattle.gl_app.specs.Texts.{IsLine}
 use Rattle.gl_app.proofs.LineTexts.{is_unbroken, said_by}
@@ -28,6 +29,8 @@ text_or_not (RecordingText day) text cause (reading, reads) (error, told, why) =
     let e : ◌≡◌ {A = Result Reading IgcError} (Ok reading) (Err error) = sym reads ∙ told in cc
 text_or_not ScheduleText text cause (steps, is) (error, told, why) =
     let e : ◌≡◌ {A = Option Cause} None (Some cause) = sym (ap schedule_cause (schedule_told text steps error is told)) ∙ why in cc
+text_or_not NearProofText text cause (best, boxes, is) (error, told, why) =
+    let e : ◌≡◌ {A = Option Cause} None (Some cause) = sym (ap near_proof_cause (text_refused text best boxes error is told)) ∙ why in cc
 
 -- no test passes and fails
 passes_or_fails : (test : FileTest) (cause : Cause) → Passes test → Fails test cause → ⊥
@@ -118,7 +121,7 @@ pub recording_refused : {X : Type 0} (day : _) (file text : List ℕ) (error : I
     → (error ≢ igc.Memory → recording_of text day ≡ Err error) → RefusesFor file (recording_cause error) halt → HasRead (RecordingText day) file text IsOf (Err halt)
 recording_refused day file text igc.NotIgc halt IsOf told refused = no_recording day file text igc.NotIgc _ halt IsOf (told (λ memory. cc)) refl refused
 recording_refused day file text igc.NoDate halt IsOf told refused = no_recording day file text igc.NoDate _ halt IsOf (told (λ memory. cc)) refl refused
-recording_refused day file text (igc.WrongDay other) halt IsOf told refused = stopped_read (RecordingText day) file text halt IsOf refused
+recording_refused day file text (igc.WrongDay other) halt IsOf told refused = no_recording day file text (igc.WrongDay other) _ halt IsOf (told (λ memory. cc)) refl refused
 recording_refused day file text (igc.TooManyFixes line) halt IsOf told refused = no_recording day file text (igc.TooManyFixes line) _ halt IsOf (told (λ memory. cc)) refl refused
 recording_refused day file text igc.NoFix halt IsOf told refused = no_recording day file text igc.NoFix _ halt IsOf (told (λ memory. cc)) refl refused
 recording_refused day file text igc.Memory halt IsOf told refused = stopped_read (RecordingText day) file text halt IsOf refused

@@ -2,6 +2,9 @@ pub mod Accepting
 pub mod CheckLaws
 pub mod CommandNames
 pub mod DemoLaws
+pub mod NearLaws
+pub mod NearTests
+pub mod Nears
 pub mod OfFileLaws
 pub mod Promises
 pub mod ReplayLaws

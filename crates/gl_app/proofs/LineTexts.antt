@@ -12,12 +12,12 @@ use Rattle.gl_igc.specs.Reading.{Reading, recording_of}
 use Rattle.gl_igc.specs.declared.error.IgcError.{IgcError}
 use Rattle.gl_igc.specs.declared.error.IgcError.TheVariants as igc
 use Rattle.gl_app.specs.declared.refusal.Cause.{Cause}
-use Rattle.gl_app.specs.declared.refusal.Cause.TheVariants.{NotListed, Listed, TooLarge, NotIgc, NoDate, TooManyFixes, NoFix, NotToml, NoKey, WrongValue, NumberTwice, TooManyItems, WrongAirspace, TooMuchAirspace, WrongStep, TooManySteps, NoHeading, WrongProof, ProofCut}
+use Rattle.gl_app.specs.declared.refusal.Cause.TheVariants.{NotListed, Listed, TooLarge, NotIgc, NoDate, TooManyFixes, NoFix, NotToml, NoKey, WrongValue, NumberTwice, TooManyItems, WrongAirspace, TooMuchAirspace, WrongStep, TooManySteps, NoHeading, WrongProof, ProofCut, WrongDay, NoNearHeading, WrongNearProof, NearProofCut}
 use Rattle.gl_app.specs.declared.status.Status.TheVariants.{Done}
 use Rattle.gl_app.specs.Answer.{Answer, refused}
 use Rattle.gl_day.specs.Flight.{most_bytes}
 use Rattle.gl_app.specs.Refusals.{Parts, Place, Nowhere, AtLine, AtKey, parts_of, place_text, line_with, refusal_line, file_refusal}
-use Rattle.gl_app.specs.Texts.{IsLine}
+use Rattle.gl_app.specs.Texts.{IsLine, wrong_line}
 use Rattle.gl_app.specs.Words.{is_dots, is_file_name, is_name_byte}
 
 -- the byte isn't LF
@@ -82,6 +82,7 @@ kind_unbroken Listed = refl
 kind_unbroken TooLarge = refl
 kind_unbroken NotIgc = refl
 kind_unbroken NoDate = refl
+kind_unbroken WrongDay = refl
 kind_unbroken (TooManyFixes line) = refl
 kind_unbroken NoFix = refl
 kind_unbroken NotToml = refl
@@ -96,6 +97,9 @@ kind_unbroken TooManySteps = refl
 kind_unbroken NoHeading = refl
 kind_unbroken (WrongProof line) = refl
 kind_unbroken ProofCut = refl
+kind_unbroken NoNearHeading = refl
+kind_unbroken (WrongNearProof line) = refl
+kind_unbroken NearProofCut = refl
 
 -- a refusal of a file whose name has no LF is one line
 refusal_is_line : (file : List ℕ) (cause : Cause) → is_unbroken file ≡ true → IsLine (refusal_line (file_refusal file cause))
@@ -105,3 +109,10 @@ refusal_is_line file cause named =
 -- an answer that says the line of a refusal says one line
 pub said_by : (answer : Answer) (file : List ℕ) (cause : Cause) → answer ≡ refused file cause → is_unbroken file ≡ true → IsLine answer.said
 said_by answer file cause same named = subst (λ (a : Answer). IsLine a.said) (sym same) (refusal_is_line file cause named)
+
+-- the line of a proof that isn't accepted is one
+pub wrong_is_line : (claim : ℕ) (word : List ℕ) (box : ℕ) → is_unbroken word ≡ true → IsLine (wrong_line claim word box)
+unfolding wrong_line
+wrong_is_line claim word box named =
+    line_of (codes "NOT PROVED " ++ decimal claim ++ codes " " ++ word ++ codes " " ++ decimal box)
+    (simp (list_all-append, number_unbroken claim, named, number_unbroken box) refl)

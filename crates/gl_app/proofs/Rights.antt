@@ -9,16 +9,18 @@ use Rattle.gl_app.specs.declared.status.Status.TheVariants.{Done, Refused, Words
 use Rattle.gl_app.specs.Answer.{Answer}
 use Rattle.gl_app.specs.Appending.{HasGiven, IsAppended}
 use Rattle.gl_app.specs.Free.{IsFreeText}
+use Rattle.gl_app.specs.Near.{IsPointText}
 use Rattle.gl_app.specs.Promise.{Promise}
 use Rattle.gl_app.specs.Run.{Ends, Gives, GivesBegun, IsStopped, SaidLine, Stops, promise_of}
 use Rattle.gl_app.specs.Statuses.{stop_at}
 use Rattle.gl_app.specs.Texts.{IsLine, usage_line}
 use Rattle.gl_app.specs.Triangle.{IsTriangleText}
-use Rattle.gl_app.specs.Words.{Check, Command, Demo, Free, Replay, Score, Triangle}
+use Rattle.gl_app.specs.Words.{Check, Command, Demo, Free, Near, NearCheck, Point, Replay, Score, Triangle}
 use Rattle.gl_app.proofs.CheckLaws.{check_lawful}
 use Rattle.gl_app.proofs.CommandNames.{HasUnbrokenNames}
 use Rattle.gl_app.proofs.DemoLaws.{demo_lawful}
 use Rattle.gl_app.proofs.LineTexts.{line_of}
+use Rattle.gl_app.proofs.NearLaws.{near_check_lawful, near_lawful}
 use Rattle.gl_app.proofs.OfFileLaws.{of_file_lawful}
 use Rattle.gl_app.proofs.Promises.{IsLawful, result_goes_on, result_no_words}
 use Rattle.gl_app.proofs.ReplayLaws.{replay_lawful}
@@ -31,6 +33,9 @@ lawful_of folder stewards (Triangle file) named = of_file_lawful IsTriangleText 
 lawful_of folder stewards (Score names) named = score_lawful folder stewards names named
 lawful_of folder stewards (Check names) named = check_lawful folder names named
 lawful_of folder stewards (Replay words) named = replay_lawful folder words named
+lawful_of folder stewards (Near words) named = near_lawful folder words named
+lawful_of folder stewards (NearCheck words) named = near_check_lawful folder words named
+lawful_of folder stewards (Point words) named = of_file_lawful (IsPointText words.place) folder words.flight named
 lawful_of folder stewards (Demo number) named = demo_lawful folder stewards number
 
 -- a right answer has no status of a run that is stopped

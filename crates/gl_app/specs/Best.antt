@@ -1,5 +1,5 @@
 -- The text of the best of a goal.
-use Rattle.std.specs.Prelude.{◌≡◌, ℕ, List, Some}
+use Rattle.std.specs.Prelude.{◌≡◌, ℕ, List, Some, codes}
 use Rattle.gl_goal.specs.Rule.{Rule, IsOptimum, IsReached, chosen}
 use Rattle.gl_app.specs.Texts.{distance_text}
 
@@ -9,4 +9,4 @@ pub record IsBestText (rule : Rule) (word said : List ℕ) : Type 0 where
   pub tuple : List ℕ
   pub reached : IsReached rule total tuple
   pub greatest : IsOptimum rule (Some total)
-  pub text : said ≡ distance_text word total (chosen rule.axes tuple)
+  pub text : said ≡ distance_text word total (codes "FIXES") (chosen rule.axes tuple)

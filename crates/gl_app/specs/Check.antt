@@ -1,6 +1,5 @@
 -- The right answer of `check`.
 use Rattle.std.specs.Prelude.{◌≡◌, ◌≢◌, ℕ, ◌≤◌, List, [], ◌∷◌, ◌++◌, Option, Some, Ok, MatchResult, codes, length, None}
-use Rattle.std.specs.Fmt.{decimal}
 use Rattle.gl_desk.specs.Desk.{FilesByName}
 use Rattle.gl_proof.specs.declared.proof.Proof.{Proof}
 use Rattle.gl_proof.specs.Claim.{Statement}
@@ -21,18 +20,12 @@ use Rattle.gl_app.specs.DayFiles.{IfPassed, IsCheckTested, Tested}
 use Rattle.gl_app.specs.FileTests.{most_proof_bytes}
 use Rattle.gl_app.specs.Promise.{IsTold, Promise}
 use Rattle.gl_app.specs.Score.{IsScore}
+use Rattle.gl_app.specs.Texts.{accepted_line, wrong_line}
 use Rattle.gl_app.specs.Words.{DayNames}
 
--- the line for a proof that is accepted, with the number of its claims
-unfoldable pub accepted_line : ℕ → List ℕ
-accepted_line claims = codes "ACCEPTED " ++ decimal claims ++ 10 ∷ []
-
--- the line for a proof that isn't: the number of the first claim that is wrong, the word for what is
--- wrong with it, and the number of the box that it is about, or 0
-unfoldable pub not_proved_line : NotProved → List ℕ
-not_proved_line wrong =
-    codes "NOT PROVED " ++ decimal wrong.claim ++ codes " " ++ word_of wrong.fault
-    ++ codes " " ++ decimal (box_of_fault wrong.fault) ++ 10 ∷ []
+-- the line for a proof that isn't that of its day, about the first claim that is wrong
+abbrev pub not_proved_line : NotProved → List ℕ
+not_proved_line wrong = wrong_line wrong.claim (word_of wrong.fault) (box_of_fault wrong.fault)
 
 -- the answer that says what was found
 abbrev pub checked_answer : Checked → Answer

@@ -1,6 +1,7 @@
 use Rattle.gl_app.specs.declared.command.Command.{Command}
 use Rattle.gl_app.specs.declared.command.Command.TheVariants as code
 use Rattle.gl_app.specs.DayNames.{names_seen}
+use Rattle.gl_app.specs.NearWords.{near_seen, point_seen}
 use Rattle.gl_app.specs.ReplayWords.{replay_seen}
 use Rattle.gl_app.specs.Words as words
 
@@ -11,4 +12,7 @@ seen (code.Triangle file) = words.Triangle file.now
 seen (code.Score names) = words.Score (names_seen names)
 seen (code.Check names) = words.Check (names_seen names)
 seen (code.Replay given) = words.Replay (replay_seen given)
+seen (code.Near given) = words.Near (near_seen given)
+seen (code.NearCheck given) = words.NearCheck (near_seen given)
+seen (code.Point given) = words.Point (point_seen given)
 seen (code.Demo day) = words.Demo day.number

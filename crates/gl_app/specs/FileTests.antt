@@ -6,6 +6,12 @@ use Rattle.gl_igc.specs.Recording.{reading_of}
 use Rattle.gl_igc.specs.declared.recording.Recording.{Recording}
 use Rattle.gl_igc.specs.declared.error.IgcError.{IgcError}
 use Rattle.gl_igc.specs.declared.error.IgcError.TheVariants as igc
+use Rattle.gl_lines.specs.Refusal.{IsRefusal}
+use Rattle.gl_lines.specs.declared.error.ProofError.{ProofError}
+use Rattle.gl_lines.specs.declared.error.ProofError.TheVariants as proof
+use Rattle.gl_near.specs.declared.found.NearBest.{NearBest}
+use Rattle.gl_near.specs.declared.found.NearWhy.{NearWhy}
+use Rattle.gl_near.specs.Line.{IsTextOf, near_grammar}
 use Rattle.gl_plain.specs.Schedule.{IsRefused, IsSchedule}
 use Rattle.gl_plain.specs.declared.error.StepError.{StepError}
 use Rattle.gl_plain.specs.declared.error.StepError.TheVariants as step
@@ -13,24 +19,25 @@ use Rattle.gl_plain.specs.declared.schedule.Step.{Step}
 use Rattle.gl_app.specs.declared.halt.Halt.{Halt}
 use Rattle.gl_app.specs.declared.halt.Halt.TheVariants.{Refused, Stopped}
 use Rattle.gl_app.specs.declared.refusal.Cause.{Cause}
-use Rattle.gl_app.specs.declared.refusal.Cause.TheVariants.{NotIgc, NoDate, NoFix, NotListed, TooLarge, TooManyFixes, TooManySteps, WrongStep}
+use Rattle.gl_app.specs.declared.refusal.Cause.TheVariants.{NearProofCut, NoDate, NoFix, NoNearHeading, NotIgc, NotListed, TooLarge, TooManyFixes, TooManySteps, WrongDay, WrongNearProof, WrongStep}
 use Rattle.gl_app.specs.declared.refusal.Cause.TheVariants as cause
 use Rattle.gl_app.specs.declared.refusal.Refusal.{Refusal}
 use Rattle.gl_app.specs.Answer.{Answer, refused}
 use Rattle.gl_app.specs.Promise.{IsTold}
 use Rattle.gl_app.specs.Refusals.{file_refusal}
 
--- What a text is to be: a recording, by the day of a task if there is one; a schedule. A further kind
--- has its line here, and in the two rules below.
+-- What a text is to be: a recording, by the day of a task if there is one; a schedule; the proof of a
+-- closest approach. A further kind has its line here, and in the two rules below.
 pub data Kind : Type 0 where
   RecordingText : Option ℤ → Kind
   ScheduleText : Kind
+  NearProofText : Kind
 
--- why a text is no recording; without a day of a task none is of another day
+-- why a text is no recording
 abbrev pub recording_cause : IgcError → Option Cause
 recording_cause igc.NotIgc = Some NotIgc
 recording_cause igc.NoDate = Some NoDate
-recording_cause (igc.WrongDay day) = None
+recording_cause (igc.WrongDay day) = Some WrongDay
 recording_cause (igc.TooManyFixes line) = Some (TooManyFixes line)
 recording_cause igc.NoFix = Some NoFix
 recording_cause igc.Memory = None
@@ -41,10 +48,19 @@ schedule_cause (step.Line line) = Some (WrongStep line)
 schedule_cause step.TooMany = Some TooManySteps
 schedule_cause step.Memory = None
 
+-- why a text is no proof of a closest approach
+abbrev pub near_proof_cause : ProofError → Option Cause
+near_proof_cause proof.Heading = Some NoNearHeading
+near_proof_cause (proof.Line line) = Some (WrongNearProof line)
+near_proof_cause proof.Cut = Some NearProofCut
+near_proof_cause proof.Memory = None
+
 -- a text is of a kind
 abbrev pub IsText : Kind → List ℕ → Type 0
 IsText (RecordingText day) text = (reading : Reading) × (recording_of text day ≡ Ok reading)
 IsText ScheduleText text = (steps : List Step) × IsSchedule text steps
+IsText NearProofText text =
+    (best : Option NearBest) × (boxes : List (List (ℕ × ℕ) × NearWhy)) × IsTextOf text best boxes
 
 -- a text isn't of a kind, for this cause
 abbrev pub IsNoText : Kind → List ℕ → Cause → Type 0
@@ -53,6 +69,9 @@ IsNoText (RecordingText day) text cause =
     × (recording_cause error ≡ Some cause)
 IsNoText ScheduleText text cause =
     (error : StepError) × IsRefused text error × (schedule_cause error ≡ Some cause)
+IsNoText NearProofText text cause =
+    (error : ProofError) × IsRefusal near_grammar text error
+    × (near_proof_cause error ≡ Some cause)
 
 -- What is tested of a file, by what is seen of it, its bytes or that it isn't listed: that it is
 -- listed, that it isn't, that it has at most so many bytes, and what its text is.

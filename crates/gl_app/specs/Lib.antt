@@ -13,6 +13,9 @@ pub mod Triangle
 pub mod Course
 pub mod Run
 pub mod Command
+pub mod NearWords
+pub mod NearFiles
+pub mod Near
 pub mod ReplayWords
 pub mod ReplayFiles
 pub mod Replay

@@ -3,7 +3,7 @@ use Rattle.std.specs.Prelude.{ℕ, List, [], ◌∷◌, ◌++◌, codes}
 use Rattle.std.specs.Fmt.{decimal}
 use Rattle.gl_task.specs.declared.error.Key.{Key}
 use Rattle.gl_app.specs.declared.refusal.Cause.{Cause}
-use Rattle.gl_app.specs.declared.refusal.Cause.TheVariants.{NotListed, Listed, TooLarge, NotIgc, NoDate, TooManyFixes, NoFix, NotToml, NoKey, WrongValue, NumberTwice, TooManyItems, WrongAirspace, TooMuchAirspace, WrongStep, TooManySteps, NoHeading, WrongProof, ProofCut}
+use Rattle.gl_app.specs.declared.refusal.Cause.TheVariants.{NotListed, Listed, TooLarge, NotIgc, NoDate, WrongDay, TooManyFixes, NoFix, NotToml, NoKey, WrongValue, NumberTwice, TooManyItems, WrongAirspace, TooMuchAirspace, WrongStep, TooManySteps, NoHeading, WrongProof, ProofCut, NoNearHeading, WrongNearProof, NearProofCut}
 use Rattle.gl_app.specs.declared.refusal.Refusal.{Refusal}
 
 -- where in a file something is refused: nowhere in particular, at a line, or at a key of a task by
@@ -40,6 +40,7 @@ parts_of Listed = parts_at (codes "FILE") 2 Nowhere
 parts_of TooLarge = parts_at (codes "FILE") 3 Nowhere
 parts_of NotIgc = parts_at (codes "IGC") 1 Nowhere
 parts_of NoDate = parts_at (codes "IGC") 2 Nowhere
+parts_of WrongDay = parts_at (codes "IGC") 3 Nowhere
 parts_of (TooManyFixes line) = parts_at (codes "IGC") 4 (AtLine line)
 parts_of NoFix = parts_at (codes "IGC") 5 Nowhere
 parts_of NotToml = parts_at (codes "TASK") 1 Nowhere
@@ -54,6 +55,9 @@ parts_of TooManySteps = parts_at (codes "PLAN") 2 Nowhere
 parts_of NoHeading = parts_at (codes "PROOF") 1 Nowhere
 parts_of (WrongProof line) = parts_at (codes "PROOF") 2 (AtLine line)
 parts_of ProofCut = parts_at (codes "PROOF") 3 Nowhere
+parts_of NoNearHeading = parts_at (codes "NEARPROOF") 1 Nowhere
+parts_of (WrongNearProof line) = parts_at (codes "NEARPROOF") 2 (AtLine line)
+parts_of NearProofCut = parts_at (codes "NEARPROOF") 3 Nowhere
 
 -- the line with these parts, and the name of a file: the kind, the number, the place and the name
 unfoldable pub line_with : Parts → List ℕ → List ℕ

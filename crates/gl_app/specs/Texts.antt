@@ -14,20 +14,35 @@ pub record IsLine (text : List ℕ) : Type 0 where
 abbrev pub usage_line : List ℕ
 usage_line =
     codes "usage: free FILE | triangle FILE | score TASK PROOF WORKERS | check TASK PROOF | "
-    ++ codes "replay FILE SCHEDULE WORKERS | demo NUMBER"
+    ++ codes "replay FILE SCHEDULE WORKERS | near FILE OTHER SECONDS PROOF | "
+    ++ codes "nearcheck FILE OTHER SECONDS PROOF | point FILE PLACE | demo NUMBER"
     ++ 10 ∷ []
 
 -- numbers, each with a space before it
 abbrev pub spaced : List ℕ → List ℕ
 spaced numbers = flat_map (λ n. 32 ∷ decimal n) numbers
 
--- the two lines of a distance: behind a word the metres of a total in centimetres, and the numbers
--- of the fixes
-unfoldable pub distance_text : List ℕ → ℕ → List ℕ → List ℕ
-distance_text word total fixes =
-    word ++ codes " " ++ fixed 2 total ++ codes " m" ++ 10 ∷ codes "FIXES" ++ spaced fixes
-    ++ 10 ∷ []
+-- the two lines of a distance: behind a word the metres of a total in centimetres, and behind
+-- another the numbers of fixes
+unfoldable pub distance_text : List ℕ → ℕ → List ℕ → List ℕ → List ℕ
+distance_text word total noun fixes =
+    word ++ codes " " ++ fixed 2 total ++ codes " m" ++ 10 ∷ noun ++ spaced fixes ++ 10 ∷ []
 
 -- the line where no choice of fixes is legal
 abbrev pub no_flight : List ℕ
 no_flight = codes "NO FLIGHT" ++ 10 ∷ []
+
+-- the line where no pair of fixes fits
+abbrev pub no_pair : List ℕ
+no_pair = codes "NO PAIR" ++ 10 ∷ []
+
+-- the line for a proof that isn't accepted: the number of the claim that is wrong, the word for what
+-- is wrong with it, and the number of the box that it is about, or 0
+unfoldable pub wrong_line : ℕ → List ℕ → ℕ → List ℕ
+wrong_line claim word box =
+    codes "NOT PROVED " ++ decimal claim ++ codes " " ++ word ++ codes " " ++ decimal box
+    ++ 10 ∷ []
+
+-- the line for a proof that is accepted, with the number of its claims
+unfoldable pub accepted_line : ℕ → List ℕ
+accepted_line claims = codes "ACCEPTED " ++ decimal claims ++ 10 ∷ []

@@ -1,10 +1,11 @@
 -- The words of a command.
-use Rattle.std.specs.Prelude.{ℕ, Bool, not, ◌&&◌, ◌||◌, nat_le, nat_eq, ◌==◌, if◌then◌else◌, List, [], ◌∷◌, length, slice_index_or, Option, None, Some, codes, option_map}
+use Rattle.std.specs.Prelude.{ℕ, Bool, not, ◌&&◌, ◌||◌, nat_le, nat_eq, ◌==◌, if◌then◌else◌, List, [], ◌∷◌, length, slice_index_or, Option, None, Some, codes, is_some, option_map}
 use Rattle.std.specs.List.{list_all}
 use Rattle.std.specs.Cmp.Lexicographic.{pointwise}
 use Rattle.std.specs.Fmt.{decimal}
 use Rattle.std.specs.Option.{option_or}
 use Rattle.std.specs.Str.Parse.{digits_value}
+use Rattle.gl_sphere.specs.PlaceText.{place_of_text}
 
 -- the names of the two files of a day
 pub record DayNames : Type 0 where
@@ -17,6 +18,18 @@ pub record ReplayWords : Type 0 where
   pub schedule : List ℕ
   pub workers : ℕ
 
+-- the names of two recordings and of a proof, and how many seconds the fixes of a pair may be apart
+pub record NearWords : Type 0 where
+  pub flight : List ℕ
+  pub other : List ℕ
+  pub seconds : ℕ
+  pub proof : List ℕ
+
+-- the name of a recording, and the text of a place
+pub record PointWords : Type 0 where
+  pub flight : List ℕ
+  pub place : List ℕ
+
 -- a command and what it is given
 pub data Command : Type 0 where
   Free : List ℕ → Command
@@ -24,6 +37,9 @@ pub data Command : Type 0 where
   Score : DayNames → Command
   Check : DayNames → Command
   Replay : ReplayWords → Command
+  Near : NearWords → Command
+  NearCheck : NearWords → Command
+  Point : PointWords → Command
   Demo : ℕ → Command
 
 -- two texts are the same
@@ -101,12 +117,47 @@ replay_form (word ∷ flight ∷ schedule ∷ workers ∷ []) =
     then replay_words flight schedule (digits_value 10 workers) else None
 replay_form (word ∷ flight ∷ schedule ∷ workers ∷ more ∷ words) = None
 
+-- the number within two limits that a word writes, without a sign and a leading zero
+abbrev pub number_within : ℕ → ℕ → List ℕ → Option ℕ
+number_within least most word =
+    let number = digits_value 10 word in
+    if is_text word (decimal number) && nat_le least number && nat_le number most
+    then Some number else None
+
+-- what `near` and `nearcheck` are given, where the names are those of files, and the seconds are at
+-- most 3,600
+abbrev pub near_words : List ℕ → List ℕ → Option ℕ → List ℕ → Option NearWords
+near_words flight other None proof = None
+near_words flight other (Some seconds) proof =
+    if is_file_name flight && is_file_name other && is_file_name proof
+    then Some (record { flight = flight; other = other; seconds = seconds; proof = proof })
+    else None
+
+-- `near FILE OTHER SECONDS PROOF`, or another first word
+abbrev pub near_form : List ℕ → List (List ℕ) → Option NearWords
+near_form first [] = None
+near_form first (word ∷ []) = None
+near_form first (word ∷ flight ∷ []) = None
+near_form first (word ∷ flight ∷ other ∷ []) = None
+near_form first (word ∷ flight ∷ other ∷ seconds ∷ []) = None
+near_form first (word ∷ flight ∷ other ∷ seconds ∷ proof ∷ []) =
+    if is_text word first then near_words flight other (number_within 0 3_600 seconds) proof
+    else None
+near_form first (word ∷ flight ∷ other ∷ seconds ∷ proof ∷ more ∷ words) = None
+
+-- `point FILE PLACE`, where the place is one of the sphere
+abbrev pub point_form : List (List ℕ) → Option PointWords
+point_form [] = None
+point_form (word ∷ []) = None
+point_form (word ∷ flight ∷ []) = None
+point_form (word ∷ flight ∷ place ∷ []) =
+    if is_text word (codes "point") && is_file_name flight && is_some (place_of_text place)
+    then Some (record { flight = flight; place = place }) else None
+point_form (word ∷ flight ∷ place ∷ more ∷ words) = None
+
 -- the number from 1 to 1,000,000 that a word writes, without a sign and a leading zero
 abbrev pub day_number : List ℕ → Option ℕ
-day_number word =
-    let number = digits_value 10 word in
-    if is_text word (decimal number) && nat_le 1 number && nat_le number 1_000_000
-    then Some number else None
+day_number word = number_within 1 1_000_000 word
 
 -- `demo NUMBER`
 abbrev pub demo_form : List (List ℕ) → Option ℕ
@@ -121,13 +172,21 @@ pair_command words =
     option_or (option_map Score (score_form words))
     (option_or (option_map Check (check_form words)) (option_map Replay (replay_form words)))
 
+-- the command that is about how near flights came, if the words are a form of one
+abbrev pub near_command : List (List ℕ) → Option Command
+near_command words =
+    option_or (option_map Near (near_form (codes "near") words))
+    (option_or (option_map NearCheck (near_form (codes "nearcheck") words))
+    (option_map Point (point_form words)))
+
 -- The command that the words are a form of, if they are one. A further form is tried where none
 -- before it reads.
 unfoldable pub command_of : List (List ℕ) → Option Command
 command_of words =
     option_or (option_map Free (file_form (codes "free") words))
     (option_or (option_map Triangle (file_form (codes "triangle") words))
-    (option_or (pair_command words) (option_map Demo (demo_form words))))
+    (option_or (pair_command words)
+    (option_or (near_command words) (option_map Demo (demo_form words)))))
 
 -- how many workers the words of `score` name
 abbrev pub named_workers : Option DayNames → List (List ℕ) → ℕ

@@ -20,5 +20,5 @@ pub fn best_lines<G: Goal>(
     ensures { IfOk result (λ text. IsBestText (G.rule goal.now) word.now text.items) }
 {
     let numbers = fix_numbers(alloc, goal, &best.tuple)?;
-    distance_lines(alloc, word, best.total, &numbers)
+    distance_lines(alloc, word, best.total, "FIXES", &numbers)
 }

@@ -6,19 +6,19 @@ ghost use Rattle.gl_day.specs.Expected.{expected_of};
 ghost use Rattle.gl_judge.specs.Claimed.{rules_of_claims};
 ghost use Rattle.gl_app.specs.Answer.{answer_of};
 ghost use Rattle.gl_app.specs.Asked.{AreAskedIn};
-ghost use Rattle.gl_app.specs.Check.{IsDayChecked, accepted_line, checked_answer, not_proved_line};
+ghost use Rattle.gl_app.specs.Check.{IsDayChecked, checked_answer};
 
 use crate::answer::Answer;
 use crate::day_files::DayFiles;
 use crate::seeing::see_entrant;
 use crate::status::Status;
+use crate::texts::{accepted_line, wrong_line};
 use gl_day::{Checked, NotProved, Seen, check_end, check_flight};
 use gl_desk::{Desk, DeskError, Name};
 use gl_goal::AnyGoal;
 use gl_judge::claims;
 use gl_proof::{Claim, ClaimKind};
 use gl_task::Entrant;
-use gl_text::push_u64;
 use std::alloc::{AllocError, Global};
 
 /// The claims that a proof has to have of an entrant, with their goals.
@@ -66,32 +66,6 @@ pub fn check_claims<D: Desk>(
     Ok(check_end(proved, count))
 }
 
-/// The line for a proof that is accepted.
-#[tactic(auto, unfolding(crate::specs::Check::accepted_line))]
-fn accepted_line(alloc: Global, claims: usize) -> Result<Vec<u8>, AllocError>
-    ensures { IfOk result (λ line. line.items ≡ accepted_line claims) }
-{
-    let mut line = Vec::from_slice(alloc, b"ACCEPTED ")?;
-    push_u64(&mut line, claims as u64)?;
-    line.push(b'\n')?;
-    Ok(line)
-}
-
-/// The line for a proof that isn't that of the day.
-#[tactic(auto, unfolding(crate::specs::Check::not_proved_line))]
-fn not_proved_line(alloc: Global, wrong: NotProved) -> Result<Vec<u8>, AllocError>
-    ensures { IfOk result (λ line. line.items ≡ not_proved_line wrong) }
-{
-    let mut line = Vec::from_slice(alloc, b"NOT PROVED ")?;
-    push_u64(&mut line, wrong.claim as u64)?;
-    line.extend_from_slice(b" ")?;
-    line.extend_from_slice(wrong.fault.word())?;
-    line.extend_from_slice(b" ")?;
-    push_u64(&mut line, u64::from(wrong.fault.box_number()))?;
-    line.push(b'\n')?;
-    Ok(line)
-}
-
 /// The answer that says what was found.
 pub fn checked_answer(alloc: Global, said: Checked) -> Result<Answer, AllocError>
     ensures { IfOk result (λ answer. answer_of answer ≡ checked_answer said) }
@@ -103,7 +77,7 @@ pub fn checked_answer(alloc: Global, said: Checked) -> Result<Answer, AllocError
         }),
         Checked::Refused(wrong) => Ok(Answer {
             status: Status::NotProved,
-            text: not_proved_line(alloc, wrong)?,
+            text: wrong_line(alloc, wrong.claim, wrong.fault.word(), wrong.fault.box_number())?,
         }),
     }
 }

@@ -1,10 +1,11 @@
 ghost use Rattle.std.specs.Prelude.{◌≡◌, option_map};
 ghost use Rattle.std.specs.List.{list_all};
-ghost use Rattle.gl_app.specs.Words.{Demo, command_of, demo_form, file_form, is_dots, is_file_name, is_name_byte, pair_command};
+ghost use Rattle.gl_app.specs.Words.{Demo, command_of, demo_form, file_form, is_dots, is_file_name, is_name_byte, near_command, pair_command};
 ghost use Rattle.gl_app.specs.Command.{seen};
 
 use crate::day_names::{DayNames, read_check, read_score};
 use crate::day_number::{DayNumber, read_demo};
+use crate::near_words::{NearWords, PointWords, read_near_words, read_point};
 use crate::replay_words::{ReplayWords, read_replay};
 use gl_desk::Name;
 
@@ -24,6 +25,12 @@ pub enum Command<'a> {
     Check(DayNames<'a>),
     /// `replay FILE SCHEDULE WORKERS`: the best free distance of a recording by a schedule.
     Replay(ReplayWords<'a>),
+    /// `near FILE OTHER SECONDS PROOF`: how near two flights came, and its proof.
+    Near(NearWords<'a>),
+    /// `nearcheck FILE OTHER SECONDS PROOF`: whether a proof is that of two flights.
+    NearCheck(NearWords<'a>),
+    /// `point FILE PLACE`: how near a flight came to a place.
+    Point(PointWords<'a>),
     /// `demo NUMBER`: the sheet of a generated day.
     Demo(DayNumber),
 }
@@ -73,6 +80,16 @@ fn read_pair(words: &[Name]) -> Option<Command<'_>>
         .or_else(|| read_replay(words).map(Command::Replay))
 }
 
+/// A command about how near flights came.
+fn read_near(words: &[Name]) -> Option<Command<'_>>
+    ensures { option_map seen result ≡ near_command words.now }
+{
+    read_near_words("near", words)
+        .map(Command::Near)
+        .or_else(|| read_near_words("nearcheck", words).map(Command::NearCheck))
+        .or_else(|| read_point(words).map(Command::Point))
+}
+
 /// `demo NUMBER`.
 fn read_generated(words: &[Name]) -> Option<Command<'_>>
     ensures { option_map seen result ≡ option_map Demo (demo_form words.now) }
@@ -91,5 +108,6 @@ pub fn read_words(words: &[Name]) -> Option<Command<'_>>
         .map(Command::Free)
         .or_else(|| read_file("triangle", words).map(Command::Triangle))
         .or_else(|| read_pair(words))
+        .or_else(|| read_near(words))
         .or_else(|| read_generated(words))
 }

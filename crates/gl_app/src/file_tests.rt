@@ -1,8 +1,8 @@
-ghost use Rattle.std.specs.Prelude.{◌≡◌, None};
+ghost use Rattle.std.specs.Prelude.{◌≡◌};
 ghost use Rattle.gl_desk.specs.Answers.{OnlyReads};
 ghost use Rattle.gl_desk.specs.Desk.{HasFile};
 ghost use Rattle.gl_day.specs.Flight.{most_bytes};
-ghost use Rattle.gl_app.specs.FileTests.{HasRead, HasReadFile, IsNeeded, IsRecordingOf, RecordingText, recording_cause};
+ghost use Rattle.gl_app.specs.FileTests.{HasRead, HasReadFile, IsNeeded, IsRecordingOf, IsUnused, RecordingText, recording_cause};
 ghost use Rattle.gl_app.specs.Halts.{IsNoFault, halt_stop};
 
 use crate::day_files::read_bytes;
@@ -27,8 +27,18 @@ pub fn need(names: &[Name], file: &Name) -> Result<(), Halt>
     Err(refusing(file, Cause::NotListed))
 }
 
-/// Why a text is no recording; `None` for want of memory. Without a day of a task no recording is
-/// of another day.
+/// Tests that a file, which is to be made, isn't among the names of the folder.
+pub fn need_unlisted(names: &[Name], file: &Name) -> Result<(), Halt>
+    ensures unused { IsUnused names.now file.now result }
+    ensures no_fault { IsNoFault result }
+{
+    if names.contains(file) {
+        return Err(refusing(file, Cause::Listed));
+    }
+    Ok(())
+}
+
+/// Why a text is no recording; `None` for want of memory.
 fn recording_cause(error: &IgcError) -> Option<Cause>
     ensures { result ≡ recording_cause error.now }
 {
@@ -37,29 +47,39 @@ fn recording_cause(error: &IgcError) -> Option<Cause>
         IgcError::NoDate => Some(Cause::NoDate),
         IgcError::TooManyFixes { line } => Some(Cause::TooManyFixes(*line)),
         IgcError::NoFix => Some(Cause::NoFix),
-        IgcError::WrongDay { .. } | IgcError::Memory => None,
+        IgcError::WrongDay { .. } => Some(Cause::WrongDay),
+        IgcError::Memory => None,
     }
 }
 
-/// The recording of a text.
-fn recording_in(alloc: Global, file: &Name, text: &[u8]) -> Result<Recording, Halt>
-    ensures read { HasRead (RecordingText None) file.now text.now
-        (IsRecordingOf None) result }
+/// The recording of a text, by the day of a task if there is one.
+fn recording_in(
+    alloc: Global,
+    file: &Name,
+    text: &[u8],
+    day: Option<i32>,
+) -> Result<Recording, Halt>
+    ensures read { HasRead (RecordingText day) file.now text.now (IsRecordingOf day) result }
     ensures no_fault { IsNoFault result }
 {
-    match read_igc(alloc, text, None) {
+    match read_igc(alloc, text, day) {
         Ok(recording) => Ok(recording),
         Err(error) => Err(refusing_for(file, recording_cause(&error))),
     }
 }
 
-/// The recording of a listed file.
-pub fn read_recording<D: Desk>(alloc: Global, desk: &mut D, file: &Name) -> Result<Recording, Halt>
+/// The recording of a listed file, by the day of a task if there is one.
+pub fn read_recording<D: Desk>(
+    alloc: Global,
+    desk: &mut D,
+    file: &Name,
+    day: Option<i32>,
+) -> Result<Recording, Halt>
     requires { HasFile (D.told desk.old).folder file.now }
-    ensures read { HasReadFile (RecordingText None) most_bytes (D.told desk.old).folder file.now
-        (IsRecordingOf None) result }
+    ensures read { HasReadFile (RecordingText day) most_bytes (D.told desk.old).folder file.now
+        (IsRecordingOf day) result }
     ensures reads { OnlyReads (halt_stop result) (D.told desk.old) (D.told desk.new) }
 {
     let bytes = read_bytes(alloc, desk, file, MOST_BYTES)?;
-    recording_in(alloc, file, &bytes)
+    recording_in(alloc, file, &bytes, day)
 }

@@ -55,6 +55,7 @@ fn parts_of(cause: Cause) -> Parts
         Cause::TooLarge => parts_at("FILE", 3, Place::Nowhere),
         Cause::NotIgc => parts_at("IGC", 1, Place::Nowhere),
         Cause::NoDate => parts_at("IGC", 2, Place::Nowhere),
+        Cause::WrongDay => parts_at("IGC", 3, Place::Nowhere),
         Cause::TooManyFixes(line) => parts_at("IGC", 4, Place::AtLine(line)),
         Cause::NoFix => parts_at("IGC", 5, Place::Nowhere),
         Cause::NotToml => parts_at("TASK", 1, Place::Nowhere),
@@ -69,6 +70,9 @@ fn parts_of(cause: Cause) -> Parts
         Cause::NoHeading => parts_at("PROOF", 1, Place::Nowhere),
         Cause::WrongProof(line) => parts_at("PROOF", 2, Place::AtLine(line)),
         Cause::ProofCut => parts_at("PROOF", 3, Place::Nowhere),
+        Cause::NoNearHeading => parts_at("NEARPROOF", 1, Place::Nowhere),
+        Cause::WrongNearProof(line) => parts_at("NEARPROOF", 2, Place::AtLine(line)),
+        Cause::NearProofCut => parts_at("NEARPROOF", 3, Place::Nowhere),
     }
 }
 

@@ -12,10 +12,12 @@ use crate::file_tests::{need, read_recording};
 use crate::free::free_of_recording;
 use crate::halt::Halt;
 use crate::line::answer_halt;
+use crate::near::point_of_recording;
 use crate::status::Status;
 use crate::triangle::triangle_of_recording;
 use gl_desk::{Desk, DeskError, Name};
 use gl_igc::Recording;
+use gl_sphere::Grid;
 use std::alloc::{AllocError, Global};
 
 /// What is sought in a recording.
@@ -25,6 +27,8 @@ pub enum Course {
     Free,
     /// The best triangle.
     Triangle,
+    /// The least distance to a place.
+    Point(Grid),
 }
 
 /// What is said of a recording.
@@ -38,6 +42,7 @@ fn text_of_recording(
     match course {
         Course::Free => free_of_recording(alloc, recording),
         Course::Triangle => triangle_of_recording(alloc, recording),
+        Course::Point(place) => point_of_recording(alloc, recording, place),
     }
 }
 
@@ -55,7 +60,7 @@ fn test_flight<D: Desk>(
     ensures reads { OnlyReads (halt_stop result) (D.told desk.old) (D.told desk.new) }
 {
     need(names, file)?;
-    read_recording(alloc, desk, file)
+    read_recording(alloc, desk, file, None)
 }
 
 /// The answer of a command for a recording's file.

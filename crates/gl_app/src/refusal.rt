@@ -15,6 +15,8 @@ pub enum Cause {
     NotIgc,
     /// The recording has no day of the calendar.
     NoDate,
+    /// The recording is of a day more than one day from that of the first.
+    WrongDay,
     /// The recording has a 90,001st used fix, on this line.
     TooManyFixes(u32),
     /// No fix of the recording is used.
@@ -43,6 +45,12 @@ pub enum Cause {
     WrongProof(u32),
     /// The proof has no end.
     ProofCut,
+    /// The text doesn't begin with the heading of a proof of a closest approach.
+    NoNearHeading,
+    /// This line of the proof of a closest approach may not stand there.
+    WrongNearProof(u32),
+    /// The proof of a closest approach has no end.
+    NearProofCut,
 }
 
 /// The first test of a file that failed: the name of the file, and why.

@@ -72,7 +72,7 @@ pub fn test_replay_files<D: Desk>(
 {
     need(names, words.flight)?;
     need(names, words.schedule)?;
-    let recording = read_recording(alloc, desk, words.flight)?;
+    let recording = read_recording(alloc, desk, words.flight, None)?;
     let steps = read_schedule(alloc, desk, words.schedule)?;
     Ok((recording, steps))
 }

@@ -14,6 +14,8 @@ use crate::check::check;
 use crate::command::{Command, read_words};
 use crate::day_names::read_workers_of;
 use crate::demo::demo;
+use crate::near::near;
+use crate::near_check::near_check;
 use crate::of_file::{Course, answer_of_file};
 use crate::racing::{Racing, race};
 use crate::replay::replay_schedule;
@@ -54,6 +56,11 @@ fn answer_to_command<D: Desk, S: Search>(
         Command::Score(day) => score(alloc, desk, search, day, stewards),
         Command::Check(day) => check(alloc, desk, day),
         Command::Replay(words) => replay_schedule(alloc, desk, words),
+        Command::Near(words) => near(alloc, desk, words),
+        Command::NearCheck(words) => near_check(alloc, desk, words),
+        Command::Point(words) => {
+            answer_of_file(alloc, desk, Course::Point(words.place), words.flight)
+        }
         Command::Demo(day) => demo(alloc, day, stewards),
     }
 }
