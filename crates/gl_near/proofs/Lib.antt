@@ -4,5 +4,6 @@ pub mod Lines
 pub mod Numbers
 pub mod Reading
 pub mod Said
+pub mod Squares
 pub mod Stack
 pub mod Written

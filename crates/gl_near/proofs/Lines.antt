@@ -118,8 +118,8 @@ pub pair_read : (text after rest behind last end : List ℕ) (first second : ℕ
 pair_read text after rest behind last end first second front one space other feed = (
   (one.below, other.below),
   front
-  ∙ ap (λ (l : List ℕ). codes "PAIR " ++ l) (one.is ∙ ap (λ (l : List ℕ). decimal first ++ l) (space ∙ ap (λ (l : List ℕ). 32 ∷ l) (other.is ∙ ap (λ (l : List ℕ). decimal second ++ l) feed)))
-  ∙ sym (pair_is first second end),
+      ∙ ap (λ (l : List ℕ). codes "PAIR " ++ l) (one.is ∙ ap (λ (l : List ℕ). decimal first ++ l) (space ∙ ap (λ (l : List ℕ). 32 ∷ l) (other.is ∙ ap (λ (l : List ℕ). decimal second ++ l) feed)))
+      ∙ sym (pair_is first second end),
 )
 
 -- the parts of the line of a box
@@ -173,7 +173,7 @@ box_read text after rest behind last end why first second spans reason one space
     each = All-cons IsSpan first (second ∷ []) one.is_span (All-cons IsSpan second [] other.is_span (All-nil IsSpan));
   }),
   reason
-  ∙ ap (λ (l : List ℕ). codes "BOX " ++ (reason_word why ++ 32 ∷ l)) (one.is ∙ ap (λ (l : List ℕ). span_word first ++ l) (space ∙ ap (λ (l : List ℕ). 32 ∷ l) (other.is ∙ ap (λ (l : List ℕ). span_word second ++ l) feed)))
-  ∙ sym (two_box_is why first second end)
-  ∙ ap (λ (s : List (ℕ × ℕ)). ended (BoxLine why s) ++ end) (sym are),
+      ∙ ap (λ (l : List ℕ). codes "BOX " ++ (reason_word why ++ 32 ∷ l)) (one.is ∙ ap (λ (l : List ℕ). span_word first ++ l) (space ∙ ap (λ (l : List ℕ). 32 ∷ l) (other.is ∙ ap (λ (l : List ℕ). span_word second ++ l) feed)))
+      ∙ sym (two_box_is why first second end)
+      ∙ ap (λ (s : List (ℕ × ℕ)). ended (BoxLine why s) ++ end) (sym are),
 )

@@ -122,12 +122,12 @@ text_unique text one other xs ys is_one is_other =
 none_follows : (best : Option NearBest) (boxes : List (List (ℕ × ℕ) × NearWhy)) (rest : List ℕ) → IfSome best IsBest → All (λ box. AreTwoSpans box.0) boxes → NoBox rest → ((more : List ℕ) → rest ≡ ended EndLine ++ more → ⊥) → NoneFollows near_grammar (last_line HeadingLine (before_end best boxes)) rest
 none_follows best boxes rest is each no_box no_end line more is_line may text =
     neither line is_line (sym ((lines_follow best boxes is each).1 line) ∙ may) text where
-  neither : (line : Line) → IsLine line → goes_on line ≡ true → rest ≡ ended line ++ more → ⊥
-  neither HeadingLine is_line goes text = false≢true goes
-  neither (LeastLine total) is_line goes text = false≢true goes
-  neither (PairLine first second) is_line goes text = false≢true goes
-  neither (BoxLine why spans) is_line goes text = no_box (spans, why) more (is_line, text)
-  neither EndLine is_line goes text = no_end more text
+      neither : (line : Line) → IsLine line → goes_on line ≡ true → rest ≡ ended line ++ more → ⊥
+      neither HeadingLine is_line goes text = false≢true goes
+      neither (LeastLine total) is_line goes text = false≢true goes
+      neither (PairLine first second) is_line goes text = false≢true goes
+      neither (BoxLine why spans) is_line goes text = no_box (spans, why) more (is_line, text)
+      neither EndLine is_line goes text = no_end more text
 
 -- and the end doesn't stand before the end
 pub unended : (best : Option NearBest) (boxes : List (List (ℕ × ℕ) × NearWhy)) → IfSome best IsBest → All (λ box. AreTwoSpans box.0) boxes → last_line HeadingLine (before_end best boxes) ≢ EndLine

@@ -138,13 +138,31 @@ fn what_is_no_text_of_a_proof(rt: HostRuntime) -> Result<(), Fail> {
         (b"GLIDEPROOF 1\nEND\n", Err(NearError::Heading)),
         (b"GLIDENEAR 1\n", Err(NearError::Cut)),
         (b"GLIDENEAR 1\nEND\n", Err(NearError::Line(2))),
-        (b"GLIDENEAR 1\nLEAST 07\nPAIR 1 0\nEND\n", Err(NearError::Line(2))),
+        (
+            b"GLIDENEAR 1\nLEAST 07\nPAIR 1 0\nEND\n",
+            Err(NearError::Line(2)),
+        ),
         (b"GLIDENEAR 1\nLEAST 7\nEND\n", Err(NearError::Line(3))),
-        (b"GLIDENEAR 1\nLEAST 7\nPAIR 4294967296 0\n", Err(NearError::Line(3))),
-        (b"GLIDENEAR 1\nLEAST NONE\nPAIR 1 0\n", Err(NearError::Line(3))),
-        (b"GLIDENEAR 1\nLEAST NONE\nBOX T 1-0 0-0\n", Err(NearError::Line(3))),
-        (b"GLIDENEAR 1\nLEAST NONE\nBOX T 0-0\nEND\n", Err(NearError::Line(3))),
-        (b"GLIDENEAR 1\nLEAST NONE\nBOX T 0-0 0-0 0-0\n", Err(NearError::Line(3))),
+        (
+            b"GLIDENEAR 1\nLEAST 7\nPAIR 4294967296 0\n",
+            Err(NearError::Line(3)),
+        ),
+        (
+            b"GLIDENEAR 1\nLEAST NONE\nPAIR 1 0\n",
+            Err(NearError::Line(3)),
+        ),
+        (
+            b"GLIDENEAR 1\nLEAST NONE\nBOX T 1-0 0-0\n",
+            Err(NearError::Line(3)),
+        ),
+        (
+            b"GLIDENEAR 1\nLEAST NONE\nBOX T 0-0\nEND\n",
+            Err(NearError::Line(3)),
+        ),
+        (
+            b"GLIDENEAR 1\nLEAST NONE\nBOX T 0-0 0-0 0-0\n",
+            Err(NearError::Line(3)),
+        ),
         (b"GLIDENEAR 1\nLEAST NONE\nEND", Err(NearError::Cut)),
         (b"GLIDENEAR 1\nLEAST NONE\nEND\nX", Err(NearError::Line(4))),
     ];

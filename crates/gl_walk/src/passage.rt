@@ -67,11 +67,7 @@ fn pass_boxes<B: Boxed>(
 }
 
 /// How far boxes in their order part a whole cell by splits. The only error is want of memory.
-pub fn walk_along<B: Boxed>(
-    alloc: Global,
-    whole: Cell,
-    boxes: &[B],
-) -> Result<Walked, AllocError>
+pub fn walk_along<B: Boxed>(alloc: Global, whole: Cell, boxes: &[B]) -> Result<Walked, AllocError>
     ensures { IfOk result (EndsAt (spans_of whole) (map B.spans boxes.now)) }
 {
     let mut opened = Vec::with_capacity(alloc, OPEN_ROOM)?;

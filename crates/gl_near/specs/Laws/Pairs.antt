@@ -21,7 +21,7 @@ use Rattle.gl_box.specs.Halves.{span_at}
 use Rattle.gl_box.specs.Laws.Held.{covers_at, holds_at, holds_whole, length-covers}
 use Rattle.gl_near.specs.Pairing.{AreApart, AreFixesAt, AreRising, Fits, IsAfter, IsApart, IsPairing, IsReached, Pairing, distance, flights, least, least_distance, place, whole_cell}
 
-slice_get_below : (fixes : List Fix) (k : ℕ) (fix : Fix) → slice_get fixes k ≡ Some fix → k < length fixes
+pub slice_get_below : (fixes : List Fix) (k : ℕ) (fix : Fix) → slice_get fixes k ≡ Some fix → k < length fixes
 slice_get_below [] k fix there = absurd (cc)
 slice_get_below (f ∷ fs) zero fix there = omega arith
 slice_get_below (f ∷ fs) (suc k) fix there = omega (arith, slice_get_below fs k fix there)
