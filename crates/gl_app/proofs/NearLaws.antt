@@ -1,5 +1,5 @@
 -- The laws of `near` and `nearcheck`.
-use Rattle.std.proofs.Common.{◌≡◌, ◌≢◌, ◌∙◌, refl, sym, ap, subst, ℕ, ◌≤◌, ◌⊎◌, inl, inr, true, false, List, length, map, Option, None, Some, Ok}
+use Rattle.std.proofs.Common.{◌≡◌, ◌≢◌, ◌∙◌, refl, sym, ap, subst, ℕ, ◌≤◌, ◌⊎◌, inl, inr, true, false, List, length, map, Option, None, Some, Result, Ok}
 use Rattle.std.specs.Prelude.{IsNone, IsSome, IsSomeAnd}
 use Rattle.gl_desk.specs.Desk.{FilesByName}
 use Rattle.gl_day.specs.Laws.Recordings.{recording_same}
@@ -25,7 +25,7 @@ use Rattle.gl_app.specs.Answer.{Answer, refused}
 use Rattle.gl_app.specs.FileTests.{AllPass, FirstFails, IsRecordingOf, most_proof_bytes}
 use Rattle.gl_app.specs.Near.{IsNear, IsNearBegun, IsNearCheck, IsNearChecked, IsNearFolder, IsNearFound, IsNearestSaid, box_of_verdict, near_check_promise, near_promise, pairs_of, verdict_answer, word_of_verdict}
 use Rattle.gl_app.specs.NearFiles.{AreNearCheckRead, AreNearRead, IsNearSeen, NearSeen, near_check_tests, near_tests}
-use Rattle.gl_app.specs.Texts.{IsLine}
+use Rattle.gl_app.specs.Texts.{IsLine, wrong_line}
 use Rattle.gl_app.specs.Words.{NearWords}
 use Rattle.gl_app.proofs.FileTests.{AreNamed, by_tests_line, by_tests_passes, by_tests_result, none_fails}
 use Rattle.gl_app.proofs.LineTexts.{is_unbroken, wrong_is_line}
@@ -78,7 +78,7 @@ word_unbroken (Place number) = refl
 word_unbroken (Cell number) = refl
 word_unbroken Open = refl
 
-told_line : (verdict : NearVerdict) (answer : Answer) → answer.said ≡ _ → IsLine answer.said
+told_line : (verdict : NearVerdict) (answer : Answer) → answer.said ≡ wrong_line 1 (word_of_verdict verdict) (box_of_verdict verdict) → IsLine answer.said
 told_line verdict answer same = subst IsLine (sym same) (wrong_is_line 1 (word_of_verdict verdict) (box_of_verdict verdict) (word_unbroken verdict))
 
 verdict_line : (verdict : NearVerdict) (answer : Answer) → answer ≡ verdict_answer verdict → answer.status ≢ status.Done → IsLine answer.said
@@ -122,7 +122,11 @@ abbrev seen_with : NearSeen → List ℕ → NearSeen
 seen_with seen text = record { flight = seen.flight; other = seen.other; proof = Some text }
 
 same_seen : (one other : NearSeen) → one.flight ≡ other.flight → one.other ≡ other.other → one.proof ≡ other.proof → one ≡ other
-same_seen one other flight second proof = cc
+same_seen one other flight second proof =
+    let made : Option (List ℕ) → Option (List ℕ) → Option (List ℕ) → NearSeen = λ a b c. record { flight = a; other = b; proof = c } in
+    ap (λ (a : Option (List ℕ)). made a one.other one.proof) flight
+    ∙ ap (λ (b : Option (List ℕ)). made other.flight b one.proof) second
+    ∙ ap (λ (c : Option (List ℕ)). made other.flight other.other c) proof
 
 seen_is : (files : FilesByName) (words : NearWords) (folder : IsNearFolder files words) (found : HasFound folder.before words folder.answer) (seen : NearSeen) → IsNearSeen words (Some files) seen → seen ≡ seen_with found.seen folder.answer.appended
 seen_is files words folder found seen is =
@@ -140,7 +144,7 @@ all_pass words seen text best boxes passes small is =
 one_recording : (seen : Option (List ℕ)) (day : _) (a b : Recording) → IsSomeAnd seen (λ text. IsRecordingOf day text a) → IsSomeAnd seen (λ text. IsRecordingOf day text b) → a ≡ b
 one_recording None day a b is_a is_b = absurd is_a
 one_recording (Some text) day a b is_a is_b =
-    let e : ◌≡◌ {A = _} (Ok {E = IgcError} (reading_of a)) (Ok (reading_of b)) = sym is_a ∙ is_b in
+    let e : ◌≡◌ {A = Result Reading IgcError} (Ok (reading_of a)) (Ok (reading_of b)) = sym is_a ∙ is_b in
     recording_same a b (cc)
 
 same_pairs : (seen : NearSeen) (text : List ℕ) (seconds : ℕ) (one other : Recording × Recording) → AreNearRead seen one → AreNearRead (seen_with seen text) other → pairs_of other seconds ≡ pairs_of one seconds

@@ -12,4 +12,4 @@ near_seen given = record {
 }
 
 abbrev pub point_seen : code_point.PointWords → PointWords
-point_seen given = record { flight = given.flight.now; place = given.text.now }
+point_seen given = record { flight = given.flight.now; place = given.place.word.now }

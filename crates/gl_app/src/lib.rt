@@ -3,6 +3,7 @@
 #![tactic(auto)]
 
 mod answer;
+mod apart;
 mod appending;
 mod best;
 mod check;
@@ -22,6 +23,7 @@ mod near_check;
 mod near_files;
 mod near_words;
 mod of_file;
+mod place_word;
 mod program;
 mod racing;
 mod refusal;

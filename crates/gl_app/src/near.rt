@@ -6,15 +6,16 @@ ghost use Rattle.gl_app.specs.Run.{HasAnswered, IsStopped};
 ghost use Rattle.gl_app.specs.declared.status.Status.TheVariants.{Done};
 
 use crate::answer::Answer;
+use crate::apart::Apart;
 use crate::appending::append_piece;
 use crate::line::answer_halt;
 use crate::near_files::test_near_files;
-use crate::near_words::{Apart, NearWords};
+use crate::near_words::NearWords;
 use crate::status::Status;
 use crate::texts::{distance_lines, no_pair};
 use gl_desk::{Desk, DeskError};
 use gl_igc::Recording;
-use gl_near::{NearBest, NearClaim, Pairs, search_near, write_near};
+use gl_near::{NearBest, NearClaim, Pairs, nearest_fix, search_near, write_near};
 use gl_sphere::{Grid, vector};
 use std::alloc::{AllocError, Global};
 
@@ -103,10 +104,6 @@ pub fn point_of_recording(
 ) -> Result<Vec<u8>, AllocError>
     ensures { IfOk result (λ text. IsNearestFix recording.now.fixes place text.items) }
 {
-    let pairs = Pairs::place(alloc, recording.fixes.as_slice(), vector(place))?;
-    let found = search_near(alloc, &pairs)?;
-    let Some(best) = found.best else {
-        unreachable!();
-    };
+    let best = nearest_fix(recording.fixes.as_slice(), vector(place));
     distance_lines(alloc, "NEAR", best.total, "FIX", &[best.first])
 }

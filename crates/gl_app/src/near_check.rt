@@ -6,10 +6,11 @@ ghost use Rattle.gl_app.specs.Near.{IsNearCheck, box_of_verdict, pairs_of, verdi
 ghost use Rattle.gl_app.specs.NearWords.{near_seen};
 
 use crate::answer::Answer;
+use crate::apart::Apart;
 use crate::line::answer_halt;
 use crate::near::pairs_of;
 use crate::near_files::test_near_check_files;
-use crate::near_words::{Apart, NearWords};
+use crate::near_words::NearWords;
 use crate::status::Status;
 use crate::texts::{accepted_line, wrong_line};
 use gl_desk::{Desk, DeskError};

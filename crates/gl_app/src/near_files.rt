@@ -22,8 +22,8 @@ fn read_recordings<D: Desk>(
     desk: &mut D,
     words: NearWords<'_>,
 ) -> Result<(Recording, Recording), Halt>
-    requires flight { HasFile (D.told desk.old).folder words.entry.flight.now }
-    requires other { HasFile (D.told desk.old).folder words.entry.other.now }
+    requires flight { HasFile (D.told desk.old).folder words.flight.now }
+    requires other { HasFile (D.told desk.old).folder words.other.now }
     ensures read { HasTested (AreFlightsSeen (near_seen words.entry) (D.told desk.old).folder)
         (flights_tests (near_seen words.entry)) AreNearRead result }
     ensures reads { OnlyReads (halt_stop result) (D.told desk.old) (D.told desk.new) }

@@ -1,22 +1,11 @@
-ghost use Rattle.std.specs.Prelude.{◌≡◌, ◌≤◌, Some, codes, option_map};
-ghost use Rattle.gl_sphere.specs.PlaceText.{place_of, place_of_text};
+ghost use Rattle.std.specs.Prelude.{◌≡◌, Some, option_map};
 ghost use Rattle.gl_app.specs.NearWords.{near_seen, point_seen};
-ghost use Rattle.gl_app.specs.Words.{near_form, near_words, number_within, point_form};
+ghost use Rattle.gl_app.specs.Words.{near_form, near_words, point_form};
 
+use crate::apart::{Apart, read_apart};
 use crate::command::is_file_name;
-use crate::day_number::read_within;
+use crate::place_word::{PlaceWord, read_place_word};
 use gl_desk::Name;
-use gl_sphere::{Grid, read_place};
-
-/// The most seconds that the fixes of a pair may be apart.
-const MOST_SECONDS: u32 = 3_600;
-
-/// How many seconds the fixes of a pair may be apart.
-#[derive(Clone, Copy, Debug)]
-pub struct Apart {
-    pub seconds: u32,
-    pub ghost most: { seconds ≤ 3_600 },
-}
 
 /// What `near` and `nearcheck` are given.
 #[derive(Clone, Copy, Debug)]
@@ -36,19 +25,8 @@ pub struct NearWords<'a> {
 pub struct PointWords<'a> {
     /// The file of the recording.
     pub flight: &'a Name,
-    /// The text of the place.
-    pub text: &'a Name,
     /// The place.
-    pub place: Grid,
-    pub ghost reads: { place_of_text text.now ≡ Some (place_of place) },
-}
-
-/// How many seconds a word lets the fixes of a pair be apart.
-fn read_apart(word: &Name) -> Option<Apart>
-    ensures { option_map (λ apart. apart.seconds) result ≡ number_within 0 3_600 word.now }
-{
-    let seconds = read_within(word, 0, MOST_SECONDS)?;
-    Some(Apart { seconds })
+    pub place: PlaceWord<'a>,
 }
 
 /// What is given, where the names are those of files.
@@ -90,13 +68,9 @@ pub fn read_point(words: &[Name]) -> Option<PointWords<'_>>
     ensures { option_map point_seen result ≡ point_form words.now }
 {
     match words {
-        [word, flight, text] if word.as_str() == "point" && is_file_name(flight) => {
-            let place = read_place(text.as_str().as_bytes())?;
-            Some(PointWords {
-                flight,
-                text,
-                place,
-            })
+        [word, flight, place] if word.as_str() == "point" && is_file_name(flight) => {
+            let place = read_place_word(place)?;
+            Some(PointWords { flight, place })
         }
         _ => None,
     }

@@ -59,7 +59,7 @@ fn answer_to_command<D: Desk, S: Search>(
         Command::Near(words) => near(alloc, desk, words),
         Command::NearCheck(words) => near_check(alloc, desk, words),
         Command::Point(words) => {
-            answer_of_file(alloc, desk, Course::Point(words.place), words.flight)
+            answer_of_file(alloc, desk, Course::Point(words.place.place), words.flight)
         }
         Command::Demo(day) => demo(alloc, day, stewards),
     }
