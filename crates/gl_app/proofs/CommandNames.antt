@@ -197,12 +197,12 @@ command_names words =
     let pair = option_or score (option_or check replay) in
     let nearest = option_or near (option_or near_check point) in
     let last = option_or nearest demo in
-    or_names (option_map Free free) (option_or (option_map Triangle triangle) (option_or pair last)) (as_free free (file_names (codes "free") words))
-    (or_names (option_map Triangle triangle) (option_or pair last) (as_triangle triangle (file_names (codes "triangle") words))
+    or_names (option_or (option_map Free free) (option_map Triangle triangle)) (option_or pair last)
+    (or_names (option_map Free free) (option_map Triangle triangle) (as_free free (file_names (codes "free") words)) (as_triangle triangle (file_names (codes "triangle") words)))
     (or_names pair last
     (or_names score (option_or check replay) (as_score (score_form words) (score_names words))
     (or_names check replay (as_check (check_form words) (check_names words)) (as_replay (replay_form words) (replay_names words))))
     (or_names nearest demo
     (or_names near (option_or near_check point) (as_near (near_form (codes "near") words) (near_names (codes "near") words))
     (or_names near_check point (as_near_check (near_form (codes "nearcheck") words) (near_names (codes "nearcheck") words)) (point_names words)))
-    (as_demo (demo_form words)))))
+    (as_demo (demo_form words))))

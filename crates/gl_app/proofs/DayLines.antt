@@ -1,10 +1,8 @@
 -- An answer of `score` or `check` without a result says one line.
-use Rattle.std.proofs.Common.{◌≡◌, ◌≢◌, refl, sym, ap, subst, ℕ, Bool, true, false, not, List, ◌++◌, length, Option, None, Some, Ok, Err, codes, arith}
+use Rattle.std.proofs.Common.{◌≡◌, ◌≢◌, refl, sym, ap, subst, ℕ, Bool, true, false, not, List, length, Option, None, Some, Ok, Err, codes, arith}
 use Rattle.std.specs.Prelude.{MatchBool, MatchOption, nat_lt}
 use Rattle.std.specs.List.{list_all}
 use Rattle.std.specs.Cmp.{first_so, second_so}
-use Rattle.std.specs.Fmt.{decimal}
-use Rattle.std.proofs.lemmas.List.Folds.{list_all-append}
 use Rattle.std.proofs.lemmas.List.Sums.{AllPass-from_list_all, list_all-from_AllPass}
 use Rattle.std.proofs.lemmas.List.Elements.{All-weaker}
 use Rattle.gl_airspace.specs.declared.volume.Airspace.{Airspace}
@@ -30,7 +28,7 @@ use Rattle.gl_app.specs.Refusals.{file_refusal}
 use Rattle.gl_app.specs.Score.{IsScore}
 use Rattle.gl_app.specs.Texts.{IsLine}
 use Rattle.gl_app.specs.Words.{DayNames}
-use Rattle.gl_app.proofs.LineTexts.{wrong_is_line, is_inside, is_unbroken, line_of, number_unbroken, said_by}
+use Rattle.gl_app.proofs.LineTexts.{wrong_is_line, is_inside, is_unbroken, said_by}
 
 -- the names of the files of a day have no LF
 pub record AreUnbroken (names : DayNames) : Type 0 where

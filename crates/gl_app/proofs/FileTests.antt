@@ -1,19 +1,16 @@
 -- What holds of any tests of files.
-use Rattle.std.proofs.Common.{◌≡◌, ◌≢◌, ◌∙◌, refl, sym, ap, subst, ℕ, ◌≤◌, ◌<◌, ◌⊎◌, inl, inr, true, arith, List, [], ◌∷◌, ◌++◌, length, Option, None, Some, Result, Ok, Err, Vec}
-use Rattle.std.specs.Prelude.{IsSome, IsSomeAnd}
+use Rattle.std.proofs.Common.{◌≡◌, ◌≢◌, ◌∙◌, refl, sym, ap, ℕ, inl, inr, true, arith, List, [], ◌∷◌, ◌++◌, Option, None, Some, Result, Ok, Err, Vec}
+use Rattle.std.specs.Prelude.{IsSome}
 use Rattle.std.specs.declared.alloc.Global.{Global}
-use Rattle.gl_desk.specs.Desk.{FilesByName, IsSeenIn}
+use Rattle.gl_desk.specs.Desk.{FilesByName}
 use Rattle.gl_igc.specs.Reading.{Reading, recording_of}
 use Rattle.gl_igc.specs.declared.error.IgcError.{IgcError}
 use Rattle.gl_igc.specs.declared.error.IgcError.TheVariants as igc
 use Rattle.gl_near.proofs.Reading.{text_refused}
 use Rattle.gl_plain.proofs.StepLines.{schedule_told}
-use Rattle.gl_plain.specs.declared.error.StepError.{StepError}
-use Rattle.gl_plain.specs.declared.error.StepError.TheVariants as step
 use Rattle.gl_app.specs.declared.halt.Halt.{Halt}
 use Rattle.gl_app.specs.declared.halt.Halt.TheVariants.{Refused, Stopped}
 use Rattle.gl_app.specs.declared.refusal.Cause.{Cause}
-use Rattle.gl_app.specs.declared.refusal.Cause.TheVariants.{TooLarge}
 use Rattle.gl_app.specs.declared.refusal.Refusal.{Refusal}
 use Rattle.gl_app.specs.declared.status.Status.TheVariants as status
 use Rattle.gl_app.specs.Answer.{Answer, refused}

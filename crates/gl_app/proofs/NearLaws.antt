@@ -1,21 +1,20 @@
 -- The laws of `near` and `nearcheck`.
-use Rattle.std.proofs.Common.{◌≡◌, ◌≢◌, ◌∙◌, refl, sym, ap, subst, ℕ, ◌≤◌, ◌⊎◌, inl, inr, true, false, List, length, map, Option, None, Some, Result, Ok}
+use Rattle.std.proofs.Common.{◌≡◌, ◌≢◌, ◌∙◌, refl, sym, ap, subst, ℕ, ◌≤◌, ◌⊎◌, inl, inr, true, List, length, map, Option, None, Some, Result, Ok}
 use Rattle.std.specs.Prelude.{IsNone, IsSome, IsSomeAnd}
 use Rattle.gl_desk.specs.Desk.{FilesByName}
 use Rattle.gl_day.specs.Laws.Recordings.{recording_same}
-use Rattle.gl_igc.specs.Reading.{Reading, recording_of}
+use Rattle.gl_igc.specs.Reading.{Reading}
 use Rattle.gl_igc.specs.Recording.{reading_of}
 use Rattle.gl_igc.specs.declared.error.IgcError.{IgcError}
 use Rattle.gl_igc.specs.declared.recording.Recording.{Recording}
 use Rattle.gl_near.proofs.Judged.{certificate_yes}
 use Rattle.gl_near.proofs.Reading.{text_unique}
-use Rattle.gl_near.specs.Certificate.{IsCertificate, box_of}
+use Rattle.gl_near.specs.Certificate.{box_of}
 use Rattle.gl_near.specs.Line.{IsTextOf}
 use Rattle.gl_near.specs.Pairing.{Pairing}
 use Rattle.gl_near.specs.Verdict.{IsCheckedAs, IsVerdict}
 use Rattle.gl_near.specs.declared.answer.NearVerdict.{NearVerdict}
 use Rattle.gl_near.specs.declared.answer.NearVerdict.TheVariants.{Yes, Pair, Total, Extra, Place, Cell, Open}
-use Rattle.gl_near.specs.declared.claim.NearClaim.{NearClaim}
 use Rattle.gl_near.specs.declared.found.NearBest.{NearBest}
 use Rattle.gl_near.specs.declared.found.NearWhy.{NearWhy}
 use Rattle.gl_app.specs.declared.refusal.Refusal.{Refusal}
@@ -24,12 +23,12 @@ use Rattle.gl_app.specs.declared.status.Status.TheVariants as status
 use Rattle.gl_app.specs.Answer.{Answer, refused}
 use Rattle.gl_app.specs.FileTests.{AllPass, FirstFails, IsRecordingOf, most_proof_bytes}
 use Rattle.gl_app.specs.Near.{IsNear, IsNearBegun, IsNearCheck, IsNearChecked, IsNearFolder, IsNearFound, IsNearestSaid, box_of_verdict, near_check_promise, near_promise, pairs_of, verdict_answer, word_of_verdict}
-use Rattle.gl_app.specs.NearFiles.{AreNearCheckRead, AreNearRead, IsNearSeen, NearSeen, near_check_tests, near_tests}
+use Rattle.gl_app.specs.NearFiles.{AreNearRead, IsNearSeen, NearSeen, near_check_tests, near_tests}
 use Rattle.gl_app.specs.Texts.{IsLine, wrong_line}
 use Rattle.gl_app.specs.Words.{NearWords}
 use Rattle.gl_app.proofs.FileTests.{AreNamed, by_tests_line, by_tests_passes, by_tests_result, none_fails}
 use Rattle.gl_app.proofs.LineTexts.{is_unbroken, wrong_is_line}
-use Rattle.gl_app.proofs.Promises.{IsLawful, IsPart, IsResult, done_no_refusal, some_result}
+use Rattle.gl_app.proofs.Promises.{IsLawful, IsPart, done_no_refusal, some_result}
 
 -- the names of the files have no LF
 pub record HasUnbrokenNear (words : NearWords) : Type 0 where

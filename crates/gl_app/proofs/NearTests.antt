@@ -1,9 +1,7 @@
 -- The tests of the files of `near` and `nearcheck`, one after the other.
-use Rattle.std.proofs.Common.{◌≡◌, ◌≢◌, ◌∙◌, refl, sym, ap, subst, ℕ, ℤ, inl, inr, List, [], ◌∷◌, ◌++◌, Option, None, Some, Result, Ok, Err}
-use Rattle.std.specs.Prelude.{Contains, IsSome, IsSomeAnd}
-use Rattle.gl_desk.specs.Desk.{FilesByName, HasFile, IsSeenIn, ListsNames}
-use Rattle.gl_igc.specs.Reading.{Reading, recording_of}
-use Rattle.gl_igc.specs.declared.error.IgcError.{IgcError}
+use Rattle.std.proofs.Common.{◌≡◌, refl, sym, ap, subst, ℕ, ℤ, inl, inr, List, ◌∷◌, ◌++◌, Option, None, Some, Result, Ok, Err}
+use Rattle.std.specs.Prelude.{Contains, IsSomeAnd}
+use Rattle.gl_desk.specs.Desk.{FilesByName, HasFile, ListsNames}
 use Rattle.gl_igc.specs.declared.recording.Recording.{Recording}
 use Rattle.gl_lines.specs.Refusal.{IsRefusal}
 use Rattle.gl_lines.specs.declared.error.ProofError.{ProofError}
@@ -130,23 +128,29 @@ near_check_refused folder words (Refused refusal) there (seen, is, fails) =
     let proof = is_listed folder words.proof there in
     let flight = Listed words.flight seen.flight in
     let other = Listed words.other seen.other in
-    let listed = Listed words.proof (Some proof.0) in
-    (record { flight = seen.flight; other = seen.other; proof = Some proof.0 }, record { flight = is.0; other = is.1; proof = proof.1 },
-    longer (recording_tests words seen) (text_tests NearProofText most_proof_bytes words.proof (Some proof.0)) refusal flight other listed (further listed flight other (recording_tests words seen) refusal refl fails))
+    let listed = Listed words.proof (Some proof.0) in (
+      record { flight = seen.flight; other = seen.other; proof = Some proof.0 },
+      record { flight = is.0; other = is.1; proof = proof.1 },
+      longer (recording_tests words seen) (text_tests NearProofText most_proof_bytes words.proof (Some proof.0)) refusal flight other listed (further listed flight other (recording_tests words seen) refusal refl fails),
+    )
 near_check_refused folder words (Stopped stop) there tested = tt
 
 -- the recordings were read, and the claim was refused
 pub near_claim_refused : (folder : Option FilesByName) (words : NearWords) (read : Recording × Recording) (halt : Halt) → HasTested (AreFlightsSeen words folder) (flights_tests words) AreNearRead (Ok read) → HasReadFile {X = NearClaim} NearProofText most_proof_bytes folder words.proof IsClaimOf (Err halt) → HasTested (IsNearSeen words folder) (near_check_tests words) AreNearCheckRead (Err halt)
 near_claim_refused folder words read (Refused refusal) (seen, is, passes, are) (proof, there, fails) =
-    let more = text_tests NearProofText most_proof_bytes words.proof proof in
-    (record { flight = seen.flight; other = seen.other; proof = proof }, record { flight = is.0; other = is.1; proof = there },
-    inr (passes.0, inr (passes.1.0, inr (some_text_fails NearProofText most_proof_bytes words.proof proof refusal fails, fails_behind (recording_tests words seen) more refusal passes.1.1 fails))))
+    let more = text_tests NearProofText most_proof_bytes words.proof proof in (
+      record { flight = seen.flight; other = seen.other; proof = proof },
+      record { flight = is.0; other = is.1; proof = there },
+      inr (passes.0, inr (passes.1.0, inr (some_text_fails NearProofText most_proof_bytes words.proof proof refusal fails, fails_behind (recording_tests words seen) more refusal passes.1.1 fails))),
+    )
 near_claim_refused folder words read (Stopped stop) flights claim = tt
 
 -- all was read
 pub near_all_read : (folder : Option FilesByName) (words : NearWords) (read : Recording × Recording) (claim : NearClaim) → HasTested (AreFlightsSeen words folder) (flights_tests words) AreNearRead (Ok read) → HasReadFile NearProofText most_proof_bytes folder words.proof IsClaimOf (Ok claim) → HasTested (IsNearSeen words folder) (near_check_tests words) AreNearCheckRead (Ok (read, claim))
 near_all_read folder words read claim (seen, is, passes, are) (proof, there, pass, reads) =
-    let more = text_tests NearProofText most_proof_bytes words.proof proof in
-    (record { flight = seen.flight; other = seen.other; proof = proof }, record { flight = is.0; other = is.1; proof = there },
-    (passes.0, (passes.1.0, (some_text_passes NearProofText most_proof_bytes words.proof proof pass, all_pass (recording_tests words seen) more passes.1.1 pass))),
-    record { flights = with_proof seen proof read are; claim = reads })
+    let more = text_tests NearProofText most_proof_bytes words.proof proof in (
+      record { flight = seen.flight; other = seen.other; proof = proof },
+      record { flight = is.0; other = is.1; proof = there },
+      (passes.0, (passes.1.0, (some_text_passes NearProofText most_proof_bytes words.proof proof pass, all_pass (recording_tests words seen) more passes.1.1 pass))),
+      record { flights = with_proof seen proof read are; claim = reads },
+    )

@@ -1,10 +1,9 @@
 -- How `near`, `nearcheck` and `point` answer, and how `near` is stopped.
-use Rattle.std.proofs.Common.{◌≡◌, ◌∙◌, refl, sym, ap, subst, ℕ, inl, inr, List, [], ◌∷◌, map, take, Option, None, Some, Result, Ok, Err}
-use Rattle.std.specs.Prelude.{IfOk, IsNone, ◌↔◌, slice_get}
-use Rattle.gl_desk.specs.Answers.{OnlyReads}
+use Rattle.std.proofs.Common.{◌≡◌, ◌∙◌, refl, sym, subst, ℕ, inl, inr, List, [], take, Option, None, Some, Result, Ok, Err}
+use Rattle.std.specs.Prelude.{IfOk}
+use Rattle.gl_desk.specs.Answers.{OnlyReads, stop_of}
 use Rattle.gl_desk.specs.Desk.{FilesByName, Told}
 use Rattle.gl_desk.specs.declared.error.DeskError.{DeskError}
-use Rattle.gl_igc.specs.declared.fix.Fix.{Fix}
 use Rattle.gl_igc.specs.declared.recording.Recording.{Recording}
 use Rattle.gl_near.specs.Certificate.{IsCertificate, total_of}
 use Rattle.gl_near.specs.Line.{IsTextOf}
@@ -14,18 +13,21 @@ use Rattle.gl_near.specs.declared.answer.NearVerdict.{NearVerdict}
 use Rattle.gl_near.specs.declared.claim.NearClaim.{NearClaim}
 use Rattle.gl_near.specs.declared.found.NearBest.{NearBest}
 use Rattle.gl_near.specs.declared.found.NearWhy.{NearWhy}
+use Rattle.gl_sphere.specs.PlaceText.{place_of, place_of_text}
+use Rattle.gl_sphere.specs.declared.place.Grid.{Grid}
 use Rattle.gl_app.specs.declared.answer.Answer as code
 use Rattle.gl_app.specs.declared.halt.Halt.{Halt}
 use Rattle.gl_app.specs.declared.halt.Halt.TheVariants.{Refused, Stopped}
 use Rattle.gl_app.specs.declared.status.Status.TheVariants.{Done}
-use Rattle.gl_app.specs.Answer.{Answer}
-use Rattle.gl_app.specs.Appending.{HasAppended, HasAppendedPart}
+use Rattle.gl_app.specs.Answer.{Answer, answer_of}
+use Rattle.gl_app.specs.Appending.{HasAppended, HasAppendedPart, HasGiven}
 use Rattle.gl_app.specs.FileTests.{HasTested}
 use Rattle.gl_app.specs.Halts.{AnswersHalt, halt_stop}
-use Rattle.gl_app.specs.Near.{IsNear, IsNearCheck, IsNearestSaid, near_promise, pair_text, pairs_of, verdict_answer}
+use Rattle.gl_app.specs.Near.{IsNear, IsNearCheck, IsNearestFix, IsNearestSaid, IsPointText, near_check_promise, near_promise, point_promise, pair_text, pairs_of, verdict_answer}
 use Rattle.gl_app.specs.NearFiles.{AreNearCheckRead, AreNearRead, IsNearSeen, near_check_tests, near_tests}
+use Rattle.gl_app.specs.OfFile.{IsOfFile}
 use Rattle.gl_app.specs.Run.{HasAnswered, IsStopped}
-use Rattle.gl_app.specs.Words.{NearWords}
+use Rattle.gl_app.specs.Words.{NearWords, PointWords}
 use Rattle.gl_app.proofs.Appended.{HasAppended-none, HasAppended-reads, HasAppended-then}
 use Rattle.gl_app.proofs.Commanded.{reads_twice}
 use Rattle.gl_app.proofs.Flights.{part_after}
@@ -53,14 +55,17 @@ some_text : (text : List ℕ) (best : Option NearBest) (boxes : List (List (ℕ 
 some_text text best boxes is none = let e = sym none ∙ is.is in cc
 
 -- `near` has its answer
-pub near_right : (words : NearWords) (x m y z : Told) (flights : Recording × Recording) (said proof : List ℕ) → OnlyReads None x m → HasTested (IsNearSeen words m.folder) (near_tests words) AreNearRead (Ok flights) → OnlyReads None m y → IsNearestSaid (pairs_of flights words.seconds) (record { status = Done; said = said; appended = proof }) → HasAppended words.proof proof y z → (answer : code.Answer) → answer.status ≡ Done → answer.text.items ≡ said → HasAnswered (near_promise x.folder words) x z answer
-near_right words x m y z flights said proof lists tested reads nearest appended answer done says =
+pub near_right : (words : NearWords) (x m y z : Told) (flights : Recording × Recording) (said proof : List ℕ) → OnlyReads None x m → HasTested (IsNearSeen words m.folder) (near_tests words) AreNearRead (Ok flights) → OnlyReads None m y → IsNearestSaid (pairs_of flights words.seconds) (record { status = Done; said = said; appended = proof }) → HasAppended words.proof proof y z → (text : List ℕ) × IsNear x.folder words (record { status = Done; said = said; appended = text }) × HasGiven (Some words.proof) text x z
+near_right words x m y z flights said proof lists tested reads nearest appended =
     let all = reads_twice x m y lists reads in
-    let right = near_is words x m flights said proof lists tested nearest in
-    (proof, subst (λ (a : Answer). IsNear x.folder words a) (cc) right, record {
-      written = HasAppended-then words.proof [] proof x y z (HasAppended-reads words.proof [] x x y (HasAppended-none words.proof x) all) appended;
-      untouched = λ none. absurd (some_text proof nearest.best nearest.boxes nearest.appended none);
-    })
+    let right = near_is words x m flights said proof lists tested nearest in (
+      proof,
+      right,
+      record {
+        written = HasAppended-then words.proof [] proof x y z (HasAppended-reads words.proof [] x x y (HasAppended-none words.proof x) all) appended;
+        untouched = λ none. absurd (some_text proof nearest.best nearest.boxes nearest.appended none);
+      },
+    )
 
 -- `near` was stopped while its proof was appended
 pub near_stopped : (words : NearWords) (x m y z : Told) (flights : Recording × Recording) (said proof : List ℕ) (stop : DeskError) → OnlyReads None x m → HasTested (IsNearSeen words m.folder) (near_tests words) AreNearRead (Ok flights) → OnlyReads None m y → IsNearestSaid (pairs_of flights words.seconds) (record { status = Done; said = said; appended = proof }) → HasAppendedPart words.proof proof y z stop → IsStopped (near_promise x.folder words) x z stop
@@ -92,3 +97,19 @@ near_refused words x m y (Stopped stop) (Err error) lists tested reads same = tt
 pub near_check_right : (folder : Option FilesByName) (words : NearWords) (flights : Recording × Recording) (claim : NearClaim) (verdict : NearVerdict) (answer : Answer) → HasTested (IsNearSeen words folder) (near_check_tests words) AreNearCheckRead (Ok (flights, claim)) → IsCheckedAs (pairs_of flights words.seconds) claim verdict → answer ≡ verdict_answer verdict → IsNearCheck folder words answer
 near_check_right folder words flights claim verdict answer (seen, is, passes, read) checked same =
     (seen, is, inl (passes, ((flights, claim), read, verdict, checked, same)))
+
+-- it has given it
+pub near_checked : (words : NearWords) (x y : Told) (result : Result code.Answer DeskError) → IfOk result (λ answer. IsNearCheck x.folder words (answer_of answer)) → OnlyReads (stop_of result) x y → IfOk result (HasAnswered (near_check_promise x.folder words) x y)
+near_checked words x y (Ok answer) right reads =
+    ([], right, record { written = record { appended = (refl, reads.folder, reads.outputs); said = reads.said; faults = reads.faults }; untouched = λ none. (reads.folder, reads.outputs) })
+near_checked words x y (Err stop) right reads = tt
+
+-- the nearest fix to a place, by the text of the place
+point_right : (folder : Option FilesByName) (words : PointWords) (grid : Grid) (answer : Answer) → place_of_text words.place ≡ Some (place_of grid) → IsOfFile (λ recording said. IsNearestFix recording.fixes grid said) folder words.flight answer → IsOfFile (IsPointText words.place) folder words.flight answer
+point_right folder words grid answer reads (seen, is, inl (passes, (recording, read, said, says, same))) = (seen, is, inl (passes, (recording, read, said, (grid, reads, says), same)))
+point_right folder words grid answer reads (seen, is, inr refused) = (seen, is, inr refused)
+
+pub pointed : (words : PointWords) (grid : Grid) → place_of_text words.place ≡ Some (place_of grid) → (x y : Told) (result : Result code.Answer DeskError) → IfOk result (λ answer. IsOfFile (λ recording said. IsNearestFix recording.fixes grid said) x.folder words.flight (answer_of answer)) → OnlyReads (stop_of result) x y → IfOk result (HasAnswered (point_promise x.folder words) x y)
+pointed words grid is x y (Ok answer) right reads =
+    ([], point_right x.folder words grid (answer_of answer) is right, record { written = record { appended = (refl, reads.folder, reads.outputs); said = reads.said; faults = reads.faults }; untouched = λ none. (reads.folder, reads.outputs) })
+pointed words grid is x y (Err stop) right reads = tt

@@ -1,6 +1,6 @@
 -- A command that says something of one recording: its tests, and its laws.
-use Rattle.std.proofs.Common.{◌≡◌, ◌≢◌, refl, ap, ℕ, inl, inr, true, List, Option, None, Ok, Err}
-use Rattle.gl_desk.specs.Desk.{FilesByName, HasFile, IsSeenIn, ListsNames}
+use Rattle.std.proofs.Common.{◌≡◌, refl, ap, ℕ, inl, inr, true, List, Option, None, Ok, Err}
+use Rattle.gl_desk.specs.Desk.{FilesByName, IsSeenIn, ListsNames}
 use Rattle.gl_igc.specs.declared.recording.Recording.{Recording}
 use Rattle.gl_day.specs.Flight.{most_bytes}
 use Rattle.gl_app.specs.declared.halt.Halt.{Halt}

@@ -1,7 +1,7 @@
 -- The laws of `replay`.
-use Rattle.std.proofs.Common.{◌≡◌, ◌≢◌, ap, inl, true, Option}
+use Rattle.std.proofs.Common.{◌≡◌, ap, inl, true, Option}
 use Rattle.gl_desk.specs.Desk.{FilesByName}
-use Rattle.gl_app.specs.declared.status.Status.TheVariants.{Done, Refused}
+use Rattle.gl_app.specs.declared.status.Status.TheVariants.{Done}
 use Rattle.gl_app.specs.Answer.{Answer}
 use Rattle.gl_app.specs.Replay.{IsReplay, IsReplayed, replay_promise}
 use Rattle.gl_app.specs.ReplayFiles.{IsReplaySeen, ReplaySeen, replay_tests}

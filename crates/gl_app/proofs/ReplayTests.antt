@@ -1,6 +1,5 @@
 -- The tests of the files of `replay`, one after the other.
-use Rattle.std.proofs.Common.{◌≡◌, ◌≢◌, refl, sym, ap, subst, ℕ, inl, inr, true, List, Option, None, Some, Result, Ok, Err, Vec}
-use Rattle.std.specs.Prelude.{Contains}
+use Rattle.std.proofs.Common.{◌≡◌, refl, sym, ap, subst, ℕ, inl, inr, List, Option, None, Some, Ok, Err, Vec}
 use Rattle.std.specs.declared.alloc.Global.{Global}
 use Rattle.gl_desk.specs.Desk.{FilesByName, HasFile, ListsNames}
 use Rattle.gl_igc.specs.declared.recording.Recording.{Recording}
@@ -15,7 +14,7 @@ use Rattle.gl_app.specs.declared.refusal.Cause.{Cause}
 use Rattle.gl_app.specs.declared.refusal.Refusal.{Refusal}
 use Rattle.gl_app.specs.FileTests.{HasRead, HasReadFile, HasTested, IsNeeded, IsRecordingOf, RecordingText, ScheduleText, schedule_cause, text_tests}
 use Rattle.gl_app.specs.Halts.{RefusesFor}
-use Rattle.gl_app.specs.ReplayFiles.{AreReplayRead, AreStepsOf, IsReplaySeen, ReplaySeen, replay_tests}
+use Rattle.gl_app.specs.ReplayFiles.{AreReplayRead, AreStepsOf, IsReplaySeen, replay_tests}
 use Rattle.gl_app.specs.Words.{ReplayWords}
 use Rattle.gl_app.proofs.DayTests.{is_listed, not_listed, seen_some}
 use Rattle.gl_app.proofs.FileTests.{all_pass, fails_behind, fails_in_front, some_text_fails, some_text_passes}

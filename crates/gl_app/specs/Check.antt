@@ -1,5 +1,5 @@
 -- The right answer of `check`.
-use Rattle.std.specs.Prelude.{◌≡◌, ◌≢◌, ℕ, ◌≤◌, List, [], ◌∷◌, ◌++◌, Option, Some, Ok, MatchResult, codes, length, None}
+use Rattle.std.specs.Prelude.{◌≡◌, ◌≢◌, ℕ, ◌≤◌, List, [], ◌∷◌, ◌++◌, Option, Some, Ok, MatchResult, length, None}
 use Rattle.gl_desk.specs.Desk.{FilesByName}
 use Rattle.gl_proof.specs.declared.proof.Proof.{Proof}
 use Rattle.gl_proof.specs.Claim.{Statement}

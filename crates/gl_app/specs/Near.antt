@@ -1,6 +1,5 @@
 -- The right answers of `near`, `nearcheck` and `point`.
-use Rattle.std.specs.Prelude.{◌≡◌, ◌≢◌, ℕ, ◌≤◌, List, [], ◌∷◌, length, map, take, codes, Option, None, Some}
-use Rattle.gl_box.specs.Cell.{spans_of}
+use Rattle.std.specs.Prelude.{◌≡◌, ◌≢◌, ℕ, ◌≤◌, List, [], ◌∷◌, length, take, codes, Option, None, Some}
 use Rattle.gl_desk.specs.Desk.{FilesByName}
 use Rattle.gl_igc.specs.declared.fix.Fix.{Fix}
 use Rattle.gl_igc.specs.declared.recording.Recording.{Recording}
@@ -21,7 +20,7 @@ use Rattle.gl_app.specs.Answer.{Answer, saying}
 use Rattle.gl_app.specs.FileTests.{IsByTests, PassByTests, most_proof_bytes}
 use Rattle.gl_app.specs.NearFiles.{AreNearCheckRead, AreNearRead, IsNearSeen, NearSeen, near_check_tests, near_tests}
 use Rattle.gl_app.specs.OfFile.{of_file_promise}
-use Rattle.gl_app.specs.Promise.{IsTold, Promise, reading}
+use Rattle.gl_app.specs.Promise.{IsTold, Promise}
 use Rattle.gl_app.specs.Texts.{accepted_line, distance_text, no_pair, wrong_line}
 use Rattle.gl_app.specs.Words.{NearWords, PointWords}
 

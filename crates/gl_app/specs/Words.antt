@@ -166,6 +166,12 @@ demo_form (word ∷ []) = None
 demo_form (word ∷ number ∷ []) = if is_text word (codes "demo") then day_number number else None
 demo_form (word ∷ number ∷ more ∷ words) = None
 
+-- the command that says something of one recording, if the words are a form of one
+abbrev pub file_command : List (List ℕ) → Option Command
+file_command words =
+    option_or (option_map Free (file_form (codes "free") words))
+    (option_map Triangle (file_form (codes "triangle") words))
+
 -- the command that is given the names of two files, if the words are a form of one
 abbrev pub pair_command : List (List ℕ) → Option Command
 pair_command words =
@@ -183,10 +189,9 @@ near_command words =
 -- before it reads.
 unfoldable pub command_of : List (List ℕ) → Option Command
 command_of words =
-    option_or (option_map Free (file_form (codes "free") words))
-    (option_or (option_map Triangle (file_form (codes "triangle") words))
+    option_or (file_command words)
     (option_or (pair_command words)
-    (option_or (near_command words) (option_map Demo (demo_form words)))))
+    (option_or (near_command words) (option_map Demo (demo_form words))))
 
 -- how many workers the words of `score` name
 abbrev pub named_workers : Option DayNames → List (List ℕ) → ℕ

@@ -77,7 +77,12 @@ pub fn checked_answer(alloc: Global, said: Checked) -> Result<Answer, AllocError
         }),
         Checked::Refused(wrong) => Ok(Answer {
             status: Status::NotProved,
-            text: wrong_line(alloc, wrong.claim, wrong.fault.word(), wrong.fault.box_number())?,
+            text: wrong_line(
+                alloc,
+                wrong.claim,
+                wrong.fault.word(),
+                wrong.fault.box_number(),
+            )?,
         }),
     }
 }

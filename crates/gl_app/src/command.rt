@@ -1,6 +1,6 @@
 ghost use Rattle.std.specs.Prelude.{◌≡◌, option_map};
 ghost use Rattle.std.specs.List.{list_all};
-ghost use Rattle.gl_app.specs.Words.{Demo, command_of, demo_form, file_form, is_dots, is_file_name, is_name_byte, near_command, pair_command};
+ghost use Rattle.gl_app.specs.Words.{Demo, command_of, demo_form, file_command, file_form, is_dots, is_file_name, is_name_byte, near_command, pair_command};
 ghost use Rattle.gl_app.specs.Command.{seen};
 
 use crate::day_names::{DayNames, read_check, read_score};
@@ -70,6 +70,15 @@ fn read_file<'a>(first: &str, words: &'a [Name]) -> Option<&'a Name>
     }
 }
 
+/// A command that says something of one recording.
+fn read_course(words: &[Name]) -> Option<Command<'_>>
+    ensures { option_map seen result ≡ file_command words.now }
+{
+    read_file("free", words)
+        .map(Command::Free)
+        .or_else(|| read_file("triangle", words).map(Command::Triangle))
+}
+
 /// A command that is given the names of two files.
 fn read_pair(words: &[Name]) -> Option<Command<'_>>
     ensures { option_map seen result ≡ pair_command words.now }
@@ -104,9 +113,7 @@ fn read_generated(words: &[Name]) -> Option<Command<'_>>
 pub fn read_words(words: &[Name]) -> Option<Command<'_>>
     ensures { option_map seen result ≡ command_of words.now }
 {
-    read_file("free", words)
-        .map(Command::Free)
-        .or_else(|| read_file("triangle", words).map(Command::Triangle))
+    read_course(words)
         .or_else(|| read_pair(words))
         .or_else(|| read_near(words))
         .or_else(|| read_generated(words))

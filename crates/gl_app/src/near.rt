@@ -43,7 +43,13 @@ fn pair_lines(alloc: Global, best: Option<NearBest>) -> Result<Vec<u8>, AllocErr
     match best {
         None => no_pair(alloc),
         Some(best) => {
-            distance_lines(alloc, "NEAR", best.total, "PAIR", &[best.first, best.second])
+            distance_lines(
+                alloc,
+                "NEAR",
+                best.total,
+                "PAIR",
+                &[best.first, best.second],
+            )
         }
     }
 }
@@ -71,11 +77,7 @@ fn search_flights(
 
 /// The answer of `near FILE OTHER SECONDS PROOF`: the least distance of two fixes, one of each
 /// recording, that are at most SECONDS apart. Its proof is appended to the file.
-pub fn near<D: Desk>(
-    alloc: Global,
-    desk: &mut D,
-    words: NearWords<'_>,
-) -> Result<Answer, DeskError>
+pub fn near<D: Desk>(alloc: Global, desk: &mut D, words: NearWords<'_>) -> Result<Answer, DeskError>
     ensures right { IfOk result (HasAnswered
         (near_promise (D.told desk.old).folder (near_seen words.entry))
         (D.told desk.old) (D.told desk.new)) }

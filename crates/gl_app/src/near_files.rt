@@ -1,7 +1,8 @@
 ghost use Rattle.gl_desk.specs.Answers.{OnlyReads};
 ghost use Rattle.gl_desk.specs.Desk.{HasFile, ListsNames};
-ghost use Rattle.std.specs.Prelude.{◌≡◌};
-ghost use Rattle.gl_app.specs.FileTests.{HasRead, HasReadFile, HasTested, NearProofText, most_proof_bytes, near_proof_cause};
+ghost use Rattle.std.specs.Prelude.{◌≡◌, Some};
+ghost use Rattle.gl_day.specs.Flight.{most_bytes};
+ghost use Rattle.gl_app.specs.FileTests.{HasRead, HasReadFile, HasTested, IsRecordingOf, NearProofText, RecordingText, most_proof_bytes, near_proof_cause};
 ghost use Rattle.gl_app.specs.Halts.{IsNoFault, halt_stop};
 ghost use Rattle.gl_app.specs.NearFiles.{AreFlightsSeen, AreNearCheckRead, AreNearRead, IsClaimOf, IsNearSeen, flights_tests, near_check_tests, near_tests};
 ghost use Rattle.gl_app.specs.NearWords.{near_seen};
@@ -16,6 +17,21 @@ use gl_igc::Recording;
 use gl_near::{NearClaim, NearError, read_near};
 use std::alloc::Global;
 
+/// The other recording of a listed file, by the day of the first.
+fn read_other<D: Desk>(
+    alloc: Global,
+    desk: &mut D,
+    file: &Name,
+    first: &Recording,
+) -> Result<Recording, Halt>
+    requires { HasFile (D.told desk.old).folder file.now }
+    ensures read { HasReadFile (RecordingText (Some first.now.date)) most_bytes
+        (D.told desk.old).folder file.now (IsRecordingOf (Some first.now.date)) result }
+    ensures reads { OnlyReads (halt_stop result) (D.told desk.old) (D.told desk.new) }
+{
+    read_recording(alloc, desk, file, Some(first.date))
+}
+
 /// The two recordings of listed files. The other one is read by the day of the first.
 fn read_recordings<D: Desk>(
     alloc: Global,
@@ -29,7 +45,7 @@ fn read_recordings<D: Desk>(
     ensures reads { OnlyReads (halt_stop result) (D.told desk.old) (D.told desk.new) }
 {
     let flight = read_recording(alloc, desk, words.flight, None)?;
-    let other = read_recording(alloc, desk, words.other, Some(flight.date))?;
+    let other = read_other(alloc, desk, words.other, &flight)?;
     Ok((flight, other))
 }
 

@@ -1,7 +1,7 @@
-use Rattle.std.proofs.Common.{rules, ◌≡◌, true, subst, sym, Option, Ok, Err, Vec}
+use Rattle.std.proofs.Common.{subst, Option, Ok, Err, Vec}
 use Rattle.std.specs.declared.alloc.Global.{Global}
 use Rattle.std.proofs.lemmas.Result.{err_from_is_err_and}
-use Rattle.gl_desk.specs.Desk.{FilesByName, HasFile}
+use Rattle.gl_desk.specs.Desk.{FilesByName}
 use Rattle.gl_day.specs.Flight.{most_bytes}
 use Rattle.gl_plain.specs.declared.schedule.Step.{Step}
 use Rattle.gl_app.specs.FileTests.{HasReadFile, ScheduleText}

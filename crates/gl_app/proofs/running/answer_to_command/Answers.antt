@@ -1,10 +1,12 @@
 use Rattle.gl_app.specs.DayNames.{names_seen}
 use Rattle.gl_app.specs.Demo.{demo_promise}
 use Rattle.gl_app.specs.Free.{free_promise}
+use Rattle.gl_app.specs.NearWords.{near_seen, point_seen}
 use Rattle.gl_app.specs.Replay.{replay_promise}
 use Rattle.gl_app.specs.ReplayWords.{replay_seen}
 use Rattle.gl_app.specs.Triangle.{triangle_promise}
 use Rattle.gl_app.proofs.Commanded.{check_right, reads_right, unread_right}
+use Rattle.gl_app.proofs.Nears.{near_checked, pointed}
 use Rattle.gl_app.proofs.running.answer_to_command.Goals as goal
 
 pub returns-in-Free-clause-right : goal.returns-in-Free-clause-right
@@ -34,6 +36,16 @@ returns-in-Replay-clause-right g c =
     let before = g.D.Desk.told c.args.desk.now in
     let promise = replay_promise before.folder (replay_seen c.in-Replay.words) in
     rw c.in-Replay.is (reads_right promise.IsRight promise.Passes before (g.D.Desk.told c.replay_schedule.new.desk) c.replay_schedule.result c.replay_schedule.ensures.right c.replay_schedule.ensures.reads)
+
+pub returns-in-NearCheck-clause-right : goal.returns-in-NearCheck-clause-right
+returns-in-NearCheck-clause-right g c =
+    rw c.in-NearCheck.is (near_checked (near_seen c.in-NearCheck.words) (g.D.Desk.told c.args.desk.now) (g.D.Desk.told c.near_check.new.desk) c.near_check.result c.near_check.ensures.right c.near_check.ensures.reads)
+
+pub returns-in-Point-clause-right : goal.returns-in-Point-clause-right
+returns-in-Point-clause-right g c =
+    let before = g.D.Desk.told c.args.desk.now in
+    let words = c.in-Point.words in
+    rw c.in-Point.is (pointed (point_seen words) words.place.place words.place.reads before (g.D.Desk.told c.answer_of_file-in-Point.new.desk) c.answer_of_file-in-Point.result c.answer_of_file-in-Point.ensures.right c.answer_of_file-in-Point.ensures.reads)
 
 pub returns-in-Demo-clause-right : goal.returns-in-Demo-clause-right
 returns-in-Demo-clause-right g c =
