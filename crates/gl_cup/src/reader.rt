@@ -1,0 +1,113 @@
+use crate::choice::{choose, split_at_mark};
+use crate::detail::{options_in, test_details, zone_in};
+use crate::error::CupError;
+use crate::field::Field;
+use crate::point::{CupPoint, CupTask};
+use crate::row::{Row, read_rows};
+use crate::waypoint::{Columns, Waypoint, read_columns, read_waypoints};
+use gl_igc::Items;
+use gl_sphere::Grid;
+use std::alloc::Global;
+
+/// The columns of the header, which is the first row, and the rows below it.
+fn read_header(rows: &[Row]) -> Result<(Columns, &[Row]), CupError> {
+    let (header, rest) = rows.split_first().ok_or(CupError::Empty)?;
+    match read_columns(header.fields.as_slice()) {
+        Some(columns) => Ok((columns, rest)),
+        None => Err(CupError::Header(header.line)),
+    }
+}
+
+/// The place of the waypoints with a name. None where there is no such waypoint, and where two of them
+/// have two places.
+fn place_of(waypoints: &[Waypoint], name: &[u8]) -> Option<Grid> {
+    let first = waypoints
+        .iter()
+        .find(|waypoint| waypoint.name.as_slice() == name)?;
+    let place = first.place;
+    let is_one = waypoints
+        .iter()
+        .all(|waypoint| waypoint.name.as_slice() != name || waypoint.place == place);
+    if is_one { Some(place) } else { None }
+}
+
+/// The names of a task's points: the fields behind its description and its take-off, and before its
+/// landing. There are at least three.
+fn names_of(row: &Row) -> Result<&[Field], CupError> {
+    let fields = row.fields.as_slice();
+    if fields.len() < 6 {
+        return Err(CupError::TooFewPoints(row.line));
+    }
+    Ok(&fields[2..fields.len() - 1])
+}
+
+/// Tests that each name of a task's points is known.
+fn test_names(waypoints: &[Waypoint], names: &[Field], line: u64) -> Result<(), CupError> {
+    for (point, name) in names.iter().enumerate() {
+        if place_of(waypoints, name.as_slice()).is_none() {
+            return Err(CupError::Unknown(line, point as u64));
+        }
+    }
+    Ok(())
+}
+
+/// A point of a task with its place and its zone.
+fn read_point(
+    alloc: Global,
+    waypoints: &[Waypoint],
+    details: &[Row],
+    name: &Field,
+    at: (u64, u64),
+) -> Result<CupPoint, CupError> {
+    let (line, point) = at;
+    let place = place_of(waypoints, name.as_slice()).ok_or(CupError::Unknown(line, point))?;
+    let (zone, line) = zone_in(details, point).ok_or(CupError::NoZone(line, point))?;
+    Ok(CupPoint {
+        name: Field::from_slice(alloc, name.as_slice())?,
+        place,
+        zone,
+        line,
+    })
+}
+
+/// The points of a task.
+fn read_points(
+    alloc: Global,
+    waypoints: &[Waypoint],
+    row: &Row,
+    details: &[Row],
+) -> Result<Vec<CupPoint>, CupError> {
+    let names = names_of(row)?;
+    test_names(waypoints, names, row.line)?;
+    test_details(details, names.len())?;
+    let mut points = Vec::new(alloc);
+    for (point, name) in names.iter().enumerate() {
+        points.push(read_point(
+            alloc,
+            waypoints,
+            details,
+            name,
+            (row.line, point as u64),
+        )?)?;
+    }
+    Ok(points)
+}
+
+/// Reads a task of a text in the SeeYou form (docs/cup.md): the one of a number, counted from 1, or the
+/// only one.
+pub fn read_cup(alloc: Global, text: &[u8], which: Option<u32>) -> Result<CupTask, CupError> {
+    let rows = read_rows(alloc, text)?;
+    let (columns, rest) = read_header(&rows)?;
+    let (points, tasks) = split_at_mark(rest);
+    let waypoints = read_waypoints(alloc, &columns, points)?;
+    let (row, details) = choose(tasks, which)?;
+    let points = read_points(alloc, &waypoints, row, details)?;
+    let title = row.fields.as_slice().first().ok_or(CupError::TooFewPoints(row.line))?;
+    let options = options_in(details);
+    Ok(CupTask {
+        title: Field::from_slice(alloc, title.as_slice())?,
+        points: Items::from_vec(points),
+        opens: options.opens,
+        time: options.time,
+    })
+}
