@@ -3,6 +3,7 @@ use Rattle.std.specs.Prelude.{◌≡◌, ◌≢◌, ℕ, ◌*◌, List, [], ◌�
 use Rattle.std.specs.List.{list_any}
 use Rattle.gl_sphere.specs.Place.{written_vector}
 use Rattle.gl_sphere.specs.declared.place.Grid.{Grid}
+use Rattle.gl_sphere.specs.declared.place.Vec3.{Vec3}
 use Rattle.gl_task.specs.Reading.{IsReadFrom, IsRefusalOf}
 use Rattle.gl_task.specs.declared.day_type.Finish as task_finish
 use Rattle.gl_task.specs.declared.day_type.Finish.TheVariants as finish
@@ -31,14 +32,20 @@ use Rattle.gl_draft.specs.declared.entrant.Entrant.{Entrant}
 use Rattle.gl_draft.specs.declared.line.Line as line
 use Rattle.gl_draft.specs.Line.{filled_text, is_open, marked_text}
 
+-- a point is that of a place
+pub record IsAt (point : Vec3) (place : Grid) : Type 0 where
+  pub x : point.x ≡ (written_vector place).x
+  pub y : point.y ≡ (written_vector place).y
+  pub z : point.z ≡ (written_vector place).z
+
 -- a length in centimetres is so many metres
 abbrev pub IsMetres : ℕ → ℕ → Type 0
 IsMetres centimetres metres = centimetres ≡ metres * 100
 
 -- the start line has the two places and the half width
 pub record HasStart (start : Start) (made : zone_line.Line) : Type 0 where
-  pub at : made.centre ≡ written_vector start.at
-  pub towards : made.towards ≡ written_vector start.towards
+  pub at : IsAt made.centre start.at
+  pub towards : IsAt made.towards start.towards
   pub half : IsMetres made.half start.half
 
 -- the sector has the radials, where they are known
@@ -48,7 +55,7 @@ HasRadials (Some radials) made = (made.from ≡ radials.0) × (made.to ≡ radia
 
 -- the sector begins at its centre, and has the radius and the radials
 pub record HasSector (centre : Grid) (sector : draft_sector.Sector) (made : zone_sector.Sector) : Type 0 where
-  pub at : made.centre ≡ written_vector centre
+  pub at : IsAt made.centre centre
   pub inner : made.inner ≡ 0
   pub outer : IsMetres made.outer sector.outer
   pub radials : HasRadials sector.radials made
@@ -56,7 +63,7 @@ pub record HasSector (centre : Grid) (sector : draft_sector.Sector) (made : zone
 -- the part is of the same kind, about the same place, with the same radius
 abbrev pub HasPart : Grid → draft_part.Part → zone_part.Part → Type 0
 HasPart centre (taken_part.Circle radius) (part.Cylinder made) =
-    (made.centre ≡ written_vector centre) × IsMetres made.radius radius
+    IsAt made.centre centre × IsMetres made.radius radius
 HasPart centre (taken_part.Circle radius) (part.Sector made) = ⊥
 HasPart centre (taken_part.Sector sector) (part.Cylinder made) = ⊥
 HasPart centre (taken_part.Sector sector) (part.Sector made) = HasSector centre sector made
@@ -70,7 +77,7 @@ HasParts centre first second made = ⊥
 
 -- the zone has the centre and the parts
 pub record HasZone (zone : Zone) (made : task_zone.Zone) : Type 0 where
-  pub at : made.centre ≡ written_vector zone.at
+  pub at : IsAt made.centre zone.at
   pub parts : HasParts zone.at zone.part zone.second made.parts
 
 -- as many things as were taken, each of which has what was taken
@@ -83,11 +90,11 @@ Each Has (taken ∷ rest) (made ∷ more) = Has taken made × Each Has rest more
 -- the finish has the place and the radius, or the half width
 abbrev pub HasFinish : draft_finish.Finish → task_finish.Finish → Type 0
 HasFinish (taken_finish.Ring at radius) (finish.Ring point length) =
-    (point ≡ written_vector at) × IsMetres length radius
+    IsAt point at × IsMetres length radius
 HasFinish (taken_finish.Ring at radius) (finish.Gate made) = ⊥
 HasFinish (taken_finish.Gate at before half) (finish.Ring point length) = ⊥
 HasFinish (taken_finish.Gate at before half) (finish.Gate made) =
-    (made.centre ≡ written_vector at) × IsMetres made.half half
+    IsAt made.centre at × IsMetres made.half half
 
 -- the kind, and the minimum, where it is known
 abbrev pub HasKind : draft_kind.Kind → task_kind.Kind → Type 0
@@ -103,14 +110,22 @@ pub record HasEntrant (entrant : Entrant) (made : task_entrant.Entrant) : Type 0
   pub handicap : made.handicap ≡ 1_000
   pub file : made.file ≡ entrant.file
 
--- the task has all that was taken
-pub record HasDraft (draft : Draft) (task : Task) : Type 0 where
+-- the task has the day, the opening and the kind that are known
+pub record HasDay (draft : Draft) (task : Task) : Type 0 where
   pub date : IfSome draft.date (λ known. task.date ≡ known)
   pub opens : IfSome draft.opens (λ known. task.start.opens ≡ pos known)
   pub kind_is : HasKind draft.kind task.kind
+
+-- the task has the start, the zones and the finish that were taken
+pub record HasCourse (draft : Draft) (task : Task) : Type 0 where
   pub start : HasStart draft.start task.start.line
   pub zones : Each HasZone draft.zones task.zones
   pub finish : HasFinish draft.finish task.finish
+
+-- the task has all that was taken
+pub record HasDraft (draft : Draft) (task : Task) : Type 0 where
+  pub day : HasDay draft task
+  pub course : HasCourse draft task
   pub entrants : Each HasEntrant draft.entrants task.entrants
 
 -- a text that gives no task, which `score` refuses
@@ -130,3 +145,8 @@ pub record IsDraftText (draft : Draft) (text : List ℕ) : Type 0 where
   pub has : HasDraft draft task
   pub marked_refused : list_any is_open lines ≡ true → IsNoTask text
   pub whole_reads : list_any is_open lines ≡ false → IsReadFrom text task
+
+-- a text that is made for something
+pub record IsMade (text : List ℕ) : Type 0 where
+  pub draft : Draft
+  pub is : IsDraftText draft text

@@ -1,3 +1,6 @@
+ghost use Rattle.std.specs.Prelude.{◌≡◌};
+ghost use Rattle.gl_draft.specs.Causes.{number_of_status, status_of};
+
 use gl_desk::DeskError;
 
 /// How a run ended. The program ends with the status as a number.
@@ -16,6 +19,8 @@ pub enum Status {
 }
 
 impl From<DeskError> for Status {
+    ghost from_gives = { λ stop status. status ≡ status_of stop };
+
     fn from(stop: DeskError) -> Status {
         match stop {
             DeskError::Failed => Status::Desk,
@@ -26,7 +31,9 @@ impl From<DeskError> for Status {
 
 impl Status {
     /// The number that the program ends with.
-    pub fn number(self) -> u8 {
+    pub fn number(self) -> u8
+        ensures { result ≡ number_of_status self }
+    {
         self as u8
     }
 }

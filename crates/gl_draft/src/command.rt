@@ -1,17 +1,25 @@
+ghost use Rattle.std.specs.Prelude.{◌≡◌, ◌≢◌, ◌↔◌, IfOk, IfErr, IsNone};
+ghost use Rattle.gl_desk.specs.Answers.{OnlyReads, stop_of};
+ghost use Rattle.gl_desk.specs.Desk.{FilesByName};
+ghost use Rattle.gl_draft.specs.Causes.{IsNoFault, stop_in};
+ghost use Rattle.gl_draft.specs.Draft.{IsMade};
+ghost use Rattle.gl_draft.specs.Folder.{HaveFiles};
+ghost use Rattle.gl_draft.specs.Run.{IsAnswer, IsRun};
+ghost use Rattle.std.specs.Prelude.{Option};
+ghost use Rattle.gl_draft.specs.Words.{words_of};
+
 use crate::answer::Status;
-use crate::course::{Course, course_of, greatest_rounding, kind_of};
+use crate::course::{Course, course_of, kind_of};
 use crate::draft::Draft;
 use crate::folder::{Date, MOST_BYTES, Recordings, read_recordings};
-use crate::line::Line;
-use crate::quoted::remark;
 use crate::refusal::Cause;
+use crate::refusal_line::refusal_line;
+use crate::remarks::remarks;
 use crate::text::draft_text;
-use crate::way::say;
 use crate::words::{USAGE, Words, read_words};
-use gl_cup::{CupError, CupTask, read_cup};
+use gl_cup::{CupTask, read_cup};
 use gl_desk::{Desk, DeskError, Name, ReadError, read_all};
 use gl_igc::Items;
-use gl_text::{push_fixed, push_u64};
 use std::alloc::{AllocError, Global};
 
 /// The bytes of the task's file, which has to be one of the folder's.
@@ -20,7 +28,10 @@ fn read_file<D: Desk>(
     desk: &mut D,
     names: &[Name],
     file: &Name,
-) -> Result<Vec<u8>, Cause> {
+) -> Result<Vec<u8>, Cause>
+    requires { HaveFiles (D.told desk.old).folder names.now }
+    ensures { OnlyReads (stop_in result) (D.told desk.old) (D.told desk.new) }
+{
     if !names.contains(file) {
         return Err(Cause::NotListed);
     }
@@ -32,50 +43,62 @@ fn read_file<D: Desk>(
     }
 }
 
-/// Appends a remark.
-fn note(alloc: Global, lines: &mut Vec<Line>, text: &str) -> Result<(), AllocError> {
-    say(lines, remark(alloc, text.as_bytes())?)
-}
-
-/// Appends what is to be known of the day and its recordings.
-fn note_recordings(
+/// The task that the words ask for.
+fn read_task_file<D: Desk>(
     alloc: Global,
-    lines: &mut Vec<Line>,
-    recordings: &Recordings,
-) -> Result<(), AllocError> {
-    if recordings.date == Date::Several {
-        note(alloc, lines, "The recordings are of several days: take out what isn't of this one.")?;
-    }
-    if recordings.left_out > 0 {
-        note(alloc, lines, "Some recordings are left out, since their names can't be written here.")?;
-    }
-    note(alloc, lines, "Everybody has the handicap 1000: change it if there are handicaps.")
-}
-
-/// The remarks at the head of the file.
-fn remarks(
-    alloc: Global,
+    desk: &mut D,
+    names: &[Name],
     words: Words<'_>,
-    task: &CupTask,
-    recordings: &Recordings,
-) -> Result<Vec<Line>, AllocError> {
-    let mut lines = Vec::new(alloc);
-    let mut made = Vec::from_slice(alloc, b"Made by new-day from ")?;
-    made.extend_from_slice(words.file.as_str().as_bytes())?;
-    made.extend_from_slice(b": ")?;
-    made.extend_from_slice(task.title.as_slice())?;
-    say(&mut lines, remark(alloc, &made)?)?;
-    note(alloc, &mut lines, "Fill in each line that says FILL IN; score refuses the file until then.")?;
-    let mut moved = Vec::from_slice(alloc, b"Places are rounded to a thousandth of a minute, by at most ")?;
-    push_fixed(&mut moved, greatest_rounding(task), 2)?;
-    moved.extend_from_slice(b" m.")?;
-    say(&mut lines, remark(alloc, &moved)?)?;
-    note_recordings(alloc, &mut lines, recordings)?;
-    Ok(lines)
+) -> Result<CupTask, Cause>
+    requires { HaveFiles (D.told desk.old).folder names.now }
+    ensures { OnlyReads (stop_in result) (D.told desk.old) (D.told desk.new) }
+{
+    let bytes = read_file(alloc, desk, names, words.file)?;
+    Ok(read_cup(alloc, &bytes, words.task)?)
+}
+
+/// Names in the order of their bytes.
+fn sorted(names: Vec<Name>) -> Result<Vec<Name>, AllocError>
+    ensures { IfOk result (λ sorted. (folder : Option FilesByName)
+        → HaveFiles folder names.items → HaveFiles folder sorted.items) }
+{
+    let mut names = names;
+    names.sort()?;
+    Ok(names)
+}
+
+/// The task that the words ask for, and the recordings, in a folder that lists these names.
+fn see_listed<D: Desk>(
+    alloc: Global,
+    desk: &mut D,
+    names: Vec<Name>,
+    words: Words<'_>,
+) -> Result<(CupTask, Recordings), Cause>
+    requires { HaveFiles (D.told desk.old).folder names.items }
+    ensures { OnlyReads (stop_in result) (D.told desk.old) (D.told desk.new) }
+{
+    let task = read_task_file(alloc, desk, &names, words)?;
+    let names = sorted(names)?;
+    let recordings = read_recordings(alloc, desk, &names)?;
+    Ok((task, recordings))
+}
+
+/// The task that the words ask for, and the recordings of the folder.
+fn see_folder<D: Desk>(
+    alloc: Global,
+    desk: &mut D,
+    words: Words<'_>,
+) -> Result<(CupTask, Recordings), Cause>
+    ensures { OnlyReads (stop_in result) (D.told desk.old) (D.told desk.new) }
+{
+    let names = desk.names(alloc)?;
+    see_listed(alloc, desk, names, words)
 }
 
 /// The draft of a task and recordings.
-fn draft_of(alloc: Global, task: &CupTask, recordings: Recordings) -> Result<Draft, Cause> {
+fn draft_of(alloc: Global, task: &CupTask, recordings: Recordings) -> Result<Draft, Cause>
+    ensures { IfErr result IsNoFault }
+{
     let Course {
         start,
         zones,
@@ -87,10 +110,7 @@ fn draft_of(alloc: Global, task: &CupTask, recordings: Recordings) -> Result<Dra
         left_out: _,
     } = recordings;
     Ok(Draft {
-        date: match date {
-            Date::Day(day) => Some(day),
-            Date::Unknown | Date::Several => None,
-        },
+        date: date.known(),
         kind: kind_of(task),
         opens: task.opens,
         start,
@@ -100,128 +120,104 @@ fn draft_of(alloc: Global, task: &CupTask, recordings: Recordings) -> Result<Dra
     })
 }
 
-/// The text of the task file that the words ask for.
-fn make_file<D: Desk>(alloc: Global, desk: &mut D, words: Words<'_>) -> Result<Vec<u8>, Cause> {
-    let mut names = desk.names(alloc)?;
-    let bytes = read_file(alloc, desk, &names, words.file)?;
-    let task = read_cup(alloc, &bytes, words.task)?;
-    names.sort()?;
-    let recordings = read_recordings(alloc, desk, &names)?;
+/// The text of the task file for a task and recordings.
+fn make_text(
+    alloc: Global,
+    words: Words<'_>,
+    task: &CupTask,
+    recordings: Recordings,
+) -> Result<Vec<u8>, Cause>
+    ensures made { IfOk result (λ text. IsMade text.items) }
+    ensures no_fault { IfErr result IsNoFault }
+{
     if recordings.entrants.is_empty() {
         return Err(Cause::NoRecording);
     }
-    let remarks = remarks(alloc, words, &task, &recordings)?;
-    let draft = draft_of(alloc, &task, recordings)?;
+    let remarks = remarks(alloc, words, task, &recordings)?;
+    let draft = draft_of(alloc, task, recordings)?;
     draft_text(alloc, remarks, &draft)
 }
 
-/// Appends a number, a point and another number.
-fn push_pair(line: &mut Vec<u8>, one: u64, other: u64) -> Result<(), AllocError> {
-    push_u64(line, one)?;
-    line.push(b'.')?;
-    push_u64(line, other)
+/// The text of the task file that the words ask for.
+fn make_file<D: Desk>(alloc: Global, desk: &mut D, words: Words<'_>) -> Result<Vec<u8>, Cause>
+    ensures made { IfOk result (λ text. IsMade text.items) }
+    ensures reads { OnlyReads (stop_in result) (D.told desk.old) (D.told desk.new) }
+{
+    let (task, recordings) = see_folder(alloc, desk, words)?;
+    make_text(alloc, words, &task, recordings)
 }
 
-/// Appends the number and the place of a text that gives no task.
-fn push_cup_error(line: &mut Vec<u8>, error: CupError) -> Result<(), AllocError> {
-    match error {
-        CupError::Row(n) => {
-            line.extend_from_slice(b"CUP 1 ")?;
-            push_u64(line, n)
-        }
-        CupError::Empty => line.extend_from_slice(b"CUP 2 -"),
-        CupError::Header(n) => {
-            line.extend_from_slice(b"CUP 3 ")?;
-            push_u64(line, n)
-        }
-        CupError::Waypoint(n) => {
-            line.extend_from_slice(b"CUP 4 ")?;
-            push_u64(line, n)
-        }
-        CupError::NoTask => line.extend_from_slice(b"CUP 5 -"),
-        CupError::Several => line.extend_from_slice(b"CUP 6 -"),
-        CupError::NoSuchTask => line.extend_from_slice(b"CUP 7 -"),
-        CupError::TooFewPoints(n) => {
-            line.extend_from_slice(b"CUP 8 ")?;
-            push_u64(line, n)
-        }
-        CupError::Unknown(n, point) => {
-            line.extend_from_slice(b"CUP 9 ")?;
-            push_pair(line, n, point)
-        }
-        CupError::Detail(n) => {
-            line.extend_from_slice(b"CUP 10 ")?;
-            push_u64(line, n)
-        }
-        CupError::NoZone(n, point) => {
-            line.extend_from_slice(b"CUP 11 ")?;
-            push_pair(line, n, point)
-        }
-        CupError::Memory => Err(AllocError),
-    }
+/// What a run ends with: the status, and the text that it says.
+#[derive(Debug, Drop)]
+pub struct Answer {
+    pub status: Status,
+    pub text: Vec<u8>,
 }
 
-/// Appends what is refused, its number and its place.
-fn push_cause(line: &mut Vec<u8>, cause: Cause) -> Result<(), AllocError> {
-    match cause {
-        Cause::NotListed | Cause::NoRecording => line.extend_from_slice(b"FILE 1 -"),
-        Cause::TooLarge => line.extend_from_slice(b"FILE 3 -"),
-        Cause::Cup(error) => push_cup_error(line, error),
-        Cause::Shape(n, point) => {
-            line.extend_from_slice(b"CUP 12 ")?;
-            push_pair(line, n, point)
-        }
-        Cause::Task(number, key) => {
-            line.extend_from_slice(b"TASK ")?;
-            push_u64(line, u64::from(number))?;
-            line.push(b' ')?;
-            push_pair(line, u64::from(key.row), u64::from(key.item))?;
-            line.push(b'.')?;
-            push_u64(line, u64::from(key.part))
-        }
-        Cause::Differs => line.extend_from_slice(b"CUP 13 -"),
-        Cause::Stopped(_) => Err(AllocError),
-    }
+/// The line for words of another form.
+fn usage(alloc: Global) -> Result<Answer, AllocError>
+    ensures { IfOk result (λ answer. answer.status ≡ Status.Words) }
+{
+    Ok(Answer {
+        status: Status::Words,
+        text: Vec::from_slice(alloc, USAGE.as_bytes())?,
+    })
 }
 
 /// The line that a refused run says.
-fn refusal_line(alloc: Global, file: &Name, cause: Cause) -> Result<Vec<u8>, AllocError> {
-    let mut line = Vec::from_slice(alloc, b"REFUSED ")?;
-    push_cause(&mut line, cause)?;
-    line.push(b' ')?;
-    match cause {
-        Cause::NoRecording => line.extend_from_slice(b"*.IGC")?,
-        _ => line.extend_from_slice(file.as_str().as_bytes())?,
-    }
-    line.push(b'\n')?;
-    Ok(line)
+fn refuse(alloc: Global, file: &Name, cause: Cause) -> Result<Answer, AllocError>
+    ensures { IfOk result (λ answer. answer.status ≡ Status.Refused) }
+{
+    Ok(Answer {
+        status: Status::Refused,
+        text: refusal_line(alloc, file, cause)?,
+    })
 }
 
-/// The status and the text of an answer to the words.
-fn answer<D: Desk>(
+/// The answer to words of the right form.
+fn answer_words<D: Desk>(
     alloc: Global,
-    words: &[Name],
     desk: &mut D,
-) -> Result<(Status, Vec<u8>), DeskError> {
-    let Some(words) = read_words(words) else {
-        return Ok((Status::Words, Vec::from_slice(alloc, USAGE.as_bytes())?));
-    };
+    words: Words<'_>,
+) -> Result<Answer, DeskError>
+    ensures is { IfOk result IsAnswer }
+    ensures form { IfOk result (λ answer. answer.status ≢ Status.Words) }
+    ensures reads { OnlyReads (stop_of result) (D.told desk.old) (D.told desk.new) }
+{
     match make_file(alloc, desk, words) {
-        Ok(text) => Ok((Status::Done, text)),
+        Ok(text) => Ok(Answer {
+            status: Status::Done,
+            text,
+        }),
         Err(Cause::Stopped(stop)) => Err(stop),
-        Err(cause) => Ok((Status::Refused, refusal_line(alloc, words.file, cause)?)),
+        Err(cause) => Ok(refuse(alloc, words.file, cause)?),
+    }
+}
+
+/// The answer to the words.
+fn answer_to<D: Desk>(alloc: Global, words: &[Name], desk: &mut D) -> Result<Answer, DeskError>
+    ensures is { IfOk result IsAnswer }
+    ensures form { IfOk result (λ answer.
+        (answer.status ≡ Status.Words) ↔ IsNone (words_of words.now)) }
+    ensures reads { OnlyReads (stop_of result) (D.told desk.old) (D.told desk.new) }
+{
+    match read_words(words) {
+        Some(words) => answer_words(alloc, desk, words),
+        None => Ok(usage(alloc)?),
     }
 }
 
 /// Makes a task file from the words, which are those after the program's own name, and says it in one
 /// piece. Nothing is written, and nothing is said after a call of the desk failed.
-pub fn run<D: Desk>(alloc: Global, words: &[Name], desk: &mut D) -> Status {
-    let (status, text) = match answer(alloc, words, desk) {
+pub fn run<D: Desk>(alloc: Global, words: &[Name], desk: &mut D) -> Status
+    ensures { IsRun words.now result (D.told desk.old) (D.told desk.new) }
+{
+    let answer = match answer_to(alloc, words, desk) {
         Ok(answer) => answer,
         Err(stop) => return Status::from(stop),
     };
-    match desk.say(alloc, &text) {
-        Ok(()) => status,
+    match desk.say(alloc, &answer.text) {
+        Ok(()) => answer.status,
         Err(stop) => Status::from(stop),
     }
 }

@@ -1,6 +1,5 @@
 ghost use Rattle.std.specs.Prelude.{◌≡◌, IsTrue, IfSome, pos};
-ghost use Rattle.gl_sphere.specs.Place.{written_vector};
-ghost use Rattle.gl_draft.specs.Draft.{Each, HasDraft, HasEntrant, HasFinish, HasKind, HasPart, HasParts, HasRadials, HasSector, HasStart, HasZone, IsMetres};
+ghost use Rattle.gl_draft.specs.Draft.{Each, HasCourse, HasDay, HasDraft, HasEntrant, HasFinish, HasKind, HasPart, HasParts, HasRadials, HasSector, HasStart, HasZone, IsAt, IsMetres};
 
 use crate::draft::{Draft, Finish, Kind, Part, Sector, Start, Zone};
 use crate::entrant::Entrant;
@@ -21,9 +20,10 @@ fn is_length(centimetres: u64, metres: u32) -> bool
 
 /// Whether a point is that of a place.
 fn is_at(point: Vec3, place: Grid) -> bool
-    ensures { IsTrue result → point ≡ written_vector place }
+    ensures { IsTrue result → IsAt point place }
 {
-    point == vector(place)
+    let at = vector(place);
+    point.x == at.x && point.y == at.y && point.z == at.z
 }
 
 /// Whether a line is the start that was taken.
@@ -217,15 +217,33 @@ fn has_second(second: Option<u32>, made: i32) -> bool
     }
 }
 
+/// Whether a task has the day, the opening and the kind that are known.
+fn has_day(draft: &Draft, task: &Task) -> bool
+    ensures { IsTrue result → HasDay draft.now task.now }
+{
+    if !has_date(draft.date, task.date) {
+        return false;
+    }
+    if !has_second(draft.opens, task.start.opens) {
+        return false;
+    }
+    has_kind(draft.kind, task.kind)
+}
+
+/// Whether a task has the start, the zones and the finish that were taken.
+fn has_course(draft: &Draft, task: &Task) -> bool
+    ensures { IsTrue result → HasCourse draft.now task.now }
+{
+    has_start(draft.start, task.start.line)
+        && has_zones(draft.zones.as_slice(), task.zones.as_slice())
+        && has_finish(draft.finish, task.finish)
+}
+
 /// Whether a task has all that was taken.
 pub fn has_draft(draft: &Draft, task: &Task) -> bool
     ensures { IsTrue result → HasDraft draft.now task.now }
 {
-    has_date(draft.date, task.date)
-        && has_second(draft.opens, task.start.opens)
-        && has_kind(draft.kind, task.kind)
-        && has_start(draft.start, task.start.line)
-        && has_zones(draft.zones.as_slice(), task.zones.as_slice())
-        && has_finish(draft.finish, task.finish)
+    has_day(draft, task)
+        && has_course(draft, task)
         && has_entrants(draft.entrants.as_slice(), task.entrants.as_slice())
 }

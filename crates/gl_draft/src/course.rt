@@ -1,3 +1,6 @@
+ghost use Rattle.std.specs.Prelude.{IfErr};
+ghost use Rattle.gl_draft.specs.Causes.{IsNoFault};
+
 use crate::draft::{Finish, Kind, Start, Zone};
 use crate::place::{distance, rounded};
 use crate::refusal::Cause;
@@ -14,7 +17,9 @@ pub struct Course {
 }
 
 /// The zones of turn points, which count from 1.
-fn zones_of(alloc: Global, points: &[CupPoint]) -> Result<Vec<Zone>, Cause> {
+fn zones_of(alloc: Global, points: &[CupPoint]) -> Result<Vec<Zone>, Cause>
+    ensures { IfErr result IsNoFault }
+{
     let mut zones = Vec::new(alloc);
     for (n, point) in points.iter().enumerate() {
         match zone_of(alloc, point)? {
@@ -26,7 +31,9 @@ fn zones_of(alloc: Global, points: &[CupPoint]) -> Result<Vec<Zone>, Cause> {
 }
 
 /// The start, the zones and the finish of a task, or the first point whose zone the task file can't say.
-pub fn course_of(alloc: Global, task: &CupTask) -> Result<Course, Cause> {
+pub fn course_of(alloc: Global, task: &CupTask) -> Result<Course, Cause>
+    ensures { IfErr result IsNoFault }
+{
     let points = task.points.as_slice();
     let [start, turns @ .., finish] = points else {
         return Err(Cause::Differs);

@@ -1,5 +1,12 @@
+ghost use Rattle.std.specs.Prelude.{◌≡◌, IfOk};
+ghost use Rattle.gl_desk.specs.Answers.{OnlyReads};
+ghost use Rattle.gl_desk.specs.Desk.{HasFile};
+ghost use Rattle.gl_draft.specs.Causes.{stop_in};
+ghost use Rattle.gl_draft.specs.Folder.{HaveFiles};
+
 use crate::entrant::Entrant;
-use crate::heading::{Heading, is_name, is_number, read_heading};
+use crate::form::{is_file_name, is_name, is_number};
+use crate::heading::{Heading, read_heading};
 use crate::refusal::Cause;
 use gl_desk::{Desk, DeskError, Name, ReadError, read_all};
 use gl_igc::{IgcError, read_igc};
@@ -29,6 +36,14 @@ pub enum Date {
 }
 
 impl Date {
+    /// The day, if all recordings are of one.
+    pub fn known(self) -> Option<i32> {
+        match self {
+            Date::Day(day) => Some(day),
+            Date::Unknown | Date::Several => None,
+        }
+    }
+
     /// The day with that of one more recording.
     fn with(self, day: Option<i32>) -> Date {
         match (self, day) {
@@ -44,17 +59,6 @@ impl Date {
 fn is_recording(name: &str) -> bool {
     let bytes = name.as_bytes();
     bytes.len() >= 4 && bytes[bytes.len() - 4..].eq_ignore_ascii_case(b".igc")
-}
-
-/// Whether a task file can name a file: 1 to 128 bytes, none of them below 32 or a slash, and neither
-/// `.` nor `..`.
-pub fn is_file_name(name: &str) -> bool {
-    let length = name.len();
-    length >= 1
-        && length <= 128
-        && name.bytes().all(|byte| byte >= 32 && byte != b'/')
-        && name != "."
-        && name != ".."
 }
 
 /// The name without its ending.
@@ -109,24 +113,40 @@ fn unless_taken(entrants: &[Entrant], number: Option<Name>) -> Option<Name> {
     }
 }
 
+/// The number of a recording's H lines, or of its file.
+fn number_or_file(
+    alloc: Global,
+    number: Option<Name>,
+    file: &Name,
+) -> Result<Option<Name>, AllocError> {
+    match number {
+        Some(number) => Ok(Some(number)),
+        None => number_of_file(alloc, file.as_str()),
+    }
+}
+
+/// The name of a recording's H lines, or of its file.
+fn name_or_file(alloc: Global, name: Option<Name>, file: &Name) -> Result<Name, AllocError> {
+    match name {
+        Some(name) => Ok(name),
+        None => name_of_file(alloc, file.as_str()),
+    }
+}
+
 /// The entrant of a file and what its H lines say.
 fn entrant_of(
     alloc: Global,
     entrants: &[Entrant],
     file: &Name,
     heading: Heading,
-) -> Result<Entrant, AllocError> {
-    let number = match heading.number {
-        Some(number) => Some(number),
-        None => number_of_file(alloc, file.as_str())?,
-    };
-    let name = match heading.name {
-        Some(name) => name,
-        None => name_of_file(alloc, file.as_str())?,
-    };
+) -> Result<Entrant, AllocError>
+    ensures { IfOk result (λ entrant. entrant.file ≡ file.now) }
+{
+    let Heading { number, name } = heading;
+    let number = number_or_file(alloc, number, file)?;
     Ok(Entrant {
         number: unless_taken(entrants, number),
-        name,
+        name: name_or_file(alloc, name, file)?,
         file: Name::from_text(alloc, file.as_str())?,
     })
 }
@@ -140,27 +160,63 @@ fn day_of(alloc: Global, text: &[u8]) -> Result<Option<i32>, AllocError> {
     }
 }
 
+/// What the H lines of a recording say, and its day. A file that is too large says nothing.
+fn see_recording<D: Desk>(
+    alloc: Global,
+    desk: &mut D,
+    file: &Name,
+) -> Result<(Heading, Option<i32>), Cause>
+    requires { HasFile (D.told desk.old).folder file.now }
+    ensures { OnlyReads (stop_in result) (D.told desk.old) (D.told desk.new) }
+{
+    match read_all(alloc, desk, file, MOST_BYTES) {
+        Ok(text) => Ok((read_heading(alloc, &text)?, day_of(alloc, &text)?)),
+        Err(ReadError::TooLarge) => Ok((
+            Heading {
+                number: None,
+                name: None,
+            },
+            None,
+        )),
+        Err(ReadError::Fault) => Err(Cause::Stopped(DeskError::Failed)),
+        Err(ReadError::Memory) => Err(Cause::Stopped(DeskError::Memory)),
+    }
+}
+
 /// Takes a recording.
 fn take_recording<D: Desk>(
     alloc: Global,
     desk: &mut D,
     recordings: &mut Recordings,
     file: &Name,
-) -> Result<(), Cause> {
-    let heading = match read_all(alloc, desk, file, MOST_BYTES) {
-        Ok(text) => {
-            recordings.date = recordings.date.with(day_of(alloc, &text)?);
-            read_heading(alloc, &text)?
-        }
-        Err(ReadError::TooLarge) => Heading {
-            number: None,
-            name: None,
-        },
-        Err(ReadError::Fault) => return Err(Cause::Stopped(DeskError::Failed)),
-        Err(ReadError::Memory) => return Err(Cause::Stopped(DeskError::Memory)),
-    };
+) -> Result<(), Cause>
+    requires { HasFile (D.told desk.old).folder file.now }
+    ensures { OnlyReads (stop_in result) (D.told desk.old) (D.told desk.new) }
+{
+    let (heading, day) = see_recording(alloc, desk, file)?;
+    recordings.date = recordings.date.with(day);
     let entrant = entrant_of(alloc, &recordings.entrants, file, heading)?;
     recordings.entrants.push(entrant)?;
+    Ok(())
+}
+
+/// Takes a file of the folder, if it is a recording.
+fn take_file<D: Desk>(
+    alloc: Global,
+    desk: &mut D,
+    recordings: &mut Recordings,
+    name: &Name,
+) -> Result<(), Cause>
+    requires { HasFile (D.told desk.old).folder name.now }
+    ensures { OnlyReads (stop_in result) (D.told desk.old) (D.told desk.new) }
+{
+    if !is_recording(name.as_str()) {
+        return Ok(());
+    }
+    if is_file_name(name.as_str()) {
+        return take_recording(alloc, desk, recordings, name);
+    }
+    recordings.left_out = recordings.left_out.saturating_add(1);
     Ok(())
 }
 
@@ -169,20 +225,17 @@ pub fn read_recordings<D: Desk>(
     alloc: Global,
     desk: &mut D,
     names: &[Name],
-) -> Result<Recordings, Cause> {
+) -> Result<Recordings, Cause>
+    requires { HaveFiles (D.told desk.old).folder names.now }
+    ensures { OnlyReads (stop_in result) (D.told desk.old) (D.told desk.new) }
+{
     let mut recordings = Recordings {
         entrants: Vec::new(alloc),
         date: Date::Unknown,
         left_out: 0,
     };
-    for name in names {
-        if is_recording(name.as_str()) {
-            if is_file_name(name.as_str()) {
-                take_recording(alloc, desk, &mut recordings, name)?;
-            } else {
-                recordings.left_out = recordings.left_out.saturating_add(1);
-            }
-        }
+    'names: for name in names {
+        take_file(alloc, desk, &mut recordings, name)?;
     }
     Ok(recordings)
 }

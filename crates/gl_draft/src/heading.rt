@@ -1,3 +1,4 @@
+use crate::form::{is_name, is_number};
 use gl_desk::Name;
 use gl_text::next_line;
 use std::alloc::{AllocError, Global};
@@ -10,18 +11,6 @@ pub struct Heading {
     pub number: Option<Name>,
     /// The pilot's name, where one has its form.
     pub name: Option<Name>,
-}
-
-/// Whether a text is an entrant's number: 1 to 8 letters and digits of ASCII.
-pub fn is_number(text: &str) -> bool {
-    let length = text.len();
-    length >= 1 && length <= 8 && text.bytes().all(|byte| byte.is_ascii_alphanumeric())
-}
-
-/// Whether a text is an entrant's name: 1 to 80 bytes, none of them a control character.
-pub fn is_name(text: &str) -> bool {
-    let length = text.len();
-    length >= 1 && length <= 80 && text.bytes().all(|byte| byte >= 32 && byte != 127)
 }
 
 /// What an H line with three letters says behind its first colon, without blanks at its ends. None of

@@ -1,4 +1,6 @@
 ghost use Rattle.std.specs.Prelude.{◌≡◌};
+ghost use Rattle.gl_desk.specs.declared.error.DeskError.TheVariants.{Memory};
+ghost use Rattle.gl_draft.specs.Causes.{cause_of_cup, cause_of_task};
 
 use gl_cup::CupError;
 use gl_desk::DeskError;
@@ -27,24 +29,38 @@ pub enum Cause {
 }
 
 impl From<AllocError> for Cause {
+    ghost use Rattle.gl_draft.specs.declared.refusal.Cause.TheVariants.{Stopped};
+
+    ghost from_gives = { λ _ cause. cause ≡ Stopped Memory };
+
     fn from(_error: AllocError) -> Cause {
         Cause::Stopped(DeskError::Memory)
     }
 }
 
 impl<T: Drop> From<AllocFailed<T>> for Cause {
+    ghost use Rattle.gl_draft.specs.declared.refusal.Cause.TheVariants.{Stopped};
+
+    ghost from_gives = { λ _ cause. cause ≡ Stopped Memory };
+
     fn from(_refused: AllocFailed<T>) -> Cause {
         Cause::Stopped(DeskError::Memory)
     }
 }
 
 impl From<DeskError> for Cause {
+    ghost use Rattle.gl_draft.specs.declared.refusal.Cause.TheVariants.{Stopped};
+
+    ghost from_gives = { λ stop cause. cause ≡ Stopped stop };
+
     fn from(stop: DeskError) -> Cause {
         Cause::Stopped(stop)
     }
 }
 
 impl From<CupError> for Cause {
+    ghost from_gives = { λ error cause. cause ≡ cause_of_cup error };
+
     fn from(error: CupError) -> Cause {
         match error {
             CupError::Memory => Cause::Stopped(DeskError::Memory),
@@ -54,6 +70,8 @@ impl From<CupError> for Cause {
 }
 
 impl From<TaskError> for Cause {
+    ghost from_gives = { λ error cause. cause ≡ cause_of_task error };
+
     fn from(error: TaskError) -> Cause {
         match error {
             TaskError::Toml => Cause::Differs,

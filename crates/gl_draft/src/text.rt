@@ -1,12 +1,17 @@
-ghost use Rattle.std.specs.Prelude.{◌≡◌, IfOk};
-ghost use Rattle.gl_draft.specs.Draft.{IsDraftText};
+ghost use Rattle.std.specs.Prelude.{◌≡◌, ◌≢◌, true, IfOk, IfErr, OnOk};
+ghost use Rattle.gl_task.specs.Reading.{IsReadFrom, IsRefusalOf};
+ghost use Rattle.gl_task.specs.declared.error.TaskError.TheVariants.{Memory};
+ghost use Rattle.gl_draft.specs.Causes.{IsNoFault};
+ghost use Rattle.gl_draft.specs.Draft.{HasDraft, IsDraftText, IsNoTask};
+ghost use Rattle.gl_draft.specs.Line.{filled_text, is_open};
+ghost use Rattle.std.specs.List.{list_any};
 
 use crate::comparison::has_draft;
 use crate::draft::Draft;
 use crate::line::{Line, any_open, filled_text, marked_text};
 use crate::refusal::Cause;
 use crate::way::{say_day, say_entrant, say_finish, say_start, say_zone};
-use gl_task::{TaskError, read_task};
+use gl_task::{Task, TaskError, read_task};
 use std::alloc::{AllocError, Global};
 
 /// The lines of a draft, behind some that are there.
@@ -23,34 +28,73 @@ fn push_lines(alloc: Global, lines: &mut Vec<Line>, draft: &Draft) -> Result<(),
     Ok(())
 }
 
-/// Tests that the lines, filled in with the values on trial, read as a task that has what was taken.
-fn test_filled(alloc: Global, lines: &[Line], draft: &Draft) -> Result<(), Cause> {
+/// The task that the lines are once they are filled in with the values on trial, where it has all that
+/// was taken.
+fn filled_task(alloc: Global, lines: &[Line], draft: &Draft) -> Result<Task, Cause>
+    ensures reads { IfOk result (λ task. IsReadFrom (filled_text lines.now) task) }
+    ensures has { IfOk result (λ task. HasDraft draft.now task) }
+    ensures no_fault { IfErr result IsNoFault }
+{
     let text = filled_text(alloc, lines)?;
     let task = read_task(alloc, &text)?;
     if has_draft(draft, &task) {
-        Ok(())
+        Ok(task)
     } else {
         Err(Cause::Differs)
     }
 }
 
-/// Tests that a text with a mark in it is no task.
-fn test_marked(alloc: Global, text: &[u8]) -> Result<(), Cause> {
+/// Why a text gives no task.
+fn wrong_in(alloc: Global, text: &[u8]) -> Result<TaskError, Cause>
+    ensures known { IfOk result (λ wrong. wrong ≢ Memory) }
+    ensures refused { IfOk result (λ wrong. IsRefusalOf text.now wrong) }
+    ensures no_fault { IfErr result IsNoFault }
+{
     match read_task(alloc, text) {
         Ok(_) => Err(Cause::Differs),
         Err(TaskError::Memory) => Err(Cause::from(AllocError)),
-        Err(_) => Ok(()),
+        Err(wrong) => Ok(wrong),
     }
 }
 
-/// The text of a task file, behind some lines of remarks.
-pub fn draft_text(alloc: Global, remarks: Vec<Line>, draft: &Draft) -> Result<Vec<u8>, Cause> {
+/// Tests that a text with a mark in it gives no task.
+fn test_marked(alloc: Global, text: &[u8]) -> Result<(), Cause>
+    ensures ok { OnOk result (IsNoTask text.now) }
+    ensures no_fault { IfErr result IsNoFault }
+{
+    let _wrong = wrong_in(alloc, text)?;
+    Ok(())
+}
+
+/// Tests that a text gives no task where one of its lines is left to fill in.
+fn test_text(alloc: Global, lines: &[Line], text: &[u8]) -> Result<(), Cause>
+    ensures ok { OnOk result (list_any is_open lines.now ≡ true → IsNoTask text.now) }
+    ensures no_fault { IfErr result IsNoFault }
+{
+    if any_open(lines) {
+        test_marked(alloc, text)
+    } else {
+        Ok(())
+    }
+}
+
+/// The text of lines, where it is the text of a draft.
+fn tested_text(alloc: Global, lines: &[Line], draft: &Draft) -> Result<Vec<u8>, Cause>
+    ensures ok { IfOk result (λ text. IsDraftText draft.now text.items) }
+    ensures no_fault { IfErr result IsNoFault }
+{
+    let _task = filled_task(alloc, lines, draft)?;
+    let text = marked_text(alloc, lines)?;
+    test_text(alloc, lines, &text)?;
+    Ok(text)
+}
+
+/// The text of a task file for what was taken, behind some lines of remarks.
+pub fn draft_text(alloc: Global, remarks: Vec<Line>, draft: &Draft) -> Result<Vec<u8>, Cause>
+    ensures ok { IfOk result (λ text. IsDraftText draft.now text.items) }
+    ensures no_fault { IfErr result IsNoFault }
+{
     let mut lines = remarks;
     push_lines(alloc, &mut lines, draft)?;
-    test_filled(alloc, &lines, draft)?;
-    let text = marked_text(alloc, &lines)?;
-    if any_open(&lines) {
-        test_marked(alloc, &text)?;
-    }
-    Ok(text)
+    tested_text(alloc, &lines, draft)
 }

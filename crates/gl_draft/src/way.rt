@@ -3,7 +3,7 @@ use crate::entrant::Entrant;
 use crate::line::Line;
 use crate::place::place_text;
 use crate::quoted::{quoted, remark};
-use jiff_core::Date;
+use jiff_core::civil::Date;
 use std::alloc::{AllocError, Global};
 
 /// Appends a whole line.
