@@ -69,7 +69,12 @@ fn angle_of(limit: u32, digits: usize, text: &[u8]) -> Option<u32>
     if text.len() < digits + 3 || text[digits + 2] != b'.' {
         return None;
     }
-    angle_in(limit, &text[..digits], &text[digits..digits + 2], &text[digits + 3..])
+    angle_in(
+        limit,
+        &text[..digits],
+        &text[digits..digits + 2],
+        &text[digits + 3..],
+    )
 }
 
 /// A size with the sign of a letter: plus for the first letter, minus for the second.

@@ -1,3 +1,7 @@
+ghost use Rattle.std.specs.Prelude.{◌≡◌, Any, IfSome};
+ghost use Rattle.gl_cup.specs.Detail.{IsDetailOf};
+ghost use Rattle.gl_cup.specs.Reading.{SaysZone};
+
 use crate::choice::is_headed;
 use crate::error::CupError;
 use crate::options::{Options, read_options};
@@ -12,12 +16,24 @@ enum Detail {
 }
 
 /// What a row below a task says, if it reads.
-fn read_detail(row: &Row) -> Option<Detail> {
+fn read_detail(row: &Row) -> Option<Detail>
+    ensures { IfSome result (IsDetailOf row.now) }
+{
     let fields = row.fields.as_slice();
     if is_headed(fields, b"Options") {
         read_options(fields).map(Detail::Options)
     } else {
         read_zone(fields).map(Detail::Zone)
+    }
+}
+
+/// The zone of a row below a task, if it says one.
+fn zone_of(row: &Row) -> Option<ObsZone>
+    ensures { IfSome result (λ zone. SaysZone row.now.line zone row.now) }
+{
+    match read_detail(row)? {
+        Detail::Zone(zone) => Some(zone),
+        Detail::Options(_) => None,
     }
 }
 
@@ -37,10 +53,15 @@ pub fn test_details(rows: &[Row], points: usize) -> Result<(), CupError> {
         let Some(detail) = read_detail(row) else {
             return Err(CupError::Detail(row.line));
         };
-        if let Detail::Zone(zone) = detail && zone.point >= points as u64 {
+        if let Detail::Zone(zone) = detail
+            && zone.point >= points as u64
+        {
             return Err(CupError::Detail(row.line));
         }
-        if rows[..n].iter().any(|other| is_again(detail, read_detail(other))) {
+        if rows[..n]
+            .iter()
+            .any(|other| is_again(detail, read_detail(other)))
+        {
             return Err(CupError::Detail(row.line));
         }
     }
@@ -61,9 +82,14 @@ pub fn options_in(rows: &[Row]) -> Options {
 }
 
 /// The zone of a point among the rows, and its line.
-pub fn zone_in(rows: &[Row], point: u64) -> Option<(ObsZone, u64)> {
-    for row in rows {
-        if let Some(Detail::Zone(zone)) = read_detail(row) && zone.point == point {
+pub fn zone_in(rows: &[Row], point: u64) -> Option<(ObsZone, u64)>
+    ensures says { IfSome result (λ found. Any (SaysZone found.1 found.0) rows.now) }
+    ensures number { IfSome result (λ found. found.0.point ≡ point) }
+{
+    'rows: for row in rows {
+        if let Some(zone) = zone_of(row)
+            && zone.point == point
+        {
             return Some((zone, row.line));
         }
     }

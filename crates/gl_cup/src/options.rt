@@ -14,8 +14,18 @@ pub struct Options {
 
 /// The keys of the line. Those behind `TaskTime` are passed over, but for `RandomOrder`.
 const KEYS: [&[u8]; 12] = [
-    b"Options", b"NoStart", b"TaskTime", b"WpDis", b"NearDis", b"NearAlt", b"MinDis",
-    b"RandomOrder", b"MaxPts", b"BeforePts", b"AfterPts", b"Bonus",
+    b"Options",
+    b"NoStart",
+    b"TaskTime",
+    b"WpDis",
+    b"NearDis",
+    b"NearAlt",
+    b"MinDis",
+    b"RandomOrder",
+    b"MaxPts",
+    b"BeforePts",
+    b"AfterPts",
+    b"Bonus",
 ];
 
 /// The time at a key. Left out and 00:00:00 are none.

@@ -28,9 +28,7 @@ fn field_with<'a>(fields: &'a [Field], key: &[u8]) -> Option<&'a Field>
     ensures { option_map (λ field. field.now) result
         ≡ find (λ field. is_same (key_of field) key.now) fields.now }
 {
-    fields
-        .iter()
-        .find(|field| key_of(field.as_slice()) == key)
+    fields.iter().find(|field| key_of(field.as_slice()) == key)
 }
 
 /// What stands behind a key and the byte after it.
@@ -62,7 +60,9 @@ pub fn are_known(fields: &[Field], keys: &[&[u8]]) -> bool {
     let mut rest = fields;
     'fields: while let Some((field, others)) = rest.split_first() {
         let key = key_of(field.as_slice());
-        if !is_known(field.as_slice(), keys) || others.iter().any(|other| key_of(other.as_slice()) == key) {
+        if !is_known(field.as_slice(), keys)
+            || others.iter().any(|other| key_of(other.as_slice()) == key)
+        {
             return false;
         }
         rest = others;

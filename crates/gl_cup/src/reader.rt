@@ -1,3 +1,8 @@
+ghost use Rattle.std.specs.Prelude.{◌≡◌, ◌≤◌, Some, IfOk, IfSome, length, option_map};
+ghost use Rattle.std.specs.List.{find};
+ghost use Rattle.gl_cup.specs.Reading.{ArePoints, IsHeader, IsPoint, IsTaskOf, names_in};
+ghost use Rattle.gl_cup.specs.Waypoint.{is_same};
+
 use crate::choice::{choose, split_at_mark};
 use crate::detail::{options_in, test_details, zone_in};
 use crate::error::CupError;
@@ -10,30 +15,46 @@ use gl_sphere::Grid;
 use std::alloc::Global;
 
 /// The columns of the header, which is the first row, and the rows below it.
-fn read_header(rows: &[Row]) -> Result<(Columns, &[Row]), CupError> {
-    let (header, rest) = rows.split_first().ok_or(CupError::Empty)?;
+fn read_header(rows: &[Row]) -> Result<(Columns, &[Row]), CupError>
+    ensures { IfOk result (λ read. IsHeader rows.now read.0 read.1.now) }
+{
+    let [header, rest @ ..] = rows else {
+        return Err(CupError::Empty);
+    };
     match read_columns(header.fields.as_slice()) {
         Some(columns) => Ok((columns, rest)),
         None => Err(CupError::Header(header.line)),
     }
 }
 
+/// The first waypoint with a name.
+fn first_named<'a>(waypoints: &'a [Waypoint], name: &[u8]) -> Option<&'a Waypoint>
+    ensures { option_map (λ waypoint. waypoint.now) result
+        ≡ find (λ waypoint. is_same waypoint.name name.now) waypoints.now }
+{
+    waypoints
+        .iter()
+        .find(|waypoint| waypoint.name.as_slice() == name)
+}
+
 /// The place of the waypoints with a name. None where there is no such waypoint, and where two of them
 /// have two places.
-fn place_of(waypoints: &[Waypoint], name: &[u8]) -> Option<Grid> {
-    let first = waypoints
-        .iter()
-        .find(|waypoint| waypoint.name.as_slice() == name)?;
-    let place = first.place;
-    let is_one = waypoints
-        .iter()
-        .all(|waypoint| waypoint.name.as_slice() != name || waypoint.place == place);
+fn place_of(waypoints: &[Waypoint], name: &[u8]) -> Option<Grid>
+    ensures { IfSome result (λ place. option_map (λ waypoint. waypoint.place)
+        (find (λ waypoint. is_same waypoint.name name.now) waypoints.now) ≡ Some place) }
+{
+    let place = first_named(waypoints, name)?.place;
+    let is_one = waypoints.iter().all(|waypoint| waypoint.name.as_slice() != name
+        || waypoint.place == place);
     if is_one { Some(place) } else { None }
 }
 
 /// The names of a task's points: the fields behind its description and its take-off, and before its
 /// landing. There are at least three.
-fn names_of(row: &Row) -> Result<&[Field], CupError> {
+fn names_of(row: &Row) -> Result<&[Field], CupError>
+    ensures names { IfOk result (λ names. names.now ≡ names_in row.now.fields) }
+    ensures some { IfOk result (λ names. 3 ≤ length names.now) }
+{
     let fields = row.fields.as_slice();
     if fields.len() < 6 {
         return Err(CupError::TooFewPoints(row.line));
@@ -58,10 +79,16 @@ fn read_point(
     details: &[Row],
     name: &Field,
     at: (u64, u64),
-) -> Result<CupPoint, CupError> {
+) -> Result<CupPoint, CupError>
+    ensures { IfOk result (IsPoint waypoints.now details.now at.1 name.now) }
+{
     let (line, point) = at;
-    let place = place_of(waypoints, name.as_slice()).ok_or(CupError::Unknown(line, point))?;
-    let (zone, line) = zone_in(details, point).ok_or(CupError::NoZone(line, point))?;
+    let Some(place) = place_of(waypoints, name.as_slice()) else {
+        return Err(CupError::Unknown(line, point));
+    };
+    let Some((zone, line)) = zone_in(details, point) else {
+        return Err(CupError::NoZone(line, point));
+    };
     Ok(CupPoint {
         name: Field::from_slice(alloc, name.as_slice())?,
         place,
@@ -70,39 +97,57 @@ fn read_point(
     })
 }
 
+/// The points of some names.
+fn named_points(
+    alloc: Global,
+    waypoints: &[Waypoint],
+    details: &[Row],
+    names: &[Field],
+    line: u64,
+) -> Result<Vec<CupPoint>, CupError>
+    ensures { IfOk result (λ points.
+        ArePoints waypoints.now details.now 0 names.now points.items) }
+{
+    let mut points = Vec::new(alloc);
+    'names: for (n, name) in names.iter().enumerate() {
+        points.push(read_point(alloc, waypoints, details, name, (line, n as u64))?)?;
+    }
+    Ok(points)
+}
+
 /// The points of a task.
 fn read_points(
     alloc: Global,
     waypoints: &[Waypoint],
     row: &Row,
     details: &[Row],
-) -> Result<Vec<CupPoint>, CupError> {
+) -> Result<Vec<CupPoint>, CupError>
+    ensures points { IfOk result (λ points.
+        ArePoints waypoints.now details.now 0 (names_in row.now.fields) points.items) }
+    ensures some { IfOk result (λ points. 3 ≤ length (names_in row.now.fields)) }
+{
     let names = names_of(row)?;
     test_names(waypoints, names, row.line)?;
     test_details(details, names.len())?;
-    let mut points = Vec::new(alloc);
-    for (point, name) in names.iter().enumerate() {
-        points.push(read_point(
-            alloc,
-            waypoints,
-            details,
-            name,
-            (row.line, point as u64),
-        )?)?;
-    }
-    Ok(points)
+    named_points(alloc, waypoints, details, names, row.line)
 }
 
 /// Reads a task of a text in the SeeYou form (docs/cup.md): the one of a number, counted from 1, or the
 /// only one.
-pub fn read_cup(alloc: Global, text: &[u8], which: Option<u32>) -> Result<CupTask, CupError> {
+pub fn read_cup(alloc: Global, text: &[u8], which: Option<u32>) -> Result<CupTask, CupError>
+    ensures { IfOk result (IsTaskOf text.now which) }
+{
     let rows = read_rows(alloc, text)?;
     let (columns, rest) = read_header(&rows)?;
     let (points, tasks) = split_at_mark(rest);
     let waypoints = read_waypoints(alloc, &columns, points)?;
     let (row, details) = choose(tasks, which)?;
     let points = read_points(alloc, &waypoints, row, details)?;
-    let title = row.fields.as_slice().first().ok_or(CupError::TooFewPoints(row.line))?;
+    let title = row
+        .fields
+        .as_slice()
+        .first()
+        .ok_or(CupError::TooFewPoints(row.line))?;
     let options = options_in(details);
     Ok(CupTask {
         title: Field::from_slice(alloc, title.as_slice())?,

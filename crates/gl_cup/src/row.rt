@@ -104,12 +104,7 @@ fn read_row(alloc: Global, line: &[u8], number: u64) -> Result<Row, CupError>
 
 /// Takes the row of a line, unless the line is empty.
 #[tactic(auto, unfolding(crate::specs::Row::is_row))]
-fn take_line(
-    alloc: Global,
-    rows: &mut Vec<Row>,
-    line: &[u8],
-    number: u64,
-) -> Result<(), CupError>
+fn take_line(alloc: Global, rows: &mut Vec<Row>, line: &[u8], number: u64) -> Result<(), CupError>
     ensures ok { OnOk result (rows.new.items ≡ rows.old.items ++ row_at number line.now) }
     ensures passes { OnOk result (is_row line.now ≡ true) }
     ensures refused { IfErr result (λ e. e ≢ Memory

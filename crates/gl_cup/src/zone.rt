@@ -1,3 +1,7 @@
+ghost use Rattle.std.specs.Prelude.{◌≡◌, IfSome};
+ghost use Rattle.gl_cup.specs.Pair.{value_of};
+ghost use Rattle.gl_cup.specs.Zone.{IsZoneOf, angle_or_none, length_or_none, within_turn};
+
 use crate::decimal::{read_radius, read_thousandths};
 use crate::field::Field;
 use crate::pair::{are_known, value_of};
@@ -52,17 +56,28 @@ fn read_style(value: &[u8]) -> Option<Style> {
 }
 
 /// The length at a key; 0 where it is left out.
-fn length_at(fields: &[Field], key: &[u8]) -> Option<u32> {
+fn length_at(fields: &[Field], key: &[u8]) -> Option<u32>
+    ensures { result ≡ length_or_none (value_of key.now fields.now) }
+{
     match value_of(fields, key) {
         Some(value) => read_radius(value),
         None => Some(0),
     }
 }
 
+/// An angle of at most a whole turn.
+fn within_turn(angle: u32) -> Option<u32>
+    ensures { result ≡ within_turn angle }
+{
+    if angle <= 360_000 { Some(angle) } else { None }
+}
+
 /// The angle at a key, at most a whole turn; 0 where it is left out.
-fn angle_at(fields: &[Field], key: &[u8]) -> Option<u32> {
+fn angle_at(fields: &[Field], key: &[u8]) -> Option<u32>
+    ensures { result ≡ angle_or_none (value_of key.now fields.now) }
+{
     match value_of(fields, key) {
-        Some(value) => read_thousandths(value).filter(|angle| *angle <= 360_000),
+        Some(value) => within_turn(read_thousandths(value)?),
         None => Some(0),
     }
 }
@@ -78,7 +93,9 @@ pub fn flag_at(fields: &[Field], key: &[u8]) -> Option<bool> {
 }
 
 /// The zone of a line that begins with `ObsZone=`.
-pub fn read_zone(fields: &[Field]) -> Option<ObsZone> {
+pub fn read_zone(fields: &[Field]) -> Option<ObsZone>
+    ensures { IfSome result (IsZoneOf fields.now) }
+{
     if !are_known(fields, &KEYS) {
         return None;
     }

@@ -175,11 +175,7 @@ fn refuse(alloc: Global, file: &Name, cause: Cause) -> Result<Answer, AllocError
 }
 
 /// The answer to words of the right form.
-fn answer_words<D: Desk>(
-    alloc: Global,
-    desk: &mut D,
-    words: Words<'_>,
-) -> Result<Answer, DeskError>
+fn answer_words<D: Desk>(alloc: Global, desk: &mut D, words: Words<'_>) -> Result<Answer, DeskError>
     ensures is { IfOk result IsAnswer }
     ensures form { IfOk result (λ answer. answer.status ≢ Status.Words) }
     ensures reads { OnlyReads (stop_of result) (D.told desk.old) (D.told desk.new) }

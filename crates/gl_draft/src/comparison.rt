@@ -93,8 +93,7 @@ fn has_parts(centre: Grid, first: Part, second: Option<Part>, made: &[TaskPart])
 fn has_zone(zone: &Zone, made: &TaskZone) -> bool
     ensures { IsTrue result → HasZone zone.now made.now }
 {
-    is_at(made.centre, zone.at)
-        && has_parts(zone.at, zone.part, zone.second, made.parts.as_slice())
+    is_at(made.centre, zone.at) && has_parts(zone.at, zone.part, zone.second, made.parts.as_slice())
 }
 
 /// Whether zones are those that were taken.

@@ -43,8 +43,10 @@ pub fn course_of(alloc: Global, task: &CupTask) -> Result<Course, Cause>
     };
     let line = start_of(start, first).ok_or(Cause::Shape(start.line, 0))?;
     let zones = zones_of(alloc, turns)?;
-    let end = finish_of(last, finish)
-        .ok_or(Cause::Shape(finish.line, (turns.len() as u64).saturating_add(1)))?;
+    let end = finish_of(last, finish).ok_or(Cause::Shape(
+        finish.line,
+        (turns.len() as u64).saturating_add(1),
+    ))?;
     Ok(Course {
         start: line,
         zones,
@@ -54,7 +56,11 @@ pub fn course_of(alloc: Global, task: &CupTask) -> Result<Course, Cause>
 
 /// The kind of a task: of areas where it has a time, or a zone that is said to be an area.
 pub fn kind_of(task: &CupTask) -> Kind {
-    let is_area = task.points.as_slice().iter().any(|point| point.zone.is_area);
+    let is_area = task
+        .points
+        .as_slice()
+        .iter()
+        .any(|point| point.zone.is_area);
     if is_area || task.time.is_some() {
         Kind::Area { minimum: task.time }
     } else {

@@ -75,7 +75,11 @@ fn number_of_file(alloc: Global, name: &str) -> Result<Option<Name>, AllocError>
     let stem = stem_of(name);
     let count = stem.chars().filter(|c| c.is_ascii_alphanumeric()).count();
     let skipped = count.saturating_sub(8);
-    for c in stem.chars().filter(|c| c.is_ascii_alphanumeric()).skip(skipped) {
+    for c in stem
+        .chars()
+        .filter(|c| c.is_ascii_alphanumeric())
+        .skip(skipped)
+    {
         number.push(c)?;
     }
     if is_number(number.as_str()) {

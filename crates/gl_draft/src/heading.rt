@@ -35,10 +35,14 @@ fn kept(alloc: Global, text: &str, has_form: bool) -> Result<Option<Name>, Alloc
 
 /// Takes what a line says of who flew.
 fn take_line(alloc: Global, heading: &mut Heading, line: &[u8]) -> Result<(), AllocError> {
-    if heading.number.is_none() && let Some(text) = value_of(line, b"CID") {
+    if heading.number.is_none()
+        && let Some(text) = value_of(line, b"CID")
+    {
         heading.number = kept(alloc, text, is_number(text))?;
     }
-    if heading.name.is_none() && let Some(text) = value_of(line, b"PLT") {
+    if heading.name.is_none()
+        && let Some(text) = value_of(line, b"PLT")
+    {
         heading.name = kept(alloc, text, is_name(text))?;
     }
     Ok(())

@@ -26,6 +26,6 @@ pub use answer::Status;
 pub use command::run;
 pub use draft::{Draft, Finish, Kind, Part, Sector, Start, Zone};
 pub use entrant::Entrant;
-pub use text::draft_text;
 pub use line::Line;
 pub use refusal::Cause;
+pub use text::draft_text;

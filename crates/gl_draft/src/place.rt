@@ -60,5 +60,7 @@ pub fn place_text(alloc: Global, place: Grid) -> Result<String, AllocError> {
     let lat_minutes = lat % DEGREE / THOUSANDTH;
     let lon_degrees = lon / DEGREE;
     let lon_minutes = lon % DEGREE / THOUSANDTH;
-    format!(in alloc; "\"{lat_degrees:02}{lat_minutes:05}{north}{lon_degrees:03}{lon_minutes:05}{east}\"")
+    format!(in alloc;
+        "\"{lat_degrees:02}{lat_minutes:05}{north}{lon_degrees:03}{lon_minutes:05}{east}\""
+    )
 }

@@ -85,4 +85,3 @@ pub fn refusal_line(alloc: Global, file: &Name, cause: Cause) -> Result<Vec<u8>,
     line.push(b'\n')?;
     Ok(line)
 }
-

@@ -20,12 +20,24 @@ fn note_recordings(
     recordings: &Recordings,
 ) -> Result<(), AllocError> {
     if recordings.date == Date::Several {
-        note(alloc, lines, "The recordings are of several days: take out what isn't of this one.")?;
+        note(
+            alloc,
+            lines,
+            "The recordings are of several days: take out what isn't of this one.",
+        )?;
     }
     if recordings.left_out > 0 {
-        note(alloc, lines, "Some recordings are left out, since their names can't be written here.")?;
+        note(
+            alloc,
+            lines,
+            "Some recordings are left out, since their names can't be written here.",
+        )?;
     }
-    note(alloc, lines, "Everybody has the handicap 1000: change it if there are handicaps.")
+    note(
+        alloc,
+        lines,
+        "Everybody has the handicap 1000: change it if there are handicaps.",
+    )
 }
 
 /// The remarks at the head of the file.
@@ -43,12 +55,18 @@ pub fn remarks(
         made.extend_from_slice(task.title.as_slice())?;
     }
     say(&mut lines, remark(alloc, &made)?)?;
-    note(alloc, &mut lines, "Fill in each line that says FILL IN; score refuses the file until then.")?;
-    let mut moved = Vec::from_slice(alloc, b"Places are rounded to a thousandth of a minute, by at most ")?;
+    note(
+        alloc,
+        &mut lines,
+        "Fill in each line that says FILL IN; score refuses the file until then.",
+    )?;
+    let mut moved = Vec::from_slice(
+        alloc,
+        b"Places are rounded to a thousandth of a minute, by at most ",
+    )?;
     push_fixed(&mut moved, greatest_rounding(task), 2)?;
     moved.extend_from_slice(b" m.")?;
     say(&mut lines, remark(alloc, &moved)?)?;
     note_recordings(alloc, &mut lines, recordings)?;
     Ok(lines)
 }
-

@@ -80,7 +80,11 @@ pub fn say_day(alloc: Global, lines: &mut Vec<Line>, draft: &Draft) -> Result<()
             say_or_ask(alloc, lines, "minimum", minimum, "1")?;
         }
     }
-    say_text(alloc, lines, "# the last second of the day that counts, from midnight UTC")?;
+    say_text(
+        alloc,
+        lines,
+        "# the last second of the day that counts, from midnight UTC",
+    )?;
     ask(alloc, lines, "closes", "100000")
 }
 
@@ -106,7 +110,11 @@ pub fn say_start(
     say_place(alloc, lines, "at", start.at)?;
     say_place(alloc, lines, "towards", start.towards)?;
     say_number(alloc, lines, "half", start.half)?;
-    say_text(alloc, lines, "# the first and the last second of the start, from midnight UTC")?;
+    say_text(
+        alloc,
+        lines,
+        "# the first and the last second of the start, from midnight UTC",
+    )?;
     say_or_ask(alloc, lines, "open", opens, "0")?;
     ask(alloc, lines, "close", "100000")
 }
@@ -122,7 +130,9 @@ fn say_sector(alloc: Global, lines: &mut Vec<Line>, sector: Sector) -> Result<()
             say_number(alloc, lines, "to", to)
         }
         None => {
-            let line = format!(in alloc; "# the sector is {degrees}.{rest:03} degrees to each side of its middle")?;
+            let line = format!(in alloc;
+                "# the sector is {degrees}.{rest:03} degrees to each side of its middle"
+            )?;
             say(lines, line)?;
             ask(alloc, lines, "from", "0")?;
             ask(alloc, lines, "to", "0")
@@ -164,7 +174,11 @@ pub fn say_finish(alloc: Global, lines: &mut Vec<Line>, finish: Finish) -> Resul
             let trial = place_text(alloc, before)?;
             say_place(alloc, lines, "at", at)?;
             say_number(alloc, lines, "half", half)?;
-            say_text(alloc, lines, "# a place beyond the line, on the way from the last turn point")?;
+            say_text(
+                alloc,
+                lines,
+                "# a place beyond the line, on the way from the last turn point",
+            )?;
             ask(alloc, lines, "towards", trial.as_str())
         }
     }

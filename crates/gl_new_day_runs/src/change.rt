@@ -49,7 +49,11 @@ fn is_expected(rt: &HostRuntime, row: &StringRecord) -> Result<bool> {
     }
     println!(rt;
         "{}: {} in place of {}: {} {}",
-        change.shows, change.new, change.old, number.as_str(), said.as_str()
+        change.shows,
+        change.new,
+        change.old,
+        number.as_str(),
+        said.as_str()
     )?;
     Ok(false)
 }

@@ -85,6 +85,8 @@ pub fn try_failing(rt: &HostRuntime) -> Result<()> {
             silent = silent.saturating_add(1);
         }
     }
-    println!(rt; "{failed} of 10 runs failed, {silent} without a word before they could say something")?;
+    println!(rt;
+        "{failed} of 10 runs failed, {silent} without a word before they could say something"
+    )?;
     Ok(())
 }

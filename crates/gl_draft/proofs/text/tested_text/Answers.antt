@@ -11,13 +11,13 @@ returns-clause-ok c =
     let spelled : c.in_ok-text.text.items ≡ marked_text c.args.lines.now = search rules in
     let refused : list_any is_open c.args.lines.now ≡ true → IsNoTask c.in_ok-text.text.items = search rules in
     record {
-  lines = c.args.lines.now;
-  spelled = spelled;
-  task = c.in_ok-_task._task;
-  reads = c.in_ok-_task.ensures.reads;
-  has = c.in_ok-_task.ensures.has;
-  marked_refused = refused;
-  whole_reads = λ none.
-      let P : List ℕ → Type 0 = λ text. IsReadFrom text c.in_ok-_task._task in
-      subst P (sym (marked-is-filled c.args.lines.now none) ∙ sym spelled) c.in_ok-_task.ensures.reads;
-}
+      lines = c.args.lines.now;
+      spelled = spelled;
+      task = c.in_ok-_task._task;
+      reads = c.in_ok-_task.ensures.reads;
+      has = c.in_ok-_task.ensures.has;
+      marked_refused = refused;
+      whole_reads = λ none.
+          let P : List ℕ → Type 0 = λ text. IsReadFrom text c.in_ok-_task._task in
+          subst P (sym (marked-is-filled c.args.lines.now none) ∙ sym spelled) c.in_ok-_task.ensures.reads;
+    }
