@@ -1,5 +1,5 @@
 -- The points of a task, one by one.
-use Rattle.std.proofs.Common.{◌≡◌, ◌∙◌, ℕ, zero, suc, ◌+◌, ◌<◌, sym, ap, subst, arith, zero-add, get_or, List, [], ◌∷◌, ◌++◌, take, length}
+use Rattle.std.proofs.Common.{◌≡◌, ◌∙◌, ℕ, suc, ◌+◌, ◌<◌, sym, ap, subst, arith, get_or, List, [], ◌∷◌, ◌++◌, take, length}
 use Rattle.std.proofs.lemmas.Grind.{common_steps}
 use Rattle.std.proofs.lemmas.List.{take_more}
 use Rattle.gl_cup.specs.Reading.{ArePoints, IsPoint}

@@ -1,6 +1,5 @@
 -- The rows of a text, line by line, and the fields of a record, one by one.
-use Rattle.std.proofs.Common.{◌≡◌, ◌∙◌, ℕ, zero, suc, ◌+◌, ◌<◌, ◌≤◌, refl, sym, ap, arith, append_assoc, add-one, cond, Bool, true, false, List, [], ◌∷◌, ◌++◌, take, length, Option, None, Some, map}
-use Rattle.std.specs.Prelude.{is_none, find, drop}
+use Rattle.std.proofs.Common.{◌≡◌, ◌∙◌, ℕ, zero, suc, ◌+◌, refl, sym, ap, append_assoc, add-one, cond, Bool, true, false, List, [], ◌∷◌, ◌++◌, take, None, Some}
 use Rattle.csv.specs.Records.{field_at}
 use Rattle.gl_cup.specs.Row.{first_broken, is_row, row_at, rows_from}
 use Rattle.gl_cup.specs.declared.row.Row.{Row}

@@ -4,6 +4,7 @@ pub mod Decimal
 pub mod Detail
 pub mod Pair
 pub mod Reading
+pub mod Refusal
 pub mod Row
 pub mod Waypoint
 pub mod Zone

@@ -1,5 +1,5 @@
 -- The task of a text in the SeeYou form.
-use Rattle.std.specs.Prelude.{◌≡◌, ℕ, ◌+◌, ◌-◌, ◌≤◌, List, [], ◌∷◌, length, map, slice_range, Option, None, Some, option_map, Result, Ok, Err, ⊤, Any}
+use Rattle.std.specs.Prelude.{◌≡◌, ℕ, ◌+◌, ◌-◌, ◌≤◌, List, [], ◌∷◌, length, map, slice_range, Option, None, Some, option_map, Ok, ⊤, Any}
 use Rattle.std.specs.List.{find}
 use Rattle.gl_text.specs.Lines.{lines_of}
 use Rattle.gl_cup.specs.declared.point.CupPoint.{CupPoint}

@@ -1,5 +1,5 @@
 -- The waypoints of rows.
-use Rattle.std.specs.Prelude.{ℕ, List, Option, None, Some, option_map, position, is_none, slice_get, codes, Bool, nat_eq, ℤ}
+use Rattle.std.specs.Prelude.{ℕ, List, Option, Some, option_map, position, is_none, slice_get, codes, Bool, nat_eq, ℤ}
 use Rattle.std.specs.Cmp.Lexicographic.{pointwise}
 use Rattle.gl_text.specs.Digits.{◌>>=◌}
 use Rattle.gl_sphere.specs.PlaceText.{place_of}

@@ -1,4 +1,4 @@
-ghost use Rattle.std.specs.Prelude.{◌≡◌, Any, IfSome};
+ghost use Rattle.std.specs.Prelude.{◌≡◌, Any, IfErr, IfSome};
 ghost use Rattle.gl_cup.specs.Detail.{IsDetailOf};
 ghost use Rattle.gl_cup.specs.Reading.{SaysZone};
 
@@ -47,9 +47,10 @@ fn is_again(one: Detail, other: Option<Detail>) -> bool {
 }
 
 /// Tests that each row reads, is of one of so many points, and says what none before it says.
-pub fn test_details(rows: &[Row], points: usize) -> Result<(), CupError> {
-    'rows: for n in 0..rows.len() {
-        let row = &rows[n];
+pub fn test_details(rows: &[Row], points: usize) -> Result<(), CupError>
+    ensures { IfErr result (λ e. Any (λ row. e ≡ CupError.Detail row.line) rows.now) }
+{
+    'rows: for (n, row) in rows.iter().enumerate() {
         let Some(detail) = read_detail(row) else {
             return Err(CupError::Detail(row.line));
         };

@@ -1,6 +1,7 @@
-ghost use Rattle.std.specs.Prelude.{◌≡◌, ◌≤◌, Some, IfOk, IfSome, length, option_map};
+ghost use Rattle.std.specs.Prelude.{◌≡◌, ◌<◌, ◌≤◌, Some, IfOk, IfErr, IfSome, length, option_map};
 ghost use Rattle.std.specs.List.{find};
 ghost use Rattle.gl_cup.specs.Reading.{ArePoints, IsHeader, IsPoint, IsTaskOf, names_in};
+ghost use Rattle.gl_cup.specs.Refusal.{IsPointWrong, IsRefusalOf, IsTaskWrong, header_refused};
 ghost use Rattle.gl_cup.specs.Waypoint.{is_same};
 
 use crate::choice::{choose, split_at_mark};
@@ -16,7 +17,8 @@ use std::alloc::Global;
 
 /// The columns of the header, which is the first row, and the rows below it.
 fn read_header(rows: &[Row]) -> Result<(Columns, &[Row]), CupError>
-    ensures { IfOk result (λ read. IsHeader rows.now read.0 read.1.now) }
+    ensures ok { IfOk result (λ read. IsHeader rows.now read.0 read.1.now) }
+    ensures refused { IfErr result (λ e. header_refused rows.now ≡ Some e) }
 {
     let [header, rest @ ..] = rows else {
         return Err(CupError::Empty);
@@ -54,6 +56,8 @@ fn place_of(waypoints: &[Waypoint], name: &[u8]) -> Option<Grid>
 fn names_of(row: &Row) -> Result<&[Field], CupError>
     ensures names { IfOk result (λ names. names.now ≡ names_in row.now.fields) }
     ensures some { IfOk result (λ names. 3 ≤ length names.now) }
+    ensures refused { IfErr result (λ e.
+        (length row.now.fields < 6) × (e ≡ CupError.TooFewPoints row.now.line)) }
 {
     let fields = row.fields.as_slice();
     if fields.len() < 6 {
@@ -63,8 +67,10 @@ fn names_of(row: &Row) -> Result<&[Field], CupError>
 }
 
 /// Tests that each name of a task's points is known.
-fn test_names(waypoints: &[Waypoint], names: &[Field], line: u64) -> Result<(), CupError> {
-    for (point, name) in names.iter().enumerate() {
+fn test_names(waypoints: &[Waypoint], names: &[Field], line: u64) -> Result<(), CupError>
+    ensures { IfErr result (IsPointWrong line) }
+{
+    'names: for (point, name) in names.iter().enumerate() {
         if place_of(waypoints, name.as_slice()).is_none() {
             return Err(CupError::Unknown(line, point as u64));
         }
@@ -80,7 +86,8 @@ fn read_point(
     name: &Field,
     at: (u64, u64),
 ) -> Result<CupPoint, CupError>
-    ensures { IfOk result (IsPoint waypoints.now details.now at.1 name.now) }
+    ensures ok { IfOk result (IsPoint waypoints.now details.now at.1 name.now) }
+    ensures refused { IfErr result (IsPointWrong at.0) }
 {
     let (line, point) = at;
     let Some(place) = place_of(waypoints, name.as_slice()) else {
@@ -105,8 +112,9 @@ fn named_points(
     names: &[Field],
     line: u64,
 ) -> Result<Vec<CupPoint>, CupError>
-    ensures { IfOk result (λ points.
+    ensures ok { IfOk result (λ points.
         ArePoints waypoints.now details.now 0 names.now points.items) }
+    ensures refused { IfErr result (IsPointWrong line) }
 {
     let mut points = Vec::new(alloc);
     'names: for (n, name) in names.iter().enumerate() {
@@ -125,6 +133,7 @@ fn read_points(
     ensures points { IfOk result (λ points.
         ArePoints waypoints.now details.now 0 (names_in row.now.fields) points.items) }
     ensures some { IfOk result (λ points. 3 ≤ length (names_in row.now.fields)) }
+    ensures refused { IfErr result (IsTaskWrong row.now details.now) }
 {
     let names = names_of(row)?;
     test_names(waypoints, names, row.line)?;
@@ -135,7 +144,8 @@ fn read_points(
 /// Reads a task of a text in the SeeYou form (docs/cup.md): the one of a number, counted from 1, or the
 /// only one.
 pub fn read_cup(alloc: Global, text: &[u8], which: Option<u32>) -> Result<CupTask, CupError>
-    ensures { IfOk result (IsTaskOf text.now which) }
+    ensures ok { IfOk result (IsTaskOf text.now which) }
+    ensures refused { IfErr result (IsRefusalOf text.now which) }
 {
     let rows = read_rows(alloc, text)?;
     let (columns, rest) = read_header(&rows)?;
