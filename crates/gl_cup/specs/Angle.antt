@@ -26,7 +26,8 @@ angle_in limit degrees minutes decimals =
 unfoldable pub angle_of : ℕ → ℕ → List ℕ → Option ℕ
 angle_of limit digits text =
     if nat_le (digits + 3) (length text) && (slice_index text (digits + 2) == byte ".") then
-    angle_in limit (take digits text) (slice_range text digits (digits + 2)) (drop (digits + 3) text)
+    angle_in limit (take digits text) (slice_range text digits (digits + 2))
+    (drop (digits + 3) text)
     else None
 
 -- the latitude that DDMM.mmm and N or S say, north positive

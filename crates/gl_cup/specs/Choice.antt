@@ -61,7 +61,8 @@ abbrev pub task_at : ℕ → List Row → Option (Row × List Row)
 task_at n rows = with_details (from_task n rows)
 
 -- the task of a number, from 1 on, or the only one
-abbrev pub only : Option (Row × List Row) → Option (Row × List Row) → Result (Row × List Row) code.CupError
+abbrev pub only : Option (Row × List Row) → Option (Row × List Row)
+    → Result (Row × List Row) code.CupError
 only None other = Err cup.NoTask
 only (Some task) None = Ok task
 only (Some task) (Some other) = Err cup.Several

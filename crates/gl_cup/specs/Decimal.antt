@@ -4,7 +4,8 @@ use Rattle.std.specs.List.{ends_with}
 use Rattle.std.specs.Str.{byte}
 use Rattle.gl_text.specs.Digits.{◌>>=◌, columns, number_of}
 
--- the thousandths of a number, by its digits before and behind the point: one to six, and at most three
+-- the thousandths of a number, by its digits before and behind the point: one to six, and at most
+-- three
 unfoldable pub thousandths_in : List ℕ → List ℕ → Option ℕ
 thousandths_in whole decimals =
     if (length whole == 0) || nat_lt 6 (length whole) || nat_lt 3 (length decimals) then None
@@ -43,7 +44,8 @@ radius_of text =
 -- the seconds of a clock, HH:MM:SS, below 24 hours
 unfoldable pub clock_of : List ℕ → Option ℕ
 clock_of text =
-    if (length text == 8) && (slice_index text 2 == byte ":") && (slice_index text 5 == byte ":") then
+    if (length text == 8) && (slice_index text 2 == byte ":")
+    && (slice_index text 5 == byte ":") then
     (do
       hours ← number_of (columns 1 2 text)
       minutes ← number_of (columns 4 5 text)

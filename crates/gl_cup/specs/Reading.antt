@@ -24,11 +24,13 @@ pub record SaysZone (line : ℕ) (zone : ObsZone) (row : Row) : Type 0 where
   pub at : row.line ≡ line
   pub zone_is : IsZoneOf row.fields zone
 
--- a point of a task: its name, the place of the first waypoint with this name, and the zone that a row
--- below the task says of the point's number
-pub record IsPoint (waypoints : List Waypoint) (details : List Row) (n : ℕ) (name : List ℕ) (point : CupPoint) : Type 0 where
+-- a point of a task: its name, the place of the first waypoint with this name, and the zone that a
+-- row below the task says of the point's number
+pub record IsPoint (waypoints : List Waypoint) (details : List Row) (n : ℕ) (name : List ℕ)
+    (point : CupPoint) : Type 0 where
   pub name_is : point.name ≡ name
-  pub place_is : option_map (λ waypoint. waypoint.place) (find (λ waypoint. is_same waypoint.name name) waypoints) ≡ Some point.place
+  pub place_is : option_map (λ waypoint. waypoint.place)
+      (find (λ waypoint. is_same waypoint.name name) waypoints) ≡ Some point.place
   pub zone_is : Any (SaysZone point.line point.zone) details
   pub number_is : point.zone.point ≡ n
 
@@ -54,7 +56,8 @@ pub record IsTaskOf (text : List ℕ) (which : Option ℕ) (task : CupTask) : Ty
   pub details : List Row
   pub whole : first_broken 1 (lines_of text) ≡ None
   pub header : IsHeader (rows_of text) columns rest
-  pub read : map (λ waypoint. Some (seen_of waypoint)) waypoints ≡ map (λ row. waypoint_of columns row.fields) (waypoint_rows rest)
+  pub read : map (λ waypoint. Some (seen_of waypoint)) waypoints
+      ≡ map (λ row. waypoint_of columns row.fields) (waypoint_rows rest)
   pub chosen : choice which (task_rows rest) ≡ Ok (row, details)
   pub points : ArePoints waypoints details 0 (names_in row.fields) task.points
   pub turn_points : 3 ≤ length (names_in row.fields)

@@ -37,8 +37,8 @@ pub data IsPointWrong (line : ℕ) (why : CupError) : Type 0 where
   zoneless : (n : ℕ) → why ≡ cup.NoZone line n → IsPointWrong line why
   wanting : why ≡ cup.Memory → IsPointWrong line why
 
--- why a task's row, with those below it, gives no points: it has too few fields, one of the rows below it
--- is wrong, or a point is
+-- why a task's row, with those below it, gives no points: it has too few fields, one of the rows
+-- below it is wrong, or a point is
 pub data IsTaskWrong (row : Row) (details : List Row) (why : CupError) : Type 0 where
   short : length row.fields < 6 → why ≡ cup.TooFewPoints row.line → IsTaskWrong row details why
   detail : Any (λ d. why ≡ cup.Detail d.line) details → IsTaskWrong row details why
@@ -54,8 +54,8 @@ pub record IsChosenWrong (rows : List Row) (which : Option ℕ) (why : CupError)
   pub chosen : choice which (task_rows rest) ≡ Ok (row, details)
   pub wrong : IsTaskWrong row details why
 
--- Why a text gives no task: the first line that is no row, its header, the first waypoint that doesn't
--- read, the choice of a task, or the chosen task. Want of memory tells nothing of the text.
+-- Why a text gives no task: the first line that is no row, its header, the first waypoint that
+-- doesn't read, the choice of a task, or the chosen task. Want of memory tells nothing of the text.
 pub data IsRefusalOf (text : List ℕ) (which : Option ℕ) (why : CupError) : Type 0 where
   broken : row_broken (first_broken 1 (lines_of text)) ≡ Some why → IsRefusalOf text which why
   headless : header_refused (rows_of text) ≡ Some why → IsRefusalOf text which why

@@ -4,8 +4,8 @@ ghost use Rattle.gl_cup.specs.declared.error.CupError.TheVariants.{Memory};
 use std::alloc::{AllocError, AllocFailed};
 use thiserror::Error;
 
-/// Why a text gave no task. Lines count from 1, and points from 0, the start, as zones do in the file.
-/// The first test that fails is the answer; the tests are made in this order.
+/// Why a text gave no task. Lines count from 1, and points from 0, the start, as zones do in the
+/// file. The first test that fails is the answer; the tests are made in this order.
 #[derive(Clone, Copy, Debug, PartialEq, Eq, Error)]
 pub enum CupError {
     /// The quotes of this line don't match, or a CR stands in it.

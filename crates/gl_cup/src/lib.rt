@@ -1,5 +1,5 @@
-//! A task as pilots have it: a file in the SeeYou form (`.cup`), read into the points, zones and times
-//! of one of its tasks, or refused by the first line that doesn't read (docs/cup.md).
+//! A task as pilots have it: a file in the SeeYou form (`.cup`), read into the points, zones and
+//! times of one of its tasks, or refused by the first line that doesn't read (docs/cup.md).
 #![tactic(auto)]
 
 mod angle;

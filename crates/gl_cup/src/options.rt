@@ -36,8 +36,9 @@ fn time_at(fields: &[Field], key: &[u8]) -> Option<Option<u32>> {
     }
 }
 
-/// The options of a line that begins with `Options`. Points that may be flown in any order are no task
-/// that can be said, and don't read; nor does a time for a task that is measured by its waypoints.
+/// The options of a line that begins with `Options`. Points that may be flown in any order are no
+/// task that can be said, and don't read; nor does a time for a task that is measured by its
+/// waypoints.
 pub fn read_options(fields: &[Field]) -> Option<Options> {
     if !are_known(fields, &KEYS) || flag_at(fields, b"RandomOrder")? {
         return None;

@@ -39,8 +39,8 @@ fn first_named<'a>(waypoints: &'a [Waypoint], name: &[u8]) -> Option<&'a Waypoin
         .find(|waypoint| waypoint.name.as_slice() == name)
 }
 
-/// The place of the waypoints with a name. None where there is no such waypoint, and where two of them
-/// have two places.
+/// The place of the waypoints with a name. None where there is no such waypoint, and where two of
+/// them have two places.
 fn place_of(waypoints: &[Waypoint], name: &[u8]) -> Option<Grid>
     ensures { IfSome result (λ place. option_map (λ waypoint. waypoint.place)
         (find (λ waypoint. is_same waypoint.name name.now) waypoints.now) ≡ Some place) }
@@ -141,8 +141,8 @@ fn read_points(
     named_points(alloc, waypoints, details, names, row.line)
 }
 
-/// Reads a task of a text in the SeeYou form (docs/cup.md): the one of a number, counted from 1, or the
-/// only one.
+/// Reads a task of a text in the SeeYou form (docs/cup.md): the one of a number, counted from 1, or
+/// the only one.
 pub fn read_cup(alloc: Global, text: &[u8], which: Option<u32>) -> Result<CupTask, CupError>
     ensures ok { IfOk result (IsTaskOf text.now which) }
     ensures refused { IfErr result (IsRefusalOf text.now which) }

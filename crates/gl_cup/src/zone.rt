@@ -22,8 +22,8 @@ pub enum Style {
     ToStart,
 }
 
-/// A zone as an `ObsZone` line says it. Radii are in metres, angles in thousandths of a degree; a key
-/// that is left out is 0.
+/// A zone as an `ObsZone` line says it. Radii are in metres, angles in thousandths of a degree; a
+/// key that is left out is 0.
 #[derive(Clone, Copy, Debug, PartialEq, Eq)]
 pub struct ObsZone {
     /// The number of its point; 0 is the start.

@@ -1,5 +1,5 @@
 -- A text without a line that is left to fill in.
-use Rattle.std.proofs.Common.{◌≡◌, refl, ap, ◌∙◌, List, [], ◌∷◌, ◌++◌, ℕ, true, false}
+use Rattle.std.proofs.Common.{◌≡◌, refl, ap, List, [], ◌∷◌, ◌++◌, ℕ, false}
 use Rattle.std.specs.List.{list_any}
 use Rattle.gl_draft.specs.Line.{filled_text, is_open, marked_line, marked_text}
 use Rattle.gl_draft.specs.declared.line.Line.{Line}

@@ -1,12 +1,10 @@
 -- What is left by calls that only read.
-use Rattle.std.proofs.Common.{◌≡◌, subst, sym, ℕ, List, Option, None, Some}
-use Rattle.std.specs.Prelude.{Contains, IsSome}
+use Rattle.std.proofs.Common.{subst, sym, ℕ, List, Option, None, Some}
 use Rattle.std.proofs.lemmas.List.Sorted.{Contains-permutation}
 use Rattle.std.specs.List.Sorted.{IsPermutation}
 use Rattle.gl_desk.specs.Answers.{OnlyReads}
-use Rattle.gl_desk.specs.Desk.{FilesByName, HasFile, ListsNames, Told}
+use Rattle.gl_desk.specs.Desk.{FilesByName, ListsNames, Told}
 use Rattle.gl_desk.specs.declared.error.DeskError.TheVariants as desk
-use Rattle.gl_desk.proofs.Reading.{OnlyReads-then}
 use Rattle.gl_draft.specs.declared.refusal.Cause as code
 use Rattle.gl_draft.specs.declared.refusal.Cause.TheVariants as cause
 use Rattle.gl_draft.specs.Causes.{IsNoFault, stop_of_cause}

@@ -1,5 +1,5 @@
 -- What a task has of the things that were taken into its file, and the text of that file.
-use Rattle.std.specs.Prelude.{◌≡◌, ◌≢◌, ℕ, ◌*◌, List, [], ◌∷◌, Bool, true, false, Option, None, Some, IfSome, ⊤, pos}
+use Rattle.std.specs.Prelude.{◌≡◌, ◌≢◌, ℕ, ◌*◌, List, [], ◌∷◌, true, false, Option, None, Some, IfSome, ⊤, pos}
 use Rattle.std.specs.List.{list_any}
 use Rattle.gl_sphere.specs.Place.{written_vector}
 use Rattle.gl_sphere.specs.declared.place.Grid.{Grid}
@@ -54,7 +54,8 @@ HasRadials None made = ⊤
 HasRadials (Some radials) made = (made.from ≡ radials.0) × (made.to ≡ radials.1)
 
 -- the sector begins at its centre, and has the radius and the radials
-pub record HasSector (centre : Grid) (sector : draft_sector.Sector) (made : zone_sector.Sector) : Type 0 where
+pub record HasSector (centre : Grid) (sector : draft_sector.Sector)
+    (made : zone_sector.Sector) : Type 0 where
   pub at : IsAt made.centre centre
   pub inner : made.inner ≡ 0
   pub outer : IsMetres made.outer sector.outer
@@ -134,9 +135,10 @@ pub record IsNoTask (text : List ℕ) : Type 0 where
   pub known : wrong ≢ Memory
   pub refused : IsRefusalOf text wrong
 
--- The text of a task file for what was taken. It is made of lines, in some of which a mark stands for a
--- value that is left to fill in. Filled in with the values on trial they read as a task that has all
--- that was taken. While a mark stands in the text it gives no task, and else it reads as that task.
+-- The text of a task file for what was taken. It is made of lines, in some of which a mark stands
+-- for a value that is left to fill in. Filled in with the values on trial they read as a task that
+-- has all that was taken. While a mark stands in the text it gives no task, and else it reads as
+-- that task.
 pub record IsDraftText (draft : Draft) (text : List ℕ) : Type 0 where
   pub lines : List line.Line
   pub spelled : text ≡ marked_text lines

@@ -1,5 +1,5 @@
 -- What a run is: its answer, what it says, and what it leaves.
-use Rattle.std.specs.Prelude.{◌≡◌, ◌≢◌, ◌↔◌, ℕ, List, Option, None, Some, IfNone, IsNone, ⊤}
+use Rattle.std.specs.Prelude.{◌≡◌, ◌↔◌, ℕ, List, Option, None, IfNone, IsNone}
 use Rattle.gl_desk.specs.Answers.{CountsFaults}
 use Rattle.gl_desk.specs.Desk.{Told, followed_by}
 use Rattle.gl_draft.specs.declared.answer.Status.{Status}
@@ -20,7 +20,8 @@ pub record SaysMade (before after : Option (List ℕ)) : Type 0 where
   pub made : IsMade text
   pub said : after ≡ followed_by before text
 
--- a run writes nothing and changes no file; the count of faults rose exactly where it ended by a fault
+-- a run writes nothing and changes no file; the count of faults rose exactly where it ended by a
+-- fault
 pub record IsRun (words : List (List ℕ)) (status : Status) (before after : Told) : Type 0 where
   pub folder : after.folder ≡ before.folder
   pub outputs : after.outputs ≡ before.outputs

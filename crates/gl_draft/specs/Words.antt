@@ -1,5 +1,5 @@
 -- What the words ask for.
-use Rattle.std.specs.Prelude.{ℕ, nat_le, nat_lt, ◌==◌, ◌&&◌, ◌||◌, if◌then◌else◌, slice_index, List, [], ◌∷◌, length, Option, None, Some, option_map}
+use Rattle.std.specs.Prelude.{ℕ, nat_lt, ◌==◌, ◌||◌, if◌then◌else◌, slice_index, List, [], ◌∷◌, length, Option, None, Some, option_map}
 use Rattle.std.specs.Str.{byte}
 use Rattle.gl_task.specs.Forms.{is_file_name}
 use Rattle.gl_text.specs.Digits.{number_of}

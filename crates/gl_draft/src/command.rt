@@ -203,8 +203,8 @@ fn answer_to<D: Desk>(alloc: Global, words: &[Name], desk: &mut D) -> Result<Ans
     }
 }
 
-/// Makes a task file from the words, which are those after the program's own name, and says it in one
-/// piece. Nothing is written, and nothing is said after a call of the desk failed.
+/// Makes a task file from the words, which are those after the program's own name, and says it in
+/// one piece. Nothing is written, and nothing is said after a call of the desk failed.
 pub fn run<D: Desk>(alloc: Global, words: &[Name], desk: &mut D) -> Status
     ensures { IsRun words.now result (D.told desk.old) (D.told desk.new) }
 {

@@ -30,7 +30,8 @@ fn zones_of(alloc: Global, points: &[CupPoint]) -> Result<Vec<Zone>, Cause>
     Ok(zones)
 }
 
-/// The start, the zones and the finish of a task, or the first point whose zone the task file can't say.
+/// The start, the zones and the finish of a task, or the first point whose zone the task file can't
+/// say.
 pub fn course_of(alloc: Global, task: &CupTask) -> Result<Course, Cause>
     ensures { IfErr result IsNoFault }
 {

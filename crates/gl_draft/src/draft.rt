@@ -44,16 +44,16 @@ pub struct Zone {
     pub second: Option<Part>,
 }
 
-/// A finish: a ring of a radius in metres, or a line of a half width, which is crossed away from the
-/// point before.
+/// A finish: a ring of a radius in metres, or a line of a half width, which is crossed away from
+/// the point before.
 #[derive(Clone, Copy, Debug)]
 pub enum Finish {
     Ring { at: Grid, radius: u32 },
     Gate { at: Grid, before: Grid, half: u32 },
 }
 
-/// All that is taken into a task file. What is left out is for the scorer to fill in, and so are the
-/// ends of the start and of the day.
+/// All that is taken into a task file. What is left out is for the scorer to fill in, and so are
+/// the ends of the start and of the day.
 #[derive(Debug, Drop)]
 pub struct Draft {
     /// The day, as the number of days from 1970-01-01.

@@ -13,8 +13,8 @@ pub struct Heading {
     pub name: Option<Name>,
 }
 
-/// What an H line with three letters says behind its first colon, without blanks at its ends. None of
-/// another line, and where it is no text.
+/// What an H line with three letters says behind its first colon, without blanks at its ends. None
+/// of another line, and where it is no text.
 fn value_of<'a>(line: &'a [u8], letters: &[u8]) -> Option<&'a str> {
     if line.len() < 5 || line[0] != b'H' || &line[2..5] != letters {
         return None;

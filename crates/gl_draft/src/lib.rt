@@ -1,5 +1,5 @@
-//! A task file made from a task as pilots have it and the recordings of a folder: its lines, those that
-//! the scorer has to fill in, and the proof that it reads as what was taken (docs/cup.md).
+//! A task file made from a task as pilots have it and the recordings of a folder: its lines, those
+//! that the scorer has to fill in, and the proof that it reads as what was taken (docs/cup.md).
 #![tactic(auto)]
 
 mod answer;

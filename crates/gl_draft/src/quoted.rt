@@ -1,7 +1,7 @@
 use std::alloc::{AllocError, Global};
 
-/// A text in quotes, as TOML has it. Quotes, backslashes and the character 127 are written so that they
-/// read as themselves.
+/// A text in quotes, as TOML has it. Quotes, backslashes and the character 127 are written so that
+/// they read as themselves.
 pub fn quoted(alloc: Global, text: &str) -> Result<String, AllocError> {
     let mut line = String::from_str(alloc, "\"")?;
     for c in text.chars() {

@@ -6,7 +6,8 @@ use std::alloc::{AllocError, Global};
 /// Half a turn, in thousandths of a degree: the half angle of a full circle.
 const HALF_TURN: u32 = 180_000;
 
-/// A start that is a line across the way to the next point; none where its zone is of another shape.
+/// A start that is a line across the way to the next point; none where its zone is of another
+/// shape.
 pub fn start_of(start: &CupPoint, next: &CupPoint) -> Option<Start> {
     let zone = start.zone;
     if !zone.is_line || zone.style != Style::ToNext || zone.second_radius != 0 {
@@ -59,8 +60,8 @@ fn first_part(zone: ObsZone) -> Option<Part> {
     }))
 }
 
-/// The zone of a turn point: its first part, and perhaps a full circle more. None where its zone is of
-/// another shape.
+/// The zone of a turn point: its first part, and perhaps a full circle more. None where its zone is
+/// of another shape.
 fn parts_of(zone: ObsZone) -> Option<(Part, Option<Part>)> {
     let first = first_part(zone)?;
     if zone.second_radius == 0 {

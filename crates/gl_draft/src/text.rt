@@ -28,8 +28,8 @@ fn push_lines(alloc: Global, lines: &mut Vec<Line>, draft: &Draft) -> Result<(),
     Ok(())
 }
 
-/// The task that the lines are once they are filled in with the values on trial, where it has all that
-/// was taken.
+/// The task that the lines are once they are filled in with the values on trial, where it has all
+/// that was taken.
 fn filled_task(alloc: Global, lines: &[Line], draft: &Draft) -> Result<Task, Cause>
     ensures reads { IfOk result (λ task. IsReadFrom (filled_text lines.now) task) }
     ensures has { IfOk result (λ task. HasDraft draft.now task) }

@@ -1,5 +1,5 @@
-//! The program: hands the words, the current folder and the standard output to the command that makes a
-//! task file, and ends with the status of the run as a number.
+//! The program: hands the words, the current folder and the standard output to the command that
+//! makes a task file, and ends with the status of the run as a number.
 #![tactic(auto)]
 
 use gl_desk::{HostDesk, Name};

@@ -3,8 +3,8 @@ use anyhow::{Context, Result};
 use csv::{ReaderBuilder, StringRecord};
 use std::{fs, io};
 
-/// A change of a file: what it shows, the file, a part of its text, what stands in its place, the words,
-/// and the expected answer: the status, and what is said or a part of it.
+/// A change of a file: what it shows, the file, a part of its text, what stands in its place, the
+/// words, and the expected answer: the status, and what is said or a part of it.
 #[derive(Drop)]
 struct Change<'a> {
     shows: &'a str,

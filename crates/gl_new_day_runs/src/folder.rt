@@ -4,7 +4,8 @@ use gl_draft::{Status, run};
 use std::alloc::{AllocError, Global};
 use std::{fs, str};
 
-/// The recordings of the folder: of two pilots whose H lines say who they are, and of one whose don't.
+/// The recordings of the folder: of two pilots whose H lines say who they are, and of one whose
+/// don't.
 const RECORDINGS: [(&str, &str); 3] = [
     (
         "b.igc",
@@ -69,8 +70,9 @@ pub fn show(rt: &HostRuntime, file: &str, number: &str) -> Result<()> {
     Ok(())
 }
 
-/// Says how runs end in which one call of the desk fails, and how many of them said nothing. The folder is
-/// made by five calls, and a run makes one to list it, two for each file, and one to say its answer.
+/// Says how runs end in which one call of the desk fails, and how many of them said nothing. The
+/// folder is made by five calls, and a run makes one to list it, two for each file, and one to say
+/// its answer.
 pub fn try_failing(rt: &HostRuntime) -> Result<()> {
     let cup = fs::read(rt, "club.cup")?;
     let mut failed: u64 = 0;

@@ -1,6 +1,6 @@
-//! Worked examples of `new-day`, as a program: it says which changes of the files in `data/` are answered
-//! otherwise than `stdin` expects, and then what is made of whole files. The gate compares what it says
-//! with `stdout`. The expected answers and texts were written by hand.
+//! Worked examples of `new-day`, as a program: it says which changes of the files in `data/` are
+//! answered otherwise than `stdin` expects, and then what is made of whole files. The gate compares
+//! what it says with `stdout`. The expected answers and texts were written by hand.
 #![tactic(auto)]
 
 mod change;

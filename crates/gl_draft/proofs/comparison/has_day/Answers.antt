@@ -1,6 +1,5 @@
 use Rattle.std.proofs.Common.{rules, pos, ◌≡◌}
 use Rattle.std.specs.Prelude.{IfSome}
-use Rattle.gl_draft.specs.Draft.{HasDay, HasKind}
 use Rattle.gl_draft.proofs.comparison.has_day.Goals as goal
 
 pub returns : goal.returns
