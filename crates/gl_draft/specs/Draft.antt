@@ -147,8 +147,3 @@ pub record IsDraftText (draft : Draft) (text : List ℕ) : Type 0 where
   pub has : HasDraft draft task
   pub marked_refused : list_any is_open lines ≡ true → IsNoTask text
   pub whole_reads : list_any is_open lines ≡ false → IsReadFrom text task
-
--- a text that is made for something
-pub record IsMade (text : List ℕ) : Type 0 where
-  pub draft : Draft
-  pub is : IsDraftText draft text

@@ -3,4 +3,5 @@ pub mod Draft
 pub mod Folder
 pub mod Line
 pub mod Run
+pub mod Taken
 pub mod Words

@@ -1,12 +1,12 @@
-ghost use Rattle.std.specs.Prelude.{◌≡◌, ◌≢◌, ◌↔◌, IfOk, IfErr, IsNone};
+ghost use Rattle.std.specs.Prelude.{◌≡◌, ◌≢◌, ◌↔◌, None, Some, IfOk, IfErr, IsNone};
 ghost use Rattle.gl_desk.specs.Answers.{OnlyReads, stop_of};
-ghost use Rattle.gl_desk.specs.Desk.{FilesByName};
-ghost use Rattle.gl_draft.specs.Causes.{IsNoFault, stop_in};
-ghost use Rattle.gl_draft.specs.Draft.{IsMade};
+ghost use Rattle.gl_desk.specs.Desk.{FilesByName, IsSeenIn};
+ghost use Rattle.gl_draft.specs.Causes.{IsNoFault, stop_at, stop_in};
+ghost use Rattle.gl_draft.specs.Taken.{IsDraftOf, IsMade, IsTaskIn, IsTextOf};
 ghost use Rattle.gl_draft.specs.Folder.{HaveFiles};
 ghost use Rattle.gl_draft.specs.Run.{IsAnswer, IsRun};
 ghost use Rattle.std.specs.Prelude.{Option};
-ghost use Rattle.gl_draft.specs.Words.{words_of};
+ghost use Rattle.gl_draft.specs.Words.{asked_by, words_of};
 
 use crate::answer::Status;
 use crate::course::{Course, course_of, kind_of};
@@ -30,7 +30,9 @@ fn read_file<D: Desk>(
     file: &Name,
 ) -> Result<Vec<u8>, Cause>
     requires { HaveFiles (D.told desk.old).folder names.now }
-    ensures { OnlyReads (stop_in result) (D.told desk.old) (D.told desk.new) }
+    ensures seen { IfOk result (λ bytes.
+        IsSeenIn (D.told desk.old).folder file.now (Some bytes.items)) }
+    ensures reads { OnlyReads (stop_in result) (D.told desk.old) (D.told desk.new) }
 {
     if !names.contains(file) {
         return Err(Cause::NotListed);
@@ -51,10 +53,12 @@ fn read_task_file<D: Desk>(
     words: Words<'_>,
 ) -> Result<CupTask, Cause>
     requires { HaveFiles (D.told desk.old).folder names.now }
-    ensures { OnlyReads (stop_in result) (D.told desk.old) (D.told desk.new) }
+    ensures task { IfOk result (IsTaskIn (D.told desk.old).folder (asked_by words.entry)) }
+    ensures reads { OnlyReads (stop_in result) (D.told desk.old) (D.told desk.new) }
 {
     let bytes = read_file(alloc, desk, names, words.file)?;
-    Ok(read_cup(alloc, &bytes, words.task)?)
+    let task = read_cup(alloc, &bytes, words.task)?;
+    Ok(task)
 }
 
 /// Names in the order of their bytes.
@@ -75,7 +79,9 @@ fn see_listed<D: Desk>(
     words: Words<'_>,
 ) -> Result<(CupTask, Recordings), Cause>
     requires { HaveFiles (D.told desk.old).folder names.items }
-    ensures { OnlyReads (stop_in result) (D.told desk.old) (D.told desk.new) }
+    ensures task { IfOk result (λ seen.
+        IsTaskIn (D.told desk.old).folder (asked_by words.entry) seen.0) }
+    ensures reads { OnlyReads (stop_in result) (D.told desk.old) (D.told desk.new) }
 {
     let task = read_task_file(alloc, desk, &names, words)?;
     let names = sorted(names)?;
@@ -89,7 +95,9 @@ fn see_folder<D: Desk>(
     desk: &mut D,
     words: Words<'_>,
 ) -> Result<(CupTask, Recordings), Cause>
-    ensures { OnlyReads (stop_in result) (D.told desk.old) (D.told desk.new) }
+    ensures task { IfOk result (λ seen.
+        IsTaskIn (D.told desk.old).folder (asked_by words.entry) seen.0) }
+    ensures reads { OnlyReads (stop_in result) (D.told desk.old) (D.told desk.new) }
 {
     let names = desk.names(alloc)?;
     see_listed(alloc, desk, names, words)
@@ -97,7 +105,8 @@ fn see_folder<D: Desk>(
 
 /// The draft of a task and recordings.
 fn draft_of(alloc: Global, task: &CupTask, recordings: Recordings) -> Result<Draft, Cause>
-    ensures { IfErr result IsNoFault }
+    ensures ok { IfOk result (IsDraftOf task.now) }
+    ensures no_fault { IfErr result IsNoFault }
 {
     let Course {
         start,
@@ -127,7 +136,7 @@ fn make_text(
     task: &CupTask,
     recordings: Recordings,
 ) -> Result<Vec<u8>, Cause>
-    ensures made { IfOk result (λ text. IsMade text.items) }
+    ensures made { IfOk result (λ text. IsTextOf task.now text.items) }
     ensures no_fault { IfErr result IsNoFault }
 {
     if recordings.entrants.is_empty() {
@@ -140,11 +149,13 @@ fn make_text(
 
 /// The text of the task file that the words ask for.
 fn make_file<D: Desk>(alloc: Global, desk: &mut D, words: Words<'_>) -> Result<Vec<u8>, Cause>
-    ensures made { IfOk result (λ text. IsMade text.items) }
+    ensures made { IfOk result (λ text.
+        IsMade (D.told desk.old).folder (asked_by words.entry) text.items) }
     ensures reads { OnlyReads (stop_in result) (D.told desk.old) (D.told desk.new) }
 {
     let (task, recordings) = see_folder(alloc, desk, words)?;
-    make_text(alloc, words, &task, recordings)
+    let text = make_text(alloc, words, &task, recordings)?;
+    Ok(text)
 }
 
 /// What a run ends with: the status, and the text that it says.
@@ -176,7 +187,9 @@ fn refuse(alloc: Global, file: &Name, cause: Cause) -> Result<Answer, AllocError
 
 /// The answer to words of the right form.
 fn answer_words<D: Desk>(alloc: Global, desk: &mut D, words: Words<'_>) -> Result<Answer, DeskError>
-    ensures is { IfOk result IsAnswer }
+    ensures goes { IfOk result (λ answer. stop_at answer.status ≡ None) }
+    ensures made { IfOk result (λ answer. answer.status ≡ Status.Done
+        → IsMade (D.told desk.old).folder (asked_by words.entry) answer.text.items) }
     ensures form { IfOk result (λ answer. answer.status ≢ Status.Words) }
     ensures reads { OnlyReads (stop_of result) (D.told desk.old) (D.told desk.new) }
 {
@@ -192,7 +205,7 @@ fn answer_words<D: Desk>(alloc: Global, desk: &mut D, words: Words<'_>) -> Resul
 
 /// The answer to the words.
 fn answer_to<D: Desk>(alloc: Global, words: &[Name], desk: &mut D) -> Result<Answer, DeskError>
-    ensures is { IfOk result IsAnswer }
+    ensures is { IfOk result (IsAnswer (D.told desk.old).folder words.now) }
     ensures form { IfOk result (λ answer.
         (answer.status ≡ Status.Words) ↔ IsNone (words_of words.now)) }
     ensures reads { OnlyReads (stop_of result) (D.told desk.old) (D.told desk.new) }

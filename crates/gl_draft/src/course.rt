@@ -1,4 +1,6 @@
-ghost use Rattle.std.specs.Prelude.{IfErr};
+ghost use Rattle.std.specs.Prelude.{IfErr, IfOk};
+ghost use Rattle.gl_draft.specs.Draft.{Each};
+ghost use Rattle.gl_draft.specs.Taken.{IsCourseOf, IsFinishOf, IsStartOf, IsZoneFor};
 ghost use Rattle.gl_draft.specs.Causes.{IsNoFault};
 
 use crate::draft::{Finish, Kind, Start, Zone};
@@ -16,43 +18,79 @@ pub struct Course {
     pub finish: Finish,
 }
 
+/// The zone of the turn point with a number, or that its zone is of another shape.
+fn turn_zone(alloc: Global, point: &CupPoint, number: u64) -> Result<Zone, Cause>
+    ensures ok { IfOk result (IsZoneFor point.now) }
+    ensures no_fault { IfErr result IsNoFault }
+{
+    match zone_of(alloc, point)? {
+        Some(zone) => Ok(zone),
+        None => Err(Cause::Shape(point.line, number)),
+    }
+}
+
 /// The zones of turn points, which count from 1.
 fn zones_of(alloc: Global, points: &[CupPoint]) -> Result<Vec<Zone>, Cause>
-    ensures { IfErr result IsNoFault }
+    ensures ok { IfOk result (λ zones. Each IsZoneFor points.now zones.items) }
+    ensures no_fault { IfErr result IsNoFault }
 {
     let mut zones = Vec::new(alloc);
-    for (n, point) in points.iter().enumerate() {
-        match zone_of(alloc, point)? {
-            Some(zone) => zones.push(zone)?,
-            None => return Err(Cause::Shape(point.line, (n as u64).saturating_add(1))),
-        }
+    'points: for (n, point) in points.iter().enumerate() {
+        zones.push(turn_zone(alloc, point, (n as u64).saturating_add(1))?)?;
     }
     Ok(zones)
 }
 
-/// The start, the zones and the finish of a task, or the first point whose zone the task file can't
-/// say.
-pub fn course_of(alloc: Global, task: &CupTask) -> Result<Course, Cause>
-    ensures { IfErr result IsNoFault }
+/// The course from a start to the next point, over the turn points, and from the last one to a finish,
+/// or the first point whose zone the task file can't say.
+fn course_over(
+    alloc: Global,
+    from: (&CupPoint, &CupPoint),
+    turns: &[CupPoint],
+    to: (&CupPoint, &CupPoint),
+) -> Result<Course, Cause>
+    ensures start { IfOk result (λ course.
+        IsStartOf from.entry.0.now from.entry.1.now course.start) }
+    ensures zones { IfOk result (λ course. Each IsZoneFor turns.now course.zones.items) }
+    ensures finish { IfOk result (λ course. IsFinishOf to.entry.1.now course.finish) }
+    ensures no_fault { IfErr result IsNoFault }
 {
-    let points = task.points.as_slice();
-    let [start, turns @ .., finish] = points else {
-        return Err(Cause::Differs);
+    let (start, next) = from;
+    let (last, finish) = to;
+    let Some(line) = start_of(start, next) else {
+        return Err(Cause::Shape(start.line, 0));
     };
-    let (Some(first), Some(last)) = (turns.first(), turns.last()) else {
-        return Err(Cause::Differs);
-    };
-    let line = start_of(start, first).ok_or(Cause::Shape(start.line, 0))?;
     let zones = zones_of(alloc, turns)?;
-    let end = finish_of(last, finish).ok_or(Cause::Shape(
-        finish.line,
-        (turns.len() as u64).saturating_add(1),
-    ))?;
+    let Some(end) = finish_of(last, finish) else {
+        return Err(Cause::Shape(finish.line, (turns.len() as u64).saturating_add(1)));
+    };
     Ok(Course {
         start: line,
         zones,
         finish: end,
     })
+}
+
+/// The start, the zones and the finish of a task.
+pub fn course_of(alloc: Global, task: &CupTask) -> Result<Course, Cause>
+    ensures ok { IfOk result (λ course.
+        IsCourseOf task.now course.start course.zones.items course.finish) }
+    ensures no_fault { IfErr result IsNoFault }
+{
+    let Some((start, rest)) = task.points.as_slice().split_first() else {
+        return Err(Cause::Differs);
+    };
+    let Some((finish, turns)) = rest.split_last() else {
+        return Err(Cause::Differs);
+    };
+    let Some(next) = turns.first() else {
+        return Err(Cause::Differs);
+    };
+    let Some(last) = turns.last() else {
+        return Err(Cause::Differs);
+    };
+    let course = course_over(alloc, (start, next), turns, (last, finish))?;
+    Ok(course)
 }
 
 /// The kind of a task: of areas where it has a time, or a zone that is said to be an area.

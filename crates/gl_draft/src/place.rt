@@ -1,6 +1,7 @@
-ghost use Rattle.std.specs.Prelude.{◌≡◌, ◌≤◌, OnOk};
+ghost use Rattle.std.specs.Prelude.{◌≡◌, ◌+◌, ◌≤◌, OnOk};
 ghost use Rattle.gl_sphere.specs.Range.{IsWithin};
 ghost use Rattle.gl_sphere.specs.Sphere.{half_turn, quarter_turn};
+ghost use Rattle.gl_draft.specs.Taken.{IsNear, IsNearPlace};
 
 use gl_sphere::{Grid, dist, sq, vector};
 use std::alloc::{AllocError, Global};
@@ -15,6 +16,8 @@ fn rounded_size(size: u32) -> u32
     requires { size ≤ half_turn }
     ensures half { size ≤ half_turn → result ≤ half_turn }
     ensures quarter { size ≤ quarter_turn → result ≤ quarter_turn }
+    ensures from_below { result ≤ size + 50 }
+    ensures from_above { size ≤ result + 50 }
 {
     (size + THOUSANDTH / 2) / THOUSANDTH * THOUSANDTH
 }
@@ -22,23 +25,33 @@ fn rounded_size(size: u32) -> u32
 /// A latitude at whole thousandths of a minute.
 fn rounded_lat(lat: i32) -> i32
     requires { IsWithin quarter_turn lat }
-    ensures { IsWithin quarter_turn result }
+    ensures within { IsWithin quarter_turn result }
+    ensures near { IsNear lat result }
 {
-    let size = rounded_size(lat.unsigned_abs()) as i32;
-    if lat < 0 { -size } else { size }
+    if lat < 0 {
+        -(rounded_size((-lat) as u32) as i32)
+    } else {
+        rounded_size(lat as u32) as i32
+    }
 }
 
 /// A longitude at whole thousandths of a minute.
 fn rounded_lon(lon: i32) -> i32
     requires { IsWithin half_turn lon }
-    ensures { IsWithin half_turn result }
+    ensures within { IsWithin half_turn result }
+    ensures near { IsNear lon result }
 {
-    let size = rounded_size(lon.unsigned_abs()) as i32;
-    if lon < 0 { -size } else { size }
+    if lon < 0 {
+        -(rounded_size((-lon) as u32) as i32)
+    } else {
+        rounded_size(lon as u32) as i32
+    }
 }
 
 /// The place at whole thousandths of a minute that is nearest to a place.
-pub fn rounded(place: Grid) -> Grid {
+pub fn rounded(place: Grid) -> Grid
+    ensures { IsNearPlace place result }
+{
     Grid {
         lat: rounded_lat(place.lat),
         lon: rounded_lon(place.lon),
