@@ -1,0 +1,13 @@
+pub mod Angle
+pub mod Choice
+pub mod Decimal
+pub mod Detail
+pub mod Pair
+pub mod Reading
+pub mod Refusal
+pub mod Row
+pub mod Waypoint
+pub mod Zone
+pub use Rattle.gl_sphere.specs.PlaceText
+pub use Rattle.gl_text.specs.Digits
+pub use Rattle.gl_text.specs.Lines

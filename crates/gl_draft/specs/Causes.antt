@@ -1,0 +1,82 @@
+-- Why no task file is made, and what stops a run.
+use Rattle.std.specs.Prelude.{◌≡◌, ℕ, Option, None, Some, Result, Ok, Err, ⊤}
+use Rattle.gl_cup.specs.declared.error.CupError.{CupError}
+use Rattle.gl_cup.specs.declared.error.CupError.TheVariants as cup
+use Rattle.gl_desk.specs.declared.error.DeskError.{DeskError}
+use Rattle.gl_desk.specs.declared.error.DeskError.TheVariants as desk
+use Rattle.gl_task.specs.declared.error.TaskError.{TaskError}
+use Rattle.gl_task.specs.declared.error.TaskError.TheVariants as task
+use Rattle.gl_draft.specs.declared.answer.Status.{Status}
+use Rattle.gl_draft.specs.declared.answer.Status.TheVariants as status
+use Rattle.gl_draft.specs.declared.refusal.Cause as code
+use Rattle.gl_draft.specs.declared.refusal.Cause.TheVariants as cause
+
+-- a text that gives no task; want of memory is no such cause
+abbrev pub cause_of_cup : CupError → code.Cause
+cause_of_cup (cup.Row line) = cause.Cup (cup.Row line)
+cause_of_cup cup.Empty = cause.Cup cup.Empty
+cause_of_cup (cup.Header line) = cause.Cup (cup.Header line)
+cause_of_cup (cup.Waypoint line) = cause.Cup (cup.Waypoint line)
+cause_of_cup cup.NoTask = cause.Cup cup.NoTask
+cause_of_cup cup.Several = cause.Cup cup.Several
+cause_of_cup cup.NoSuchTask = cause.Cup cup.NoSuchTask
+cause_of_cup (cup.TooFewPoints line) = cause.Cup (cup.TooFewPoints line)
+cause_of_cup (cup.Unknown line point) = cause.Cup (cup.Unknown line point)
+cause_of_cup (cup.Detail line) = cause.Cup (cup.Detail line)
+cause_of_cup (cup.NoZone line point) = cause.Cup (cup.NoZone line point)
+cause_of_cup cup.Memory = cause.Stopped desk.Memory
+
+-- what a task file can't say, by the number of its refusal
+abbrev pub cause_of_task : TaskError → code.Cause
+cause_of_task task.Toml = cause.Differs
+cause_of_task (task.Missing key) = cause.Task 2 key
+cause_of_task (task.Value key) = cause.Task 3 key
+cause_of_task (task.Twice key) = cause.Task 4 key
+cause_of_task (task.TooMany key) = cause.Task 5 key
+cause_of_task task.Memory = cause.Stopped desk.Memory
+
+-- what stopped the making of a task file, if something did
+abbrev pub stop_of_cause : code.Cause → Option DeskError
+stop_of_cause cause.NotListed = None
+stop_of_cause cause.TooLarge = None
+stop_of_cause cause.NoRecording = None
+stop_of_cause (cause.Cup error) = None
+stop_of_cause (cause.Shape line point) = None
+stop_of_cause (cause.Task number key) = None
+stop_of_cause cause.Differs = None
+stop_of_cause (cause.Stopped stop) = Some stop
+
+-- the outside didn't fail
+abbrev pub IsNoFault : code.Cause → Type 0
+IsNoFault cause.NotListed = ⊤
+IsNoFault cause.TooLarge = ⊤
+IsNoFault cause.NoRecording = ⊤
+IsNoFault (cause.Cup error) = ⊤
+IsNoFault (cause.Shape line point) = ⊤
+IsNoFault (cause.Task number key) = ⊤
+IsNoFault cause.Differs = ⊤
+IsNoFault (cause.Stopped stop) = stop ≡ desk.Memory
+
+abbrev pub stop_in : {X : Type 0} → Result X code.Cause → Option DeskError
+stop_in (Ok x) = None
+stop_in (Err why) = stop_of_cause why
+
+-- what stopped a run before its end, if something did
+abbrev pub stop_at : Status → Option DeskError
+stop_at status.Done = None
+stop_at status.Words = None
+stop_at status.Desk = Some desk.Failed
+stop_at status.Refused = None
+stop_at status.Memory = Some desk.Memory
+
+abbrev pub status_of : DeskError → Status
+status_of desk.Failed = status.Desk
+status_of desk.Memory = status.Memory
+
+-- the number that the program ends with
+abbrev pub number_of_status : Status → ℕ
+number_of_status status.Done = 0
+number_of_status status.Words = 2
+number_of_status status.Desk = 3
+number_of_status status.Refused = 4
+number_of_status status.Memory = 5

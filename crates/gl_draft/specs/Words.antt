@@ -1,0 +1,33 @@
+-- What the words ask for.
+use Rattle.std.specs.Prelude.{ℕ, nat_lt, ◌==◌, ◌||◌, if◌then◌else◌, slice_index, List, [], ◌∷◌, length, Option, None, Some, option_map}
+use Rattle.std.specs.Str.{byte}
+use Rattle.gl_task.specs.Forms.{is_file_name}
+use Rattle.gl_text.specs.Digits.{number_of}
+use Rattle.gl_draft.specs.declared.words.Words as code
+
+-- the number of a task: one to six digits, the first of which isn't 0
+unfoldable pub number_in : List ℕ → Option ℕ
+number_in word =
+    if (length word == 0) || nat_lt 6 (length word) || (slice_index word 0 == byte "0") then None
+    else number_of word
+
+-- a file, and the number of its task, if there is one
+abbrev pub Asked : Type 0
+Asked = List ℕ × Option ℕ
+
+abbrev pub file_alone : List ℕ → Option Asked
+file_alone file = if is_file_name file then Some (file, None) else None
+
+abbrev pub pair_of : List ℕ → List ℕ → Option Asked
+pair_of file number =
+    if is_file_name file then option_map (λ n. (file, Some n)) (number_in number) else None
+
+-- what the words ask for, where they are of the form
+abbrev pub words_of : List (List ℕ) → Option Asked
+words_of [] = None
+words_of (file ∷ []) = file_alone file
+words_of (file ∷ number ∷ []) = pair_of file number
+words_of (file ∷ number ∷ more ∷ rest) = None
+
+abbrev pub asked_by : code.Words → Asked
+asked_by words = (words.file.now, words.task)

@@ -1,0 +1,248 @@
+ghost use Rattle.std.specs.Prelude.{◌≡◌, IsTrue, IfSome, pos};
+ghost use Rattle.gl_draft.specs.Draft.{Each, HasCourse, HasDay, HasDraft, HasEntrant, HasFinish, HasKind, HasPart, HasParts, HasRadials, HasSector, HasStart, HasZone, IsAt, IsMetres};
+
+use crate::draft::{Draft, Finish, Kind, Part, Sector, Start, Zone};
+use crate::entrant::Entrant;
+use gl_desk::Name;
+use gl_sphere::{Grid, Vec3, vector};
+use gl_task::{Finish as TaskFinish, Kind as TaskKind, Task};
+use gl_zone::{Line, Part as TaskPart, Sector as TaskSector, Zone as TaskZone};
+
+/// A metre, in centimetres.
+const METRE: u64 = 100;
+
+/// Whether a length is so many metres.
+fn is_length(centimetres: u64, metres: u32) -> bool
+    ensures { IsTrue result → IsMetres centimetres metres }
+{
+    centimetres == u64::from(metres) * METRE
+}
+
+/// Whether a point is that of a place.
+fn is_at(point: Vec3, place: Grid) -> bool
+    ensures { IsTrue result → IsAt point place }
+{
+    let at = vector(place);
+    point.x == at.x && point.y == at.y && point.z == at.z
+}
+
+/// Whether a line is the start that was taken.
+fn has_start(start: Start, line: Line) -> bool
+    ensures { IsTrue result → HasStart start line }
+{
+    is_at(line.centre, start.at)
+        && is_at(line.towards, start.towards)
+        && is_length(line.half, start.half)
+}
+
+/// Whether a sector has the radials that are known.
+fn has_radials(radials: Option<(u32, u32)>, made: TaskSector) -> bool
+    ensures { IsTrue result → HasRadials radials made }
+{
+    match radials {
+        Some((from, to)) => made.from == from && made.to == to,
+        None => true,
+    }
+}
+
+/// Whether a sector is the one that was taken.
+fn has_sector(centre: Grid, sector: Sector, made: TaskSector) -> bool
+    ensures { IsTrue result → HasSector centre sector made }
+{
+    is_at(made.centre, centre)
+        && made.inner == 0
+        && is_length(made.outer, sector.outer)
+        && has_radials(sector.radials, made)
+}
+
+/// Whether a part is the one that was taken.
+fn has_part(centre: Grid, part: Part, made: TaskPart) -> bool
+    ensures { IsTrue result → HasPart centre part made }
+{
+    match part {
+        Part::Circle(radius) => match made {
+            TaskPart::Cylinder(circle) => {
+                is_at(circle.centre, centre) && is_length(circle.radius, radius)
+            }
+            TaskPart::Sector(_) => false,
+        },
+        Part::Sector(sector) => match made {
+            TaskPart::Cylinder(_) => false,
+            TaskPart::Sector(made) => has_sector(centre, sector, made),
+        },
+    }
+}
+
+/// Whether parts are the one or the two that were taken.
+fn has_parts(centre: Grid, first: Part, second: Option<Part>, made: &[TaskPart]) -> bool
+    ensures { IsTrue result → HasParts centre first second made.now }
+{
+    match second {
+        None => match made {
+            [part] => has_part(centre, first, *part),
+            _ => false,
+        },
+        Some(second) => match made {
+            [part, other] => has_part(centre, first, *part) && has_part(centre, second, *other),
+            _ => false,
+        },
+    }
+}
+
+/// Whether a zone is the one that was taken.
+fn has_zone(zone: &Zone, made: &TaskZone) -> bool
+    ensures { IsTrue result → HasZone zone.now made.now }
+{
+    is_at(made.centre, zone.at) && has_parts(zone.at, zone.part, zone.second, made.parts.as_slice())
+}
+
+/// Whether zones are those that were taken.
+fn has_zones(zones: &[Zone], made: &[TaskZone]) -> bool
+    ensures { IsTrue result → Each HasZone zones.now made.now }
+{
+    let mut left = zones;
+    let mut right = made;
+    'zones: while let Some((zone, rest)) = left.split_first() {
+        let Some((one, others)) = right.split_first() else {
+            return false;
+        };
+        if !has_zone(zone, one) {
+            return false;
+        }
+        left = rest;
+        right = others;
+    }
+    right.is_empty()
+}
+
+/// Whether a finish is the one that was taken.
+fn has_finish(finish: Finish, made: TaskFinish) -> bool
+    ensures { IsTrue result → HasFinish finish made }
+{
+    match finish {
+        Finish::Ring { at, radius } => match made {
+            TaskFinish::Ring {
+                at: point,
+                radius: length,
+            } => is_at(point, at) && is_length(length, radius),
+            TaskFinish::Gate(_) => false,
+        },
+        Finish::Gate {
+            at,
+            before: _,
+            half,
+        } => match made {
+            TaskFinish::Ring { .. } => false,
+            TaskFinish::Gate(line) => is_at(line.centre, at) && is_length(line.half, half),
+        },
+    }
+}
+
+/// Whether a kind is the one that was taken.
+fn has_kind(kind: Kind, made: TaskKind) -> bool
+    ensures { IsTrue result → HasKind kind made }
+{
+    match kind {
+        Kind::Racing => match made {
+            TaskKind::Racing => true,
+            TaskKind::Area { .. } => false,
+        },
+        Kind::Area { minimum } => match made {
+            TaskKind::Racing => false,
+            TaskKind::Area { minimum: seconds } => match minimum {
+                Some(known) => seconds == known,
+                None => true,
+            },
+        },
+    }
+}
+
+/// Whether a name is the number that is known.
+fn has_number(number: &Option<Name>, made: &Name) -> bool
+    ensures { IsTrue result → IfSome number.now (λ known. made.now ≡ known) }
+{
+    match number {
+        Some(known) => made == known,
+        None => true,
+    }
+}
+
+/// Whether an entrant is the one that was taken.
+fn has_entrant(entrant: &Entrant, made: &gl_task::Entrant) -> bool
+    ensures { IsTrue result → HasEntrant entrant.now made.now }
+{
+    has_number(&entrant.number, &made.number)
+        && made.name == entrant.name
+        && made.handicap == 1_000
+        && made.file == entrant.file
+}
+
+/// Whether entrants are those that were taken.
+fn has_entrants(entrants: &[Entrant], made: &[gl_task::Entrant]) -> bool
+    ensures { IsTrue result → Each HasEntrant entrants.now made.now }
+{
+    let mut left = entrants;
+    let mut right = made;
+    'entrants: while let Some((entrant, rest)) = left.split_first() {
+        let Some((one, others)) = right.split_first() else {
+            return false;
+        };
+        if !has_entrant(entrant, one) {
+            return false;
+        }
+        left = rest;
+        right = others;
+    }
+    right.is_empty()
+}
+
+/// Whether a day is the one that is known.
+fn has_date(date: Option<i32>, made: i32) -> bool
+    ensures { IsTrue result → IfSome date (λ known. made ≡ known) }
+{
+    match date {
+        Some(known) => made == known,
+        None => true,
+    }
+}
+
+/// Whether a second is the one that is known.
+fn has_second(second: Option<u32>, made: i32) -> bool
+    ensures { IsTrue result → IfSome second (λ known. made ≡ pos known) }
+{
+    match second {
+        Some(known) => i64::from(made) == i64::from(known),
+        None => true,
+    }
+}
+
+/// Whether a task has the day, the opening and the kind that are known.
+fn has_day(draft: &Draft, task: &Task) -> bool
+    ensures { IsTrue result → HasDay draft.now task.now }
+{
+    if !has_date(draft.date, task.date) {
+        return false;
+    }
+    if !has_second(draft.opens, task.start.opens) {
+        return false;
+    }
+    has_kind(draft.kind, task.kind)
+}
+
+/// Whether a task has the start, the zones and the finish that were taken.
+fn has_course(draft: &Draft, task: &Task) -> bool
+    ensures { IsTrue result → HasCourse draft.now task.now }
+{
+    has_start(draft.start, task.start.line)
+        && has_zones(draft.zones.as_slice(), task.zones.as_slice())
+        && has_finish(draft.finish, task.finish)
+}
+
+/// Whether a task has all that was taken.
+pub fn has_draft(draft: &Draft, task: &Task) -> bool
+    ensures { IsTrue result → HasDraft draft.now task.now }
+{
+    has_day(draft, task)
+        && has_course(draft, task)
+        && has_entrants(draft.entrants.as_slice(), task.entrants.as_slice())
+}

@@ -1,0 +1,68 @@
+ghost use Rattle.std.specs.Prelude.{◌≤◌};
+
+use crate::entrant::Entrant;
+use gl_cup::Field;
+use gl_igc::Items;
+use gl_sphere::Grid;
+
+/// The kind of a task; the minimum of an area task in seconds, if it is known.
+#[derive(Clone, Copy, Debug, PartialEq, Eq)]
+pub enum Kind {
+    Racing,
+    Area { minimum: Option<u32> },
+}
+
+/// A start line: its middle, the place ahead, and its half width in metres.
+#[derive(Clone, Copy, Debug)]
+pub struct Start {
+    pub at: Grid,
+    pub towards: Grid,
+    pub half: u32,
+}
+
+/// A sector to its radius in metres. Its radials, in thousandths of a degree, are known or not.
+#[derive(Clone, Copy, Debug, PartialEq, Eq)]
+pub struct Sector {
+    pub outer: u32,
+    pub half_angle: u32,
+    pub radials: Option<(u32, u32)>,
+}
+
+/// A part of a zone: a circle of a radius in metres, or a sector.
+#[derive(Clone, Copy, Debug, PartialEq, Eq)]
+pub enum Part {
+    Circle(u32),
+    Sector(Sector),
+}
+
+/// A zone about its centre: a part, and perhaps a second one.
+#[derive(Debug, Drop)]
+pub struct Zone {
+    pub name: Field,
+    pub at: Grid,
+    pub part: Part,
+    pub second: Option<Part>,
+}
+
+/// A finish: a ring of a radius in metres, or a line of a half width, which is crossed away from
+/// the point before.
+#[derive(Clone, Copy, Debug)]
+pub enum Finish {
+    Ring { at: Grid, radius: u32 },
+    Gate { at: Grid, before: Grid, half: u32 },
+}
+
+/// All that is taken into a task file. What is left out is for the scorer to fill in, and so are
+/// the ends of the start and of the day.
+#[derive(Debug, Drop)]
+pub struct Draft {
+    /// The day, as the number of days from 1970-01-01.
+    pub date: Option<i32>,
+    pub kind: Kind,
+    /// When the start opens, in seconds of the day.
+    pub opens: Option<u32>,
+    pub start: Start,
+    pub zones: Items<Zone>,
+    pub finish: Finish,
+    pub entrants: Items<Entrant>,
+}

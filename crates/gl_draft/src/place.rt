@@ -1,0 +1,79 @@
+ghost use Rattle.std.specs.Prelude.{◌≡◌, ◌+◌, ◌≤◌, OnOk};
+ghost use Rattle.gl_sphere.specs.Range.{IsWithin};
+ghost use Rattle.gl_sphere.specs.Sphere.{half_turn, quarter_turn};
+ghost use Rattle.gl_draft.specs.Taken.{IsNear, IsNearPlace};
+
+use gl_sphere::{Grid, dist, sq, vector};
+use std::alloc::{AllocError, Global};
+
+/// A degree and a thousandth of a minute, in 1/100,000 minute.
+const DEGREE: u32 = 6_000_000;
+
+const THOUSANDTH: u32 = 100;
+
+/// The size at whole thousandths of a minute that is nearest to a size.
+fn rounded_size(size: u32) -> u32
+    requires { size ≤ half_turn }
+    ensures half { size ≤ half_turn → result ≤ half_turn }
+    ensures quarter { size ≤ quarter_turn → result ≤ quarter_turn }
+    ensures from_below { result ≤ size + 50 }
+    ensures from_above { size ≤ result + 50 }
+{
+    (size + THOUSANDTH / 2) / THOUSANDTH * THOUSANDTH
+}
+
+/// A latitude at whole thousandths of a minute.
+fn rounded_lat(lat: i32) -> i32
+    requires { IsWithin quarter_turn lat }
+    ensures within { IsWithin quarter_turn result }
+    ensures near { IsNear lat result }
+{
+    if lat < 0 {
+        -(rounded_size((-lat) as u32) as i32)
+    } else {
+        rounded_size(lat as u32) as i32
+    }
+}
+
+/// A longitude at whole thousandths of a minute.
+fn rounded_lon(lon: i32) -> i32
+    requires { IsWithin half_turn lon }
+    ensures within { IsWithin half_turn result }
+    ensures near { IsNear lon result }
+{
+    if lon < 0 {
+        -(rounded_size((-lon) as u32) as i32)
+    } else {
+        rounded_size(lon as u32) as i32
+    }
+}
+
+/// The place at whole thousandths of a minute that is nearest to a place.
+pub fn rounded(place: Grid) -> Grid
+    ensures { IsNearPlace place result }
+{
+    Grid {
+        lat: rounded_lat(place.lat),
+        lon: rounded_lon(place.lon),
+    }
+}
+
+/// How far apart two places are, in centimetres.
+pub fn distance(one: Grid, other: Grid) -> u64 {
+    dist(sq(vector(one), vector(other)))
+}
+
+/// The text of a place at whole thousandths of a minute, as the task file has it.
+pub fn place_text(alloc: Global, place: Grid) -> Result<String, AllocError> {
+    let lat = place.lat.unsigned_abs();
+    let lon = place.lon.unsigned_abs();
+    let north = if place.lat < 0 { 'S' } else { 'N' };
+    let east = if place.lon < 0 { 'W' } else { 'E' };
+    let lat_degrees = lat / DEGREE;
+    let lat_minutes = lat % DEGREE / THOUSANDTH;
+    let lon_degrees = lon / DEGREE;
+    let lon_minutes = lon % DEGREE / THOUSANDTH;
+    format!(in alloc;
+        "\"{lat_degrees:02}{lat_minutes:05}{north}{lon_degrees:03}{lon_minutes:05}{east}\""
+    )
+}

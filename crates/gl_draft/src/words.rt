@@ -1,0 +1,62 @@
+ghost use Rattle.std.specs.Prelude.{◌≡◌, option_map};
+ghost use Rattle.gl_draft.specs.Words.{asked_by, file_alone, number_in, pair_of, words_of};
+
+use crate::form::is_file_name;
+use gl_desk::Name;
+
+/// The line for words of another form.
+pub const USAGE: &str = "usage: TASK.CUP | TASK.CUP NUMBER\n";
+
+/// What the words ask for: the file, and the number of its task, if there is one.
+#[derive(Clone, Copy, Debug)]
+pub struct Words<'a> {
+    pub file: &'a Name,
+    pub task: Option<u32>,
+}
+
+/// The number of a task: one to six digits, the first of which isn't 0.
+#[tactic(auto, unfolding(crate::specs::Words::number_in))]
+fn number_in(word: &[u8]) -> Option<u32>
+    ensures { result ≡ number_in word.now }
+{
+    if word.is_empty() || word.len() > 6 || word[0] == b'0' {
+        return None;
+    }
+    gl_text::read_digits(word)
+}
+
+/// A file and the number of its task.
+fn read_pair<'a>(file: &'a Name, number: &Name) -> Option<Words<'a>>
+    ensures { option_map asked_by result ≡ pair_of file.now number.now }
+{
+    if !is_file_name(file.as_str()) {
+        return None;
+    }
+    let task = number_in(number.as_str().as_bytes())?;
+    Some(Words {
+        file,
+        task: Some(task),
+    })
+}
+
+/// A file alone.
+fn read_file(file: &Name) -> Option<Words<'_>>
+    ensures { option_map asked_by result ≡ file_alone file.now }
+{
+    if is_file_name(file.as_str()) {
+        Some(Words { file, task: None })
+    } else {
+        None
+    }
+}
+
+/// What the words ask for, where they are a file and perhaps a number.
+pub fn read_words(words: &[Name]) -> Option<Words<'_>>
+    ensures { option_map asked_by result ≡ words_of words.now }
+{
+    match words {
+        [file] => read_file(file),
+        [file, number] => read_pair(file, number),
+        _ => None,
+    }
+}
