@@ -86,6 +86,9 @@ from_map f (x ∷ xs) y (suc k) inside at =
     (found.0, behind x xs found.0 found.1, found.2)
 
 module _ {X : Type 0} (key : X → List ℕ) where
+  abbrev worth : List ℕ → X → ℕ
+  worth text x = cond (is_text text (key x)) 1 0
+
   -- a key that is counted stands there
   pub counted_some : (text : List ℕ) (xs : List X) → 0 < count_by (λ x. is_text text (key x)) xs → (x : X) × Contains xs x × (text ≡ key x)
   counted_some text [] some = absurd (omega (arith, some))
@@ -93,18 +96,18 @@ module _ {X : Type 0} (key : X → List ℕ) where
       ⊎_elim
       (λ (is : is_text text (key x) ≡ true). (x, (0, omega arith, refl), text_same text (key x) is))
       (λ (is : is_text text (key x) ≡ false).
-      let nothing : cond (is_text text (key x)) 1 0 ≡ 0 = ap (λ (b : Bool). cond b 1 0) is in
-      let found = counted_some text xs (omega (arith, some, nothing, sum_by-cons (λ z. cond (is_text text (key z)) 1 0) x xs)) in
+      let nothing : worth text x ≡ 0 = ap (λ (b : Bool). cond b 1 0) is in
+      let found = counted_some text xs (omega (arith, some, nothing, sum_by-cons (worth text) x xs)) in
       (found.0, behind x xs found.0 found.1, found.2))
       (cases_Bool (is_text text (key x)))
 
   none_counted : (text : List ℕ) (xs : List X) → count_by (λ x. is_text text (key x)) xs ≡ 0 → All (λ x. text ≢ key x) xs
   none_counted text [] none = All-nil (λ x. text ≢ key x)
   none_counted text (x ∷ xs) none =
-      let whole = sum_by-cons (λ z. cond (is_text text (key z)) 1 0) x xs in
+      let whole = sum_by-cons (worth text) x xs in
       All-cons (λ z. text ≢ key z) x xs
       (λ same.
-      let one : cond (is_text text (key x)) 1 0 ≡ 1 = ap (λ (b : Bool). cond b 1 0) (text_is text (key x) same) in
+      let one : worth text x ≡ 1 = ap (λ (b : Bool). cond b 1 0) (text_is text (key x) same) in
       absurd (omega (arith, whole, one, none)))
       (none_counted text xs (omega (arith, whole, none)))
 
@@ -113,8 +116,8 @@ module _ {X : Type 0} (key : X → List ℕ) where
   keys_apart [] once = pairs_nil (λ (one other : X). key one ≢ key other)
   keys_apart (x ∷ xs) once =
       let P : X → Type 0 = λ y. count_by (λ z. is_text (key y) (key z)) (x ∷ xs) ≤ 1 in
-      let one : cond (is_text (key x) (key x)) 1 0 ≡ 1 = ap (λ (b : Bool). cond b 1 0) (text_is (key x) (key x) refl) in
-      let none : count_by (λ z. is_text (key x) (key z)) xs ≡ 0 = omega (arith, one, All-head P x xs once, sum_by-cons (λ z. cond (is_text (key x) (key z)) 1 0) x xs) in
+      let one : worth (key x) x ≡ 1 = ap (λ (b : Bool). cond b 1 0) (text_is (key x) (key x) refl) in
+      let none : count_by (λ z. is_text (key x) (key z)) xs ≡ 0 = omega (arith, one, All-head P x xs once, sum_by-cons (worth (key x)) x xs) in
       AllPairs-cons (λ (one other : X). key one ≢ key other) x xs (none_counted (key x) xs none)
       (keys_apart xs (fewer xs (All-tail P x xs once)))
     where
@@ -123,7 +126,7 @@ module _ {X : Type 0} (key : X → List ℕ) where
       fewer (y ∷ ys) few =
           let P : X → Type 0 = λ w. count_by (λ z. is_text (key w) (key z)) (x ∷ xs) ≤ 1 in
           All-cons (λ w. count_by (λ z. is_text (key w) (key z)) xs ≤ 1) y ys
-          (omega (arith, All-head P y ys few, sum_by-cons (λ z. cond (is_text (key y) (key z)) 1 0) x xs))
+          (omega (arith, All-head P y ys few, sum_by-cons (worth (key y)) x xs))
           (fewer ys (All-tail P y ys few))
 
   module _ (cmp : X → X → Ordering) (order : IsTotalOrder cmp) (tie : (a b : X) → cmp a b ≡ Equal → key a ≡ key b) (plain : X → X) (as_plain : (a b : X) → cmp (plain a) (plain b) ≡ cmp a b) where

@@ -9,4 +9,4 @@ returns c =
     let parted = IsPartitionedBy-leb (λ total. total) c.args.totals.now c.args.total c.requires.sorted in
     let point = IsPartitionPoint-from_clause (λ other. leb other c.args.total) c.args.totals.now _ c.partition_point-not_greater.ensures.partitioned parted (λ a r q k. search rules) in
     let is = rank_at c.args.total c.args.totals.now c.partition_point-not_greater.result c.partition_point-not_greater.ensures.bound point in
-    omega (arith, is, c.len.ensures)
+    omega (arith, is)
