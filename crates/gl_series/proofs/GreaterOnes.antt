@@ -1,9 +1,9 @@
 -- How many totals are greater than one, from the place behind those that aren't.
-use Rattle.std.proofs.Common.{◌≡◌, ◌∙◌, sym, ap, refl, ℕ, ◌+◌, ◌-◌, ◌<◌, ◌≤◌, Bool, true, false, leb, leb-true, List, [], ◌∷◌, ◌++◌, length, get_or, take, drop, arith}
+use Rattle.std.proofs.Common.{◌≡◌, ap, refl, ℕ, ◌+◌, ◌-◌, ◌<◌, ◌≤◌, Bool, true, false, leb, leb-true, List, [], ◌∷◌, length, get_or, take, drop, arith}
 use Rattle.std.specs.Prelude.{All, cond, count_by, nat_lt}
 use Rattle.std.specs.List.Sorted.{IsPartitionPoint}
 use Rattle.std.proofs.lemmas.Bool.{le-ltb, leb-false, lt-ltb}
-use Rattle.std.proofs.lemmas.List.{get_or-drop, get_or-take, length-drop, length-take-le, take-append-drop}
+use Rattle.std.proofs.lemmas.List.{get_or-drop, get_or-take, length-drop, length-take-le}
 use Rattle.std.proofs.lemmas.List.Elements.{All-from_get_or, All-head, All-tail}
 use Rattle.std.proofs.lemmas.List.Sums.{sum_by-cons, sum_by-take-drop}
 use Rattle.gl_series.specs.Totals.{rank_of}
@@ -28,11 +28,11 @@ module _ (total : ℕ) where
   rank_at totals place within point =
       let long = length-take-le place totals within in
       let front : All (λ x. x ≤ total) (take place totals) = All-from_get_or (λ x. x ≤ total) (take place totals) 0 (λ k below.
-          let before : k < place = omega (arith, below, long) in
-          let is : get_or (take place totals) k 0 ≡ get_or totals k 0 = get_or-take place totals k 0 before in
-          omega (arith, is, leb-true (get_or totals k 0) total (point.0 k 0 (omega arith) before))) in
+      let before : k < place = omega (arith, below, long) in
+      let is : get_or (take place totals) k 0 ≡ get_or totals k 0 = get_or-take place totals k 0 before in
+      omega (arith, is, leb-true (get_or totals k 0) total (point.0 k 0 (omega arith) before))) in
       let back : All (λ x. total < x) (drop place totals) = All-from_get_or (λ x. total < x) (drop place totals) 0 (λ k below.
-          let within : place + k < length totals = omega (arith, below, length-drop place totals) in
-          let is : get_or (drop place totals) k 0 ≡ get_or totals (place + k) 0 = get_or-drop place totals k 0 in
-          omega (arith, is, leb-false (get_or totals (place + k) 0) total (point.1 (place + k) 0 (omega arith) within))) in
+      let within : place + k < length totals = omega (arith, below, length-drop place totals) in
+      let is : get_or (drop place totals) k 0 ≡ get_or totals (place + k) 0 = get_or-drop place totals k 0 in
+      omega (arith, is, leb-false (get_or totals (place + k) 0) total (point.1 (place + k) 0 (omega arith) within))) in
       omega (arith, none_greater (take place totals) front, all_greater (drop place totals) back, sum_by-take-drop worth totals place, length-drop place totals)

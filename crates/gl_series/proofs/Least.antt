@@ -1,5 +1,5 @@
 -- The greatest sum over the choices that leave out so many is that over all but the least ones.
-use Rattle.std.proofs.Common.{◌≡◌, ◌≢◌, ◌∙◌, sym, ap, subst, refl, ℕ, zero, suc, ◌+◌, ◌-◌, ◌<◌, ◌≤◌, List, [], ◌∷◌, ◌++◌, length, map, get_or, take, drop, arith}
+use Rattle.std.proofs.Common.{◌≡◌, ◌∙◌, sym, ap, subst, refl, ℕ, ◌+◌, ◌-◌, ◌<◌, ◌≤◌, List, [], ◌∷◌, ◌++◌, length, map, get_or, take, drop, arith}
 use Rattle.std.specs.Prelude.{All, min, sum_by}
 use Rattle.std.specs.List.Sorted.{IsNonDecreasingBy, IsPermutation}
 use Rattle.std.proofs.lemmas.List.{drop-map, drop_all, get_or-drop, get_or-map, get_or-take, length-append, length-drop, length-map, length-take-le, take-append-drop, take-map}
@@ -8,7 +8,7 @@ use Rattle.std.proofs.lemmas.List.Sorted.{All-permutation, IsPermutation-append_
 use Rattle.std.proofs.lemmas.List.Sums.{sum_by-append, sum_by-cons, sum_by-take-drop}
 use Rattle.gl_series.specs.declared.day.DaySheet.{DaySheet}
 use Rattle.gl_series.specs.declared.scored.Scored.{Scored}
-use Rattle.gl_series.specs.Choices.{IsChoice, IsTotal, points_on}
+use Rattle.gl_series.specs.Choices.{IsChoice, points_on}
 use Rattle.gl_series.specs.Tallies.{AreInOrder, AreScored, IsTally}
 
 module _ {X : Type 0} (p : X → ℕ) where

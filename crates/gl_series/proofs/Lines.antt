@@ -1,9 +1,9 @@
 -- The line of an entry is that of no other entry, and the first line that doesn't read is the one
 -- that is told.
-use Rattle.std.proofs.Common.{◌≡◌, ◌≢◌, ◌∙◌, sym, ap, subst, refl, inl, inr, ℕ, suc, ◌+◌, ◌<◌, ◌≤◌, List, [], ◌∷◌, ◌++◌, length, get_or, drop, append_assoc, Result, Ok, Err, arith}
-use Rattle.std.specs.Prelude.{All, IfOk, IfErr, IsErrOf, MatchResult, ◌⊎◌, codes}
+use Rattle.std.proofs.Common.{◌≡◌, ◌∙◌, sym, ap, subst, refl, inl, inr, ℕ, suc, ◌+◌, List, [], ◌∷◌, ◌++◌, length, get_or, drop, append_assoc, Result, Ok, Err, arith}
+use Rattle.std.specs.Prelude.{IfOk, IfErr, IsErrOf, ◌⊎◌}
 use Rattle.std.specs.List.{AllZip, flat_map}
-use Rattle.std.proofs.lemmas.List.{append-nil, length-append}
+use Rattle.std.proofs.lemmas.List.{append-nil}
 use Rattle.gl_text.specs.Lines.{lines_of}
 use Rattle.gl_series.specs.declared.entry.Entry.{Entry}
 use Rattle.gl_series.specs.declared.entry.Entry.TheVariants.{Day, Team}

@@ -1,5 +1,5 @@
 -- Sorted lists with the same items, no two of one key, are one.
-use Rattle.std.proofs.Common.{◌≡◌, ◌≢◌, ◌∙◌, sym, ap, subst, refl, inl, inr, ℕ, zero, suc, ◌+◌, ◌<◌, ◌≤◌, Bool, true, false, List, [], ◌∷◌, ◌++◌, length, map, get_or, arith, ⊎_elim}
+use Rattle.std.proofs.Common.{◌≡◌, ◌≢◌, ◌∙◌, sym, ap, subst, refl, inl, inr, ℕ, zero, suc, ◌<◌, ◌≤◌, Bool, true, false, List, [], ◌∷◌, length, map, get_or, arith, ⊎_elim}
 use Rattle.std.specs.Prelude.{◌⊎◌, All, AllPairs, Contains, cond, count_by}
 use Rattle.std.specs.declared.cmp.Ordering.{Ordering}
 use Rattle.std.specs.declared.cmp.Ordering.TheVariants.{Less, Equal, Greater}
@@ -13,7 +13,7 @@ use Rattle.std.proofs.lemmas.List.Kept.{AllPairs-cons}
 use Rattle.std.proofs.lemmas.List.Sorted.{ranks_by, sorted_far}
 use Rattle.std.proofs.lemmas.List.Sums.{sum_by-cons}
 use Rattle.gl_series.specs.Forms.{is_text}
-use Rattle.gl_series.proofs.Beside.{text_is, text_not, text_same}
+use Rattle.gl_series.proofs.Beside.{text_is, text_same}
 use Rattle.gl_series.proofs.Growing.{pairs_head, pairs_nil, pairs_tail}
 
 in_cons : {X : Type 0} (y : X) (ys : List X) (x : X) (k : ℕ) → k < length (y ∷ ys) → get_or (y ∷ ys) k x ≡ x → (y ≡ x) ⊎ Contains ys x
@@ -36,27 +36,27 @@ same_items {X} cmp never (x ∷ xs) (y ∷ ys) up over to from =
     let ahead_x = pairs_head before x xs up in
     let ahead_y = pairs_head before y ys over in
     let first : y ≡ x = ⊎_elim (λ (same : y ≡ x). same)
-        (λ (later : Contains ys x). ⊎_elim (λ (same : x ≡ y). sym same)
-        (λ (after : Contains xs y). absurd (never x y (All-contains (before x) xs y ahead_x after) (All-contains (before y) ys x ahead_y later)))
-        (in_cons x xs y y_there.0 y_there.1 y_there.2))
-        (in_cons y ys x x_there.0 x_there.1 x_there.2) in
+    (λ (later : Contains ys x). ⊎_elim (λ (same : x ≡ y). sym same)
+    (λ (after : Contains xs y). absurd (never x y (All-contains (before x) xs y ahead_x after) (All-contains (before y) ys x ahead_y later)))
+    (in_cons x xs y y_there.0 y_there.1 y_there.2))
+    (in_cons y ys x x_there.0 x_there.1 x_there.2) in
     let rest = same_items cmp never xs ys (pairs_tail before x xs up) (pairs_tail before y ys over)
-        (λ z has.
-        let there = to z (behind x xs z has) in
-        let ahead = All-contains (before x) xs z ahead_x has in
-        ⊎_elim (λ (same : y ≡ z).
-        let itself : cmp z z ≡ Less = ap (λ (a : X). cmp a z) (sym same ∙ first) ∙ ahead in
-        absurd (never z z itself itself))
-        (λ (later : Contains ys z). later)
-        (in_cons y ys z there.0 there.1 there.2))
-        (λ z has.
-        let there = from z (behind y ys z has) in
-        let ahead = All-contains (before y) ys z ahead_y has in
-        ⊎_elim (λ (same : x ≡ z).
-        let itself : cmp z z ≡ Less = ap (λ (a : X). cmp a z) (sym same ∙ sym first) ∙ ahead in
-        absurd (never z z itself itself))
-        (λ (later : Contains xs z). later)
-        (in_cons x xs z there.0 there.1 there.2)) in
+    (λ z has.
+    let there = to z (behind x xs z has) in
+    let ahead = All-contains (before x) xs z ahead_x has in
+    ⊎_elim (λ (same : y ≡ z).
+    let itself : cmp z z ≡ Less = ap (λ (a : X). cmp a z) (sym same ∙ first) ∙ ahead in
+    absurd (never z z itself itself))
+    (λ (later : Contains ys z). later)
+    (in_cons y ys z there.0 there.1 there.2))
+    (λ z has.
+    let there = from z (behind y ys z has) in
+    let ahead = All-contains (before y) ys z ahead_y has in
+    ⊎_elim (λ (same : x ≡ z).
+    let itself : cmp z z ≡ Less = ap (λ (a : X). cmp a z) (sym same ∙ sym first) ∙ ahead in
+    absurd (never z z itself itself))
+    (λ (later : Contains xs z). later)
+    (in_cons x xs z there.0 there.1 there.2)) in
     let head = sym first in
     λ i. head i ∷ rest i
 

@@ -1,5 +1,5 @@
 -- There is one standing of given sheets.
-use Rattle.std.proofs.Common.{◌≡◌, ◌≢◌, ◌∙◌, sym, ap, subst, refl, ℕ, zero, suc, ◌+◌, ◌<◌, ◌≤◌, Bool, List, [], ◌∷◌, ◌++◌, length, map, get_or, arith, ⊎_elim}
+use Rattle.std.proofs.Common.{◌≡◌, ◌≢◌, ◌∙◌, sym, ap, subst, refl, ℕ, zero, suc, ◌<◌, ◌≤◌, List, [], ◌∷◌, ◌++◌, length, map, get_or, arith, ⊎_elim}
 use Rattle.std.specs.Prelude.{All, AllPairs, Contains, count_by, sum_by}
 use Rattle.std.specs.declared.cmp.Ordering.{Ordering}
 use Rattle.std.specs.declared.cmp.Ordering.TheVariants.{Less, Equal, Greater}
@@ -136,7 +136,7 @@ module _ (days : List DaySheet) (drop : ℕ) where
   pub one_pilots : (some others : List Total) → EachDay days → ArePilots days drop some → ArePilots days drop others → some ≡ others
   one_pilots some others each first second =
       let same = one_list number_of pilot_cmp pilot_cmp_total tie plain (λ a b. refl) some others first.in_order second.in_order (pilots_apart some first) (pilots_apart others second)
-        (twin some others each first second) (twin others some each second first) in
+      (twin some others each first second) (twin others some each second first) in
       let totals : map (λ (p : Total). p.total) some ≡ map (λ (p : Total). p.total) others = sym (plain_totals some) ∙ ap (map (λ (p : Total). p.total)) same ∙ plain_totals others in
       with_ranks (map (λ (p : Total). p.total) others) some others same
       (All-weaker (IsPilot days drop some) (λ p. p.rank ≡ rank_of (map (λ (q : Total). q.total) others) p.total) (λ p is. is.rank_is ∙ ap (λ (l : List ℕ). rank_of l p.total) totals) some first.each)
@@ -194,7 +194,7 @@ module _ (members : List Member) (pilots : List Total) where
   one_teams : (some others : List TeamTotal) → AreTeams members pilots some → AreTeams members pilots others → some ≡ others
   one_teams some others first second =
       let same = one_list name_of team_cmp team_cmp_total team_tie plain_team (λ a b. refl) some others first.in_order second.in_order (teams_apart some first) (teams_apart others second)
-        (team_twin some others first second) (team_twin others some second first) in
+      (team_twin some others first second) (team_twin others some second first) in
       let totals : map (λ (t : TeamTotal). t.total) some ≡ map (λ (t : TeamTotal). t.total) others = sym (plain_sums some) ∙ ap (map (λ (t : TeamTotal). t.total)) same ∙ plain_sums others in
       with_places (map (λ (t : TeamTotal). t.total) others) some others same
       (All-weaker (IsTeam members pilots some) (λ p. p.rank ≡ rank_of (map (λ (q : TeamTotal). q.total) others) p.total) (λ p is. is.rank_is ∙ ap (λ (l : List ℕ). rank_of l p.total) totals) some first.each)

@@ -1,14 +1,12 @@
 -- The rows of a sheet are those of no other records, and the first record that is wrong is the one
 -- that is told.
-use Rattle.std.proofs.Common.{Bor, ◌≡◌, ◌≢◌, ◌∙◌, sym, ap, subst, refl, inl, inr, ℕ, Bool, true, false, zero, suc, ◌+◌, ◌<◌, ◌≤◌, List, [], ◌∷◌, ◌++◌, length, map, get_or, take, drop, append_assoc, Option, Some, None, Result, Ok, Err, arith, ⊎_elim}
-use Rattle.std.specs.Prelude.{All, AllPairs, IfOk, IfErr, IsErrOf, ◌⊎◌, not}
-use Rattle.std.proofs.lemmas.Bool.{cases_Bool, false≢true}
-use Rattle.std.specs.Fmt.{decimal}
-use Rattle.std.specs.List.{AllZip}
+use Rattle.std.proofs.Common.{Bor, ◌≡◌, ◌≢◌, ◌∙◌, sym, ap, subst, refl, inl, inr, ℕ, Bool, true, false, zero, suc, ◌+◌, ◌<◌, ◌≤◌, List, [], ◌∷◌, ◌++◌, length, get_or, drop, append_assoc, Option, Some, None, Result, Ok, Err, arith, ⊎_elim}
+use Rattle.std.specs.Prelude.{All, IfOk, IfErr, IsErrOf, ◌⊎◌, not}
+use Rattle.std.proofs.lemmas.Bool.{cases_Bool}
 use Rattle.std.proofs.lemmas.Fmt.{decimal_injective}
 use Rattle.std.proofs.lemmas.List.{append-nil, length-append}
 use Rattle.csv.specs.Machine.{Read, next_record}
-use Rattle.csv.specs.Reading.{AreRecords, ReadRecord, Reached, default_config, source_of, strip_bom}
+use Rattle.csv.specs.Reading.{ReadRecord, Reached, default_config, source_of, strip_bom}
 use Rattle.csv.specs.Records.{field_at}
 use Rattle.csv.specs.declared.parser.Config.{Config}
 use Rattle.csv.specs.declared.parser.State.{State}
@@ -25,7 +23,7 @@ use Rattle.gl_series.specs.SheetText.{Begins, IsRefusedSheet, IsRowOf, IsSheetOf
 use Rattle.gl_series.specs.Totals.{IsDay}
 use Rattle.gl_series.specs.Forms.{is_text}
 use Rattle.gl_series.proofs.Beside.{text_apart, text_same}
-use Rattle.gl_series.proofs.Growing.{all_begin, all_last, pairs_begin, pairs_last, pairs_nil, pairs_push}
+use Rattle.gl_series.proofs.Growing.{all_begin, pairs_begin, pairs_last, pairs_nil, pairs_push}
 use Rattle.gl_series.proofs.Lines.{zip_long, zip_push}
 use Rattle.gl_series.proofs.Unique.{reads_on, reads_once, stops_once}
 use Rattle.std.proofs.lemmas.List.Elements.{All-nil, All-push}

@@ -1,12 +1,11 @@
 -- The teams of some members, from what the members add.
-use Rattle.std.proofs.Common.{◌≡◌, ◌≢◌, ◌∙◌, sym, ap, subst, refl, ℕ, zero, suc, ◌+◌, ◌*◌, ◌<◌, ◌≤◌, Bool, true, false, ◌||◌, List, [], ◌∷◌, ◌++◌, length, map, get_or, take, drop, append_assoc, arith, ⊎_elim}
-use Rattle.std.specs.Prelude.{All, AllPairs, Contains, MatchBool, cond, count_by, if◌then◌else◌, nat_lt, sum_by}
-use Rattle.std.specs.List.{list_any}
+use Rattle.std.proofs.Common.{◌≡◌, ◌≢◌, ◌∙◌, sym, ap, subst, refl, ℕ, ◌+◌, ◌*◌, ◌<◌, ◌≤◌, Bool, true, false, ◌||◌, List, [], ◌∷◌, ◌++◌, length, map, get_or, take, drop, append_assoc, arith, ⊎_elim}
+use Rattle.std.specs.Prelude.{All, AllPairs, Contains, MatchBool, cond, count_by, if◌then◌else◌, sum_by}
 use Rattle.std.specs.List.Sorted.{IsPermutation, IsSorted}
 use Rattle.std.specs.Ordering.{is_lt}
 use Rattle.std.proofs.lemmas.Bool.{cases_Bool, false≢true}
-use Rattle.std.proofs.lemmas.List.{append-nil, drop_all, drop_more, get_or-map, length-append, length-map, map_push, take_all, take_more}
-use Rattle.std.proofs.lemmas.List.Elements.{All-append, All-cons, All-head, All-map, All-nil, All-push, All-tail, All-weaker}
+use Rattle.std.proofs.lemmas.List.{append-nil, drop_more, get_or-map, length-append, length-map, map_push, take_more}
+use Rattle.std.proofs.lemmas.List.Elements.{All-cons, All-head, All-map, All-nil, All-push, All-tail, All-weaker}
 use Rattle.std.proofs.lemmas.List.Sorted.{All-permutation, Contains-permutation, length_permutation, IsPermutation-map, IsPermutation-sym, IsPermutation-trans, sum_by-IsPermutation}
 use Rattle.std.proofs.lemmas.List.Sums.{sum_by-append, sum_by-cons}
 use Rattle.gl_series.specs.declared.series.Member.{Member}
@@ -16,10 +15,10 @@ use Rattle.gl_series.specs.declared.standing.Total.{Total}
 use Rattle.gl_series.specs.declared.teams.TeamSum.{TeamSum}
 use Rattle.gl_series.specs.Forms.{is_text}
 use Rattle.gl_series.specs.Tallies.{AreRankedTeams, AreShares, AreSharesOf, AreTeamSums, has_team, last_members, share_cmp, share_for, starts_with_team, team_of, text_cmp, total_of_sum}
-use Rattle.gl_series.specs.Totals.{AreTeams, IsTeam, points_for, rank_of, total_beside}
+use Rattle.gl_series.specs.Totals.{AreTeams, IsTeam, points_for, total_beside}
 use Rattle.gl_series.proofs.Beside.{text_apart, text_is, text_not, text_same}
 use Rattle.gl_series.proofs.Growing.{pairs_head, pairs_tail}
-use Rattle.gl_series.proofs.LastMembers.{last_are_members, last_fewer, members_more, team_counted, team_found}
+use Rattle.gl_series.proofs.LastMembers.{last_are_members, last_fewer, team_counted, team_found}
 use Rattle.gl_series.proofs.Searched.{sorted_pairs, tied_texts}
 use Rattle.gl_series.proofs.Tallied.{all_both, all_unmap, counted_map, ranks_same}
 

@@ -1,9 +1,9 @@
 -- The pilots of some days, from their tallies.
-use Rattle.std.proofs.Common.{Bor, ◌≡◌, ◌≢◌, ◌∙◌, sym, ap, subst, refl, ℕ, ◌+◌, ◌*◌, ◌<◌, ◌≤◌, Bool, List, [], ◌∷◌, ◌++◌, length, map, get_or, take, drop, arith}
-use Rattle.std.specs.Prelude.{All, Contains, cond, count_by, nat_lt, sum_by}
+use Rattle.std.proofs.Common.{Bor, ◌≡◌, ◌∙◌, sym, ap, subst, refl, ℕ, ◌+◌, ◌<◌, ◌≤◌, Bool, List, [], ◌∷◌, ◌++◌, length, map, get_or, take, drop, arith}
+use Rattle.std.specs.Prelude.{All, cond, count_by, nat_lt}
 use Rattle.std.specs.List.Sorted.{IsPermutation}
-use Rattle.std.proofs.lemmas.List.{length-map, map_push, take_all}
-use Rattle.std.proofs.lemmas.List.Elements.{All-cons, All-head, All-map, All-nil, All-push, All-tail, All-weaker}
+use Rattle.std.proofs.lemmas.List.{length-map, map_push}
+use Rattle.std.proofs.lemmas.List.Elements.{All-cons, All-head, All-map, All-nil, All-push, All-tail}
 use Rattle.std.proofs.lemmas.List.Sorted.{All-permutation, IsPermutation-map, IsPermutation-sym, IsPermutation-trans, sum_by-IsPermutation}
 use Rattle.std.proofs.lemmas.List.Sums.{sum_by-cons}
 use Rattle.gl_series.specs.declared.day.DayRow.{DayRow}
@@ -11,7 +11,6 @@ use Rattle.gl_series.specs.declared.day.DaySheet.{DaySheet}
 use Rattle.gl_series.specs.declared.ordered.Ordered.{Ordered}
 use Rattle.gl_series.specs.declared.pilots.Tally.{Tally}
 use Rattle.gl_series.specs.declared.standing.Total.{Total}
-use Rattle.gl_series.specs.Choices.{points_on}
 use Rattle.gl_series.specs.Forms.{is_text}
 use Rattle.gl_series.specs.Tallies.{AreOrdered, AreRanked, AreTallies, AreTotals, IsTally, days_of, last_rows, pilot_of}
 use Rattle.gl_series.specs.Totals.{AreDays, ArePilots, IsLastName, IsPilot, rank_of}

@@ -17,8 +17,8 @@ is_short text most = nat_le 1 (length text) && nat_le (length text) most
 abbrev pub is_in_file_name : ℕ → Bool
 is_in_file_name c = nat_le 32 c && not (c == byte "/")
 
--- the name of a file: 1 to 128 bytes, none of them below 32 or a slash, and not the folder itself or
--- the one above it
+-- the name of a file: 1 to 128 bytes, none of them below 32 or a slash, and not the folder itself
+-- or the one above it
 abbrev pub is_file_name : List ℕ → Bool
 is_file_name text =
     is_short text 128 && list_all is_in_file_name text

@@ -8,8 +8,8 @@ pub record Reads {Line Item : Type 0} (Is : Line → Item → Type 0) (Fit : Lis
   pub each : AllZip Is lines items
   pub fit : Fit items
 
--- the first line that doesn't read stands behind so many others: those read, and this one is that of
--- no item that fits together with theirs
+-- the first line that doesn't read stands behind so many others: those read, and this one is that
+-- of no item that fits together with theirs
 pub record StopsBehind {Line Item : Type 0} (Is : Line → Item → Type 0) (Fit : List Item → Type 0)
     (lines : List Line) (count : ℕ) : Type 0 where
   pub front : List Line

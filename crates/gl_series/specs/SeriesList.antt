@@ -1,5 +1,5 @@
 -- The text of a list: its heading, and then a line for each day and each member of a team.
-use Rattle.std.specs.Prelude.{◌≡◌, ◌≢◌, ℕ, ◌+◌, ◌≤◌, List, [], ◌∷◌, ◌++◌, length, map, codes, ⊤, AllPairs, IsTrue, IsUtf8}
+use Rattle.std.specs.Prelude.{◌≡◌, ◌≢◌, ℕ, ◌+◌, ◌≤◌, List, [], ◌∷◌, ◌++◌, length, codes, ⊤, AllPairs, IsTrue, IsUtf8}
 use Rattle.std.specs.List.{flat_map}
 use Rattle.gl_text.specs.Lines.{lines_of}
 use Rattle.gl_series.specs.declared.entry.Entry.{Entry}

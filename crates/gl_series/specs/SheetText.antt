@@ -39,7 +39,8 @@ pub record Begins (text : List ℕ) (records : List (List (List ℕ))) : Type 0 
   pub rest : List ℕ
   pub reached : Reached default_config st.StartRecord (strip_bom text) records state rest
 
--- the records of a text are the heading and those of these rows, at most 200 with numbers that differ
+-- the records of a text are the heading and those of these rows, at most 200 with numbers that
+-- differ
 pub record IsSheetOf (text : List ℕ) (sheet : DaySheet) : Type 0 where
   pub rest : List (List (List ℕ))
   pub records : AreRecords default_config st.StartRecord (strip_bom text) (sheet_heading ∷ rest)

@@ -1,5 +1,5 @@
--- The standing as text: records of csv's default writer, the pilots' and, where there is a team, the
--- teams'.
+-- The standing as text: records of csv's default writer, the pilots' and, where there is a team,
+-- the teams'.
 use Rattle.std.specs.Prelude.{ℕ, ◌==◌, List, [], ◌∷◌, ◌++◌, codes, if◌then◌else◌, length, map}
 use Rattle.std.specs.Fmt.{decimal}
 use Rattle.std.specs.List.{flat_map}

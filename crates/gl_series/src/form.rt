@@ -5,13 +5,16 @@ ghost use Rattle.gl_series.specs.Forms.{is_in_file_name, is_file_name, is_number
 
 use std::str::from_utf8;
 
-/// The most bytes of the name of a file, of a pilot's number, of a pilot's name and of a team's name.
+/// The most bytes of the name of a file.
 const LONGEST_FILE_NAME: usize = 128;
 
+/// The most bytes of a pilot's number.
 const LONGEST_NUMBER: usize = 8;
 
+/// The most bytes of a pilot's name.
 const LONGEST_NAME: usize = 80;
 
+/// The most bytes of a team's name.
 const LONGEST_TEAM: usize = 40;
 
 /// The first byte that is no control character, and the one control character above it.
@@ -48,8 +51,8 @@ fn has_file_name_bytes(text: &str) -> bool
     text.as_bytes().iter().all(|byte| is_in_file_name(*byte))
 }
 
-/// Whether a text is the name of a file: 1 to 128 bytes, none of them below 32 or a slash, and neither
-/// `.` nor `..`.
+/// Whether a text is the name of a file: 1 to 128 bytes, none of them below 32 or a slash, and
+/// neither `.` nor `..`.
 pub(crate) fn is_file_name(text: &str) -> bool
     ensures { result ≡ is_file_name text.now }
 {

@@ -34,10 +34,7 @@ fn sort(pilots: &mut [&Total])
 }
 
 /// Pilots, and the same in the order of their numbers.
-pub(crate) fn by_number<'a>(
-    alloc: Global,
-    pilots: &'a [Total],
-) -> Result<Numbered<'a>, AllocError>
+pub(crate) fn by_number<'a>(alloc: Global, pilots: &'a [Total]) -> Result<Numbered<'a>, AllocError>
     requires apart { AllPairs (λ one other. one.number ≢ other.number) pilots.now }
     requires low { All (λ pilot. pilot.total ≤ 30_000) pilots.now }
     ensures pilots { IfOk result (λ numbered. numbered.pilots.now ≡ pilots.now) }

@@ -149,7 +149,8 @@ fn ranked(alloc: Global, totals: &[u32], tallies: &[Tally]) -> Result<Vec<Total>
     Ok(pilots)
 }
 
-/// How two pilots stand: by total, the greater first, and at equal totals by the bytes of the number.
+/// How two pilots stand: by total, the greater first, and at equal totals by the bytes of the
+/// number.
 fn compare(a: &Total, b: &Total) -> Ordering
     ensures { result ≡ pilot_cmp a.now b.now }
 {

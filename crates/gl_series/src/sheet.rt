@@ -193,8 +193,8 @@ fn next_row(
     Ok(Some(row))
 }
 
-/// The rows of a sheet, or why the text is none. Reading from memory fails for want of memory alone,
-/// and records may have any length.
+/// The rows of a sheet, or why the text is none. Reading from memory fails for want of memory
+/// alone, and records may have any length.
 fn sheet_in(alloc: Global, text: &[u8]) -> Result<DaySheet, SheetError>
     ensures ok { IfOk result (IsSheetOf text.now) }
     ensures refused { IfErr result (IsRefusedSheet text.now) }

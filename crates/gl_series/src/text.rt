@@ -99,8 +99,8 @@ fn teams_text(alloc: Global, teams: &[TeamTotal]) -> Result<Vec<u8>, AllocError>
     Ok(text)
 }
 
-/// The standing as text: a record for each pilot and, exactly where there is a team, a record for each
-/// team, each part under its heading. The only error is want of memory.
+/// The standing as text: a record for each pilot and, exactly where there is a team, a record for
+/// each team, each part under its heading. The only error is want of memory.
 pub fn series_text(alloc: Global, standing: &Standing) -> Result<Vec<u8>, AllocError>
     ensures { IfOk result (λ text. text.items ≡ standing_text standing.now) }
 {

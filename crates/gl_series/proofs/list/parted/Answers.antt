@@ -1,4 +1,4 @@
-use Rattle.gl_series.proofs.Members.{no_space, spaced_at}
+use Rattle.gl_series.proofs.Members.{no_space}
 use Rattle.gl_series.proofs.list.parted.Goals as goal
 
 pub returns-in_err-space : goal.returns-in_err-space

@@ -1,4 +1,4 @@
-use Rattle.std.proofs.Common.{◌∙◌, sym, ap, refl, drop, arith, rules}
+use Rattle.std.proofs.Common.{drop, arith, rules}
 use Rattle.gl_text.specs.Lines.{lines_of}
 use Rattle.gl_series.proofs.Lines.{says_more, stops_here}
 use Rattle.gl_series.proofs.list.series_in.Goals as goal

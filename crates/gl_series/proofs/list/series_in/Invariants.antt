@@ -1,4 +1,4 @@
-use Rattle.std.proofs.Common.{◌≡◌, ◌-◌, ◌≤◌, length, drop}
+use Rattle.std.proofs.Common.{◌-◌, ◌≤◌, length, drop}
 use Rattle.gl_text.specs.Lines.{lines_of}
 use Rattle.gl_series.specs.Adding.{SaysUpTo}
 use Rattle.gl_series.proofs.list.series_in.Given as goal

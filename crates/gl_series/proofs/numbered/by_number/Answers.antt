@@ -1,4 +1,4 @@
-use Rattle.std.proofs.Common.{Bor, ◌≡◌, ◌∙◌, sym, ap, subst, List, ◌++◌, drop, length, map, take, arith}
+use Rattle.std.proofs.Common.{Bor, ◌≡◌, subst, List, ◌++◌, drop, length, map, take, arith}
 use Rattle.std.specs.List.Sorted.{IsPermutation, IsSorted}
 use Rattle.std.proofs.lemmas.Grind.{common_steps}
 use Rattle.std.proofs.lemmas.List.Sorted.{IsPermutation-map, length_permutation}

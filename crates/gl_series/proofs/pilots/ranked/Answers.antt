@@ -1,5 +1,4 @@
-use Rattle.std.proofs.Common.{◌∙◌, ap, sym, List, ◌++◌, ◌∷◌, []}
-use Rattle.gl_series.specs.declared.standing.Total.{Total}
+use Rattle.std.proofs.Common.{◌∙◌, sym, ◌++◌, ◌∷◌, []}
 use Rattle.gl_series.specs.Tallies.{pilot_of}
 use Rattle.gl_series.proofs.LastRows.{map_more}
 use Rattle.gl_series.proofs.pilots.ranked.Goals as goal

@@ -1,6 +1,5 @@
-use Rattle.std.proofs.Common.{leb, ◌≡◌, ◌-◌, ◌+◌, length, arith, rules}
+use Rattle.std.proofs.Common.{leb, arith, rules}
 use Rattle.std.proofs.lemmas.List.Sorted.{IsPartitionPoint-from_clause, IsPartitionedBy-leb}
-use Rattle.gl_series.specs.Totals.{rank_of}
 use Rattle.gl_series.proofs.GreaterOnes.{rank_at}
 use Rattle.gl_series.proofs.ranks.rank.Goals as goal
 

@@ -1,4 +1,4 @@
-use Rattle.std.proofs.Common.{◌≡◌, sym, subst, List, ◌++◌, drop, length, take, arith}
+use Rattle.std.proofs.Common.{◌≡◌, subst, List, ◌++◌, drop, length, take, arith}
 use Rattle.std.specs.List.Sorted.{IsPermutation}
 use Rattle.std.proofs.lemmas.Grind.{common_steps}
 use Rattle.std.proofs.lemmas.List.Sorted.{length_permutation}

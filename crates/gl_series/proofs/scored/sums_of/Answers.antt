@@ -1,4 +1,4 @@
-use Rattle.std.proofs.Common.{◌≡◌, ◌∙◌, sym, ap, ◌≤◌, subst, List, drop, take, length, arith}
+use Rattle.std.proofs.Common.{◌≡◌, ◌∙◌, sym, ap, ◌≤◌, subst, drop, take, length, arith}
 use Rattle.std.specs.Prelude.{All, min, sum_by}
 use Rattle.std.proofs.lemmas.List.Elements.{All-drop, All-take}
 use Rattle.gl_series.specs.declared.scored.Scored.{Scored}

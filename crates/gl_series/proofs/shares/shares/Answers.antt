@@ -1,8 +1,7 @@
-use Rattle.std.proofs.Common.{Bor, ◌≡◌, ◌∙◌, sym, ap, subst, List, ◌++◌, drop, length, map, take, arith}
+use Rattle.std.proofs.Common.{◌≡◌, subst, List, ◌++◌, drop, length, take, arith}
 use Rattle.std.specs.List.Sorted.{IsPermutation}
 use Rattle.std.proofs.lemmas.Grind.{common_steps}
-use Rattle.std.proofs.lemmas.List.Sorted.{All-permutation, IsPermutation-map, length_permutation}
-use Rattle.gl_series.specs.declared.series.Member.{Member}
+use Rattle.std.proofs.lemmas.List.Sorted.{length_permutation}
 use Rattle.gl_series.specs.declared.shares.Share.{Share}
 use Rattle.gl_series.specs.Tallies.{AreShares}
 use Rattle.gl_series.proofs.Summed.{shares_in_order}

@@ -8,8 +8,7 @@ use Rattle.gl_series.proofs.sheet.has_fields.Goals as goal
 pub returns-then-ne : goal.returns-then-ne
 returns-then-ne c =
     let now : Bor (List ℕ) → List ℕ = λ field. field.now in
-    let place = c.loop-place.place in
-    (
+    let place = c.loop-place.place in (
       λ is. absurd (false≢true is),
       λ same. absurd (told_apart _ _ c.ne.result c.ne.ensures c.if-ne.true (c.field.ensures ∙ ap (λ (l : List (List ℕ)). get_or l place []) same ∙ get_or-map now c.args.fields.now place _ [] c.loop-place-test.true)),
     )
@@ -23,8 +22,7 @@ pub returns : goal.returns
 returns c =
     let now : Bor (List ℕ) → List ℕ = λ field. field.now in
     let many = length-map c.args.fields.now now in
-    let long : length (fields_of c.args.columns.now) ≡ length (map now c.args.fields.now) = omega (arith, many, c.len.ensures, c.if-len-fields.false) in
-    (
+    let long : length (fields_of c.args.columns.now) ≡ length (map now c.args.fields.now) = omega (arith, many, c.len.ensures, c.if-len-fields.false) in (
       λ is. same_fields (fields_of c.args.columns.now) (map now c.args.fields.now) long (λ k below. c.loop-place.invariant k (omega (arith, below, many, c.loop-place-test.false))),
       λ same. refl,
     )

@@ -1,4 +1,4 @@
-use Rattle.std.proofs.Common.{◌≡◌, ◌∙◌, sym, ap, subst, inl, inr, List, [], ◌∷◌, arith}
+use Rattle.std.proofs.Common.{◌≡◌, ◌∙◌, sym, subst, inl, inr, List, [], ◌∷◌, arith}
 use Rattle.std.proofs.lemmas.Bool.{false≢true}
 use Rattle.csv.specs.Reading.{Ready, default_config, strip_bom}
 use Rattle.csv.specs.Records.{fields_of}
