@@ -147,7 +147,7 @@ list_unique text a b one other =
     let entries = reads_once IsLineOf line_unique Fit fit_begins other.rest one.entries other.entries (subst (λ (l : List (List ℕ)). Reads IsLineOf Fit l one.entries) rest one.reads) other.reads in
     one.says ∙ ap series_of entries ∙ sym other.says
 
-list_refused : (text : List ℕ) (series : Series) (error : ListError) → (error ≡ Memory → ⊥) → IsList text series → IsRefused text error → ⊥
+pub list_refused : (text : List ℕ) (series : Series) (error : ListError) → (error ≡ Memory → ⊥) → IsList text series → IsRefused text error → ⊥
 list_refused text series Heading some is refused = refused is.rest is.lines
 list_refused text series (Line number) some is refused =
     let rest = same_rest text is.rest refused.rest is.lines refused.lines in
@@ -159,7 +159,7 @@ list_told text series Heading is refused = absurd (list_refused text series Head
 list_told text series (Line number) is refused = absurd (list_refused text series (Line number) (λ same. cc) is refused)
 list_told text series Memory is refused = refl
 
-refused_once : (text : List ℕ) (error other : ListError) → (error ≡ Memory → ⊥) → (other ≡ Memory → ⊥) → IsRefused text error → IsRefused text other → error ≡ other
+pub refused_once : (text : List ℕ) (error other : ListError) → (error ≡ Memory → ⊥) → (other ≡ Memory → ⊥) → IsRefused text error → IsRefused text other → error ≡ other
 refused_once text Heading Heading some too a b = refl
 refused_once text Heading (Line n) some too a b = absurd (a b.rest b.lines)
 refused_once text (Line m) Heading some too a b = absurd (b a.rest a.lines)

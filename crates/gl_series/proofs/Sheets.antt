@@ -220,7 +220,7 @@ sheet_unique text a b one other =
     grown_nothing x y (k ∷ m) n long short =
         absurd (omega (arith, ap length long, ap length short, length-append y (k ∷ m), length-append x n))
 
-sheet_refused : (text : List ℕ) (sheet : DaySheet) (error : SheetError) → (error ≡ Memory → ⊥) → IsSheetOf text sheet → IsRefusedSheet text error → ⊥
+pub sheet_refused : (text : List ℕ) (sheet : DaySheet) (error : SheetError) → (error ≡ Memory → ⊥) → IsSheetOf text sheet → IsRefusedSheet text error → ⊥
 sheet_refused text sheet Heading some is refused =
     refused (begins_first text sheet_heading is.rest (record { state = is.records.0; rest = is.records.1; reached = is.records.2 }))
 sheet_refused text sheet (Record number) some is refused =
@@ -248,7 +248,7 @@ wrong_once text m n a b =
     omega (arith, count, a.number_is, b.number_is))
     (one_begins default_config st.StartRecord (strip_bom text) (sheet_heading ∷ a.read) (sheet_heading ∷ b.read) a.begins.state b.begins.state a.begins.rest b.begins.rest a.begins.reached b.begins.reached)
 
-refused_once : (text : List ℕ) (error other : SheetError) → (error ≡ Memory → ⊥) → (other ≡ Memory → ⊥) → IsRefusedSheet text error → IsRefusedSheet text other → error ≡ other
+pub refused_once : (text : List ℕ) (error other : SheetError) → (error ≡ Memory → ⊥) → (other ≡ Memory → ⊥) → IsRefusedSheet text error → IsRefusedSheet text other → error ≡ other
 refused_once text Heading Heading some too a b = refl
 refused_once text Heading (Record n) some too a b = absurd (a (begins_first text sheet_heading b.read b.begins))
 refused_once text (Record m) Heading some too a b = absurd (b (begins_first text sheet_heading a.read a.begins))
