@@ -4,7 +4,7 @@ use Rattle.std.specs.Prelude.{option_map}
 use Rattle.std.specs.Cmp.{first_so, second_so}
 use Rattle.std.specs.Str.Parse.{digits_value}
 use Rattle.std.specs.Option.{option_or}
-use Rattle.gl_app.specs.Words.{Check, Command, DayNames, Demo, Free, Replay, ReplayWords, Score, Triangle, check_form, command_of, day_names, demo_form, file_form, is_file_name, is_text, is_worker_count, replay_form, replay_words, score_form}
+use Rattle.gl_app.specs.Words.{Check, Command, DayNames, Demo, Free, Replay, ReplayWords, Score, Series, SeriesWords, Triangle, check_form, command_of, day_names, demo_form, file_form, is_file_name, is_text, is_worker_count, number_within, replay_form, replay_words, score_form, series_form, series_words}
 use Rattle.gl_app.proofs.DayLines.{AreUnbroken}
 use Rattle.gl_app.proofs.ReplayLaws.{HasUnbrokenFiles}
 use Rattle.gl_app.proofs.LineTexts.{is_unbroken, is_unbroken-file}
@@ -17,6 +17,7 @@ HasUnbrokenNames (Some (Triangle file)) = is_unbroken file ≡ true
 HasUnbrokenNames (Some (Score names)) = AreUnbroken names
 HasUnbrokenNames (Some (Check names)) = AreUnbroken names
 HasUnbrokenNames (Some (Replay words)) = HasUnbrokenFiles words
+HasUnbrokenNames (Some (Series words)) = is_unbroken words.list ≡ true
 HasUnbrokenNames (Some (Demo number)) = Unit {0}
 
 -- so has one file
@@ -107,6 +108,26 @@ as_replay : (words : Option ReplayWords) → HaveUnbrokenFiles words → HasUnbr
 as_replay None named = tt
 as_replay (Some words) named = named
 
+-- so has the list of `series`
+some_list : (is : Bool) (words : SeriesWords) → (is ≡ true → is_unbroken words.list ≡ true) → HasUnbrokenNames (option_map Series (if is then Some words else None))
+some_list true words named = named refl
+some_list false words named = tt
+
+series_list : (list : List ℕ) (days : Option ℕ) → HasUnbrokenNames (option_map Series (series_words list days))
+series_list list None = tt
+series_list list (Some days) = some_list (is_file_name list) (record { list = list; left_out = days }) (is_unbroken-file list)
+
+if_series : (is : Bool) (words : Option SeriesWords) → HasUnbrokenNames (option_map Series words) → HasUnbrokenNames (option_map Series (if is then words else None))
+if_series true words named = named
+if_series false words named = tt
+
+series_names : (words : List (List ℕ)) → HasUnbrokenNames (option_map Series (series_form words))
+series_names [] = tt
+series_names (word ∷ []) = tt
+series_names (word ∷ list ∷ []) = tt
+series_names (word ∷ list ∷ days ∷ []) = if_series (is_text word (codes "series")) (series_words list (number_within 0 30 days)) (series_list list (number_within 0 30 days))
+series_names (word ∷ list ∷ days ∷ more ∷ words) = tt
+
 as_score : (names : Option DayNames) → HaveUnbroken names → HasUnbrokenNames (option_map Score names)
 as_score None named = tt
 as_score (Some names) named = named
@@ -134,9 +155,10 @@ command_names words =
     let replay = option_map Replay (replay_form words) in
     let demo = option_map Demo (demo_form words) in
     let pair = option_or score (option_or check replay) in
-    or_names (option_map Free free) (option_or (option_map Triangle triangle) (option_or pair demo)) (as_free free (file_names (codes "free") words))
-    (or_names (option_map Triangle triangle) (option_or pair demo) (as_triangle triangle (file_names (codes "triangle") words))
-    (or_names pair demo
+    let last = option_or (option_map Series (series_form words)) demo in
+    or_names (option_map Free free) (option_or (option_map Triangle triangle) (option_or pair last)) (as_free free (file_names (codes "free") words))
+    (or_names (option_map Triangle triangle) (option_or pair last) (as_triangle triangle (file_names (codes "triangle") words))
+    (or_names pair last
     (or_names score (option_or check replay) (as_score (score_form words) (score_names words))
     (or_names check replay (as_check (check_form words) (check_names words)) (as_replay (replay_form words) (replay_names words))))
-    (as_demo (demo_form words))))
+    (or_names (option_map Series (series_form words)) demo (series_names words) (as_demo (demo_form words)))))

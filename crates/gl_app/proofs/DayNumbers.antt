@@ -1,4 +1,4 @@
--- The number of a generated day that a word writes.
+-- The number that a word writes.
 use Rattle.std.proofs.Common.{◌≡◌, ◌≢◌, ◌∙◌, sym, ap, refl, ℕ, ◌<◌, ◌≤◌, Bool, true, false, ◌&&◌, List, None, Some, ⊎_elim, arith}
 use Rattle.std.specs.Prelude.{◌^◌, if◌then◌else◌}
 use Rattle.std.specs.Fmt.{decimal}
@@ -7,7 +7,7 @@ use Rattle.std.specs.Cmp.Lexicographic.{other_text, same_text}
 use Rattle.std.proofs.lemmas.Bool.{cases_Bool, leb-true, le-leb}
 use Rattle.std.proofs.lemmas.Fmt.{digits_value-decimal}
 use Rattle.std.proofs.lemmas.Str.Parse.{IsNumeralModel, numerals_by_value, tells_digits}
-use Rattle.gl_app.specs.Words.{day_number, is_text, is_worker_count}
+use Rattle.gl_app.specs.Words.{is_text, is_worker_count, number_within}
 
 own : IsNumeralModel (AllDigits 10) (digits_value 10)
 own = numerals_by_value (AllDigits 10) tells_digits
@@ -31,27 +31,27 @@ text_is word text same =
     (λ (other : is_text word text ≡ false). absurd (other_text word text (sym other) same))
     (cases_Bool (is_text word text))
 
--- a word that writes no number writes none of a day
-pub no_day : (word : List ℕ) → ((n : ℕ) → n < 2 ^ 64 → word ≢ decimal n) → day_number word ≡ None
-no_day word none =
+-- a word that writes no number writes none within limits
+pub none_within : (least most : ℕ) (word : List ℕ) → most < 2 ^ 64 → ((n : ℕ) → n < 2 ^ 64 → word ≢ decimal n) → number_within least most word ≡ None
+none_within least most word fits none =
     let number = digits_value 10 word in
-    not_all _ _ _ number (λ is least most.
-    let few : number ≤ 1000000 = leb-true number 1000000 most in
-    none number (omega arith) (same_text word (decimal number) (sym is)))
+    not_all _ _ _ number (λ is low high.
+    let few : number ≤ most = leb-true number most high in
+    none number (omega (arith, few, fits)) (same_text word (decimal number) (sym is)))
 
 -- nor does one that writes another number
-pub past_day : (word : List ℕ) (n : ℕ) → n < 2 ^ 64 → word ≡ decimal n → (1 ≤ n → n ≤ 1000000 → ⊥) → day_number word ≡ None
-past_day word n small is past =
+pub past_within : (least most : ℕ) (word : List ℕ) (n : ℕ) → n < 2 ^ 64 → word ≡ decimal n → (least ≤ n → n ≤ most → ⊥) → number_within least most word ≡ None
+past_within least most word n small is past =
     let number = digits_value 10 word in
     let value : number ≡ n = ap (digits_value 10) is ∙ digits_value-decimal own n small in
-    not_all _ _ _ number (λ same least most. past (omega (arith, value, leb-true 1 number least)) (omega (arith, value, leb-true number 1000000 most)))
+    not_all _ _ _ number (λ same low high. past (omega (arith, value, leb-true least number low)) (omega (arith, value, leb-true number most high)))
 
--- and one that writes a number of a day
-pub some_day : (word : List ℕ) (n : ℕ) → n < 2 ^ 64 → word ≡ decimal n → 1 ≤ n → n ≤ 1000000 → day_number word ≡ Some n
-some_day word n small is least most =
+-- and one that writes a number within them
+pub some_within : (least most : ℕ) (word : List ℕ) (n : ℕ) → n < 2 ^ 64 → word ≡ decimal n → least ≤ n → n ≤ most → number_within least most word ≡ Some n
+some_within least most word n small is low high =
     let number = digits_value 10 word in
     let value : number ≡ n = ap (digits_value 10) is ∙ digits_value-decimal own n small in
-    all_three _ _ _ number n (text_is word (decimal number) (is ∙ ap decimal (sym value))) (le-leb 1 number (omega (arith, value))) (le-leb number 1000000 (omega (arith, value))) value
+    all_three _ _ _ number n (text_is word (decimal number) (is ∙ ap decimal (sym value))) (le-leb least number (omega (arith, value, low))) (le-leb number most (omega (arith, value, high))) value
 
 both_so : (a b c : Bool) → a ≡ true → b ≡ true → c ≡ true → (a && b && c) ≡ true
 both_so true true c one other third = third

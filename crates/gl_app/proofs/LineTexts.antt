@@ -13,10 +13,11 @@ use Rattle.gl_igc.specs.declared.error.IgcError.{IgcError}
 use Rattle.gl_igc.specs.declared.error.IgcError.TheVariants as igc
 use Rattle.gl_app.specs.declared.refusal.Cause.{Cause}
 use Rattle.gl_app.specs.declared.refusal.Cause.TheVariants.{NotListed, Listed, TooLarge, NotIgc, NoDate, TooManyFixes, NoFix, NotToml, NoKey, WrongValue, NumberTwice, TooManyItems, WrongAirspace, TooMuchAirspace, WrongStep, TooManySteps, NoHeading, WrongProof, ProofCut}
+use Rattle.gl_app.specs.declared.refusal.Cause.TheVariants.{NoListHeading, NoSheetHeading, WrongListLine, WrongRecord}
 use Rattle.gl_app.specs.declared.status.Status.TheVariants.{Done}
 use Rattle.gl_app.specs.Answer.{Answer, refused}
 use Rattle.gl_day.specs.Flight.{most_bytes}
-use Rattle.gl_app.specs.Refusals.{Parts, Place, Nowhere, AtLine, AtKey, parts_of, place_text, line_with, refusal_line, file_refusal}
+use Rattle.gl_app.specs.Refusals.{Parts, Place, Nowhere, AtLine, AtRecord, AtKey, parts_of, place_text, line_with, refusal_line, file_refusal}
 use Rattle.gl_app.specs.Texts.{IsLine}
 use Rattle.gl_app.specs.Words.{is_dots, is_file_name, is_name_byte}
 
@@ -74,6 +75,7 @@ number_unbroken n = digits_unbroken 64 n [] refl
 place_unbroken : (place : Place) → is_unbroken (place_text place) ≡ true
 place_unbroken Nowhere = refl
 place_unbroken (AtLine line) = number_unbroken line
+place_unbroken (AtRecord number) = number_unbroken number
 place_unbroken (AtKey row item part) = simp (list_all-append, number_unbroken row, number_unbroken item, number_unbroken part) refl
 
 kind_unbroken : (cause : Cause) → is_unbroken (parts_of cause).kind ≡ true
@@ -96,6 +98,10 @@ kind_unbroken TooManySteps = refl
 kind_unbroken NoHeading = refl
 kind_unbroken (WrongProof line) = refl
 kind_unbroken ProofCut = refl
+kind_unbroken NoListHeading = refl
+kind_unbroken (WrongListLine line) = refl
+kind_unbroken NoSheetHeading = refl
+kind_unbroken (WrongRecord number) = refl
 
 -- a refusal of a file whose name has no LF is one line
 refusal_is_line : (file : List ℕ) (cause : Cause) → is_unbroken file ≡ true → IsLine (refusal_line (file_refusal file cause))

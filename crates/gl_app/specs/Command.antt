@@ -2,6 +2,7 @@ use Rattle.gl_app.specs.declared.command.Command.{Command}
 use Rattle.gl_app.specs.declared.command.Command.TheVariants as code
 use Rattle.gl_app.specs.DayNames.{names_seen}
 use Rattle.gl_app.specs.ReplayWords.{replay_seen}
+use Rattle.gl_app.specs.SeriesWords.{series_seen}
 use Rattle.gl_app.specs.Words as words
 
 -- a command of the code as plain data
@@ -11,4 +12,5 @@ seen (code.Triangle file) = words.Triangle file.now
 seen (code.Score names) = words.Score (names_seen names)
 seen (code.Check names) = words.Check (names_seen names)
 seen (code.Replay given) = words.Replay (replay_seen given)
+seen (code.Series given) = words.Series (series_seen given)
 seen (code.Demo day) = words.Demo day.number

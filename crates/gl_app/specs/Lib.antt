@@ -16,6 +16,9 @@ pub mod Command
 pub mod ReplayWords
 pub mod ReplayFiles
 pub mod Replay
+pub mod SeriesWords
+pub mod SeriesFiles
+pub mod Series
 pub mod DayNames
 pub mod Halts
 pub mod FileTests

@@ -14,7 +14,7 @@ pub record IsLine (text : List ℕ) : Type 0 where
 abbrev pub usage_line : List ℕ
 usage_line =
     codes "usage: free FILE | triangle FILE | score TASK PROOF WORKERS | check TASK PROOF | "
-    ++ codes "replay FILE SCHEDULE WORKERS | demo NUMBER"
+    ++ codes "replay FILE SCHEDULE WORKERS | series LIST DROP | demo NUMBER"
     ++ 10 ∷ []
 
 -- numbers, each with a space before it

@@ -17,6 +17,11 @@ pub record ReplayWords : Type 0 where
   pub schedule : List ℕ
   pub workers : ℕ
 
+-- the name of a list of days, and how many of the days are left out for each pilot
+pub record SeriesWords : Type 0 where
+  pub list : List ℕ
+  pub left_out : ℕ
+
 -- a command and what it is given
 pub data Command : Type 0 where
   Free : List ℕ → Command
@@ -24,6 +29,7 @@ pub data Command : Type 0 where
   Score : DayNames → Command
   Check : DayNames → Command
   Replay : ReplayWords → Command
+  Series : SeriesWords → Command
   Demo : ℕ → Command
 
 -- two texts are the same
@@ -101,12 +107,31 @@ replay_form (word ∷ flight ∷ schedule ∷ workers ∷ []) =
     then replay_words flight schedule (digits_value 10 workers) else None
 replay_form (word ∷ flight ∷ schedule ∷ workers ∷ more ∷ words) = None
 
+-- the number within two limits that a word writes, without a sign and a leading zero
+abbrev pub number_within : ℕ → ℕ → List ℕ → Option ℕ
+number_within least most word =
+    let number = digits_value 10 word in
+    if is_text word (decimal number) && nat_le least number && nat_le number most
+    then Some number else None
+
+-- what `series` is given, where the name is that of a file
+abbrev pub series_words : List ℕ → Option ℕ → Option SeriesWords
+series_words list None = None
+series_words list (Some days) =
+    if is_file_name list then Some (record { list = list; left_out = days }) else None
+
+-- `series LIST DROP`, where the number of days is 0 to 30
+abbrev pub series_form : List (List ℕ) → Option SeriesWords
+series_form [] = None
+series_form (word ∷ []) = None
+series_form (word ∷ list ∷ []) = None
+series_form (word ∷ list ∷ days ∷ []) =
+    if is_text word (codes "series") then series_words list (number_within 0 30 days) else None
+series_form (word ∷ list ∷ days ∷ more ∷ words) = None
+
 -- the number from 1 to 1,000,000 that a word writes, without a sign and a leading zero
 abbrev pub day_number : List ℕ → Option ℕ
-day_number word =
-    let number = digits_value 10 word in
-    if is_text word (decimal number) && nat_le 1 number && nat_le number 1_000_000
-    then Some number else None
+day_number word = number_within 1 1_000_000 word
 
 -- `demo NUMBER`
 abbrev pub demo_form : List (List ℕ) → Option ℕ
@@ -121,13 +146,18 @@ pair_command words =
     option_or (option_map Score (score_form words))
     (option_or (option_map Check (check_form words)) (option_map Replay (replay_form words)))
 
+-- the command that is given a number at its end, if the words are a form of one
+abbrev pub numbered_command : List (List ℕ) → Option Command
+numbered_command words =
+    option_or (option_map Series (series_form words)) (option_map Demo (demo_form words))
+
 -- The command that the words are a form of, if they are one. A further form is tried where none
 -- before it reads.
 unfoldable pub command_of : List (List ℕ) → Option Command
 command_of words =
     option_or (option_map Free (file_form (codes "free") words))
     (option_or (option_map Triangle (file_form (codes "triangle") words))
-    (option_or (pair_command words) (option_map Demo (demo_form words))))
+    (option_or (pair_command words) (numbered_command words)))
 
 -- how many workers the words of `score` name
 abbrev pub named_workers : Option DayNames → List (List ℕ) → ℕ

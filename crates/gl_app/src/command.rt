@@ -1,11 +1,12 @@
 ghost use Rattle.std.specs.Prelude.{◌≡◌, option_map};
 ghost use Rattle.std.specs.List.{list_all};
-ghost use Rattle.gl_app.specs.Words.{Demo, command_of, demo_form, file_form, is_dots, is_file_name, is_name_byte, pair_command};
+ghost use Rattle.gl_app.specs.Words.{Demo, Series, command_of, demo_form, numbered_command, series_form, file_form, is_dots, is_file_name, is_name_byte, pair_command};
 ghost use Rattle.gl_app.specs.Command.{seen};
 
 use crate::day_names::{DayNames, read_check, read_score};
 use crate::day_number::{DayNumber, read_demo};
 use crate::replay_words::{ReplayWords, read_replay};
+use crate::series_words::{SeriesWords, read_series};
 use gl_desk::Name;
 
 /// The most bytes that the name of a file has.
@@ -24,6 +25,8 @@ pub enum Command<'a> {
     Check(DayNames<'a>),
     /// `replay FILE SCHEDULE WORKERS`: the best free distance of a recording by a schedule.
     Replay(ReplayWords<'a>),
+    /// `series LIST DROP`: the standing of a championship.
+    Series(SeriesWords<'a>),
     /// `demo NUMBER`: the sheet of a generated day.
     Demo(DayNumber),
 }
@@ -73,12 +76,27 @@ fn read_pair(words: &[Name]) -> Option<Command<'_>>
         .or_else(|| read_replay(words).map(Command::Replay))
 }
 
+/// `series LIST DROP`.
+fn read_championship(words: &[Name]) -> Option<Command<'_>>
+    ensures { option_map seen result ≡ option_map Series (series_form words.now) }
+{
+    let series = read_series(words)?;
+    Some(Command::Series(series))
+}
+
 /// `demo NUMBER`.
 fn read_generated(words: &[Name]) -> Option<Command<'_>>
     ensures { option_map seen result ≡ option_map Demo (demo_form words.now) }
 {
     let day = read_demo(words)?;
     Some(Command::Demo(day))
+}
+
+/// A command that is given a number at its end.
+fn read_numbered(words: &[Name]) -> Option<Command<'_>>
+    ensures { option_map seen result ≡ numbered_command words.now }
+{
+    read_championship(words).or_else(|| read_generated(words))
 }
 
 /// The command that the words are a form of; `None` where they are of no form. The form of a
@@ -91,5 +109,5 @@ pub fn read_words(words: &[Name]) -> Option<Command<'_>>
         .map(Command::Free)
         .or_else(|| read_file("triangle", words).map(Command::Triangle))
         .or_else(|| read_pair(words))
-        .or_else(|| read_generated(words))
+        .or_else(|| read_numbered(words))
 }

@@ -6,8 +6,8 @@ ghost use Rattle.gl_app.specs.DayNames.{names_seen};
 ghost use Rattle.gl_app.specs.Halts.{AreBytes, IsNoFault, IsTested, halt_stop};
 
 use crate::day_names::DayNames;
-use crate::halt::{Halt, refusing, refusing_for};
 use crate::file_tests::MOST_PROOF_BYTES;
+use crate::halt::{Halt, refusing, refusing_for};
 use crate::refusal::Cause;
 use gl_airspace::{AirError, Airspace, empty, read_openair};
 use gl_day::MOST_BYTES;

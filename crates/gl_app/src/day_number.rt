@@ -1,11 +1,11 @@
-ghost use Rattle.std.specs.Prelude.{◌≡◌, ◌≤◌, option_map};
-ghost use Rattle.gl_app.specs.Words.{day_number, demo_form};
+ghost use Rattle.std.specs.Prelude.{◌≡◌, ◌≤◌, IfSome, option_map};
+ghost use Rattle.gl_app.specs.Words.{day_number, demo_form, number_within};
 
 use gl_desk::Name;
 use gl_text::read_u64;
 
 /// The greatest number of a generated day.
-const GREATEST_NUMBER: u64 = 1_000_000;
+const GREATEST_NUMBER: u32 = 1_000_000;
 
 /// The number of a generated day.
 #[derive(Clone, Copy, Debug)]
@@ -15,17 +15,24 @@ pub struct DayNumber {
     pub ghost most: { number ≤ 1_000_000 },
 }
 
+/// The number within two limits that a word writes.
+pub fn read_within(word: &Name, least: u32, most: u32) -> Option<u32>
+    ensures number { result ≡ number_within least most word.now }
+    ensures within { IfSome result (λ number. (least ≤ number) × (number ≤ most)) }
+{
+    let number = read_u64(word.as_str().as_bytes())?;
+    if number < u64::from(least) || number > u64::from(most) {
+        return None;
+    }
+    Some(number as u32)
+}
+
 /// The number from 1 to 1,000,000 that a word writes.
 fn read_number(word: &Name) -> Option<DayNumber>
     ensures { option_map (λ day. day.number) result ≡ day_number word.now }
 {
-    let number = read_u64(word.as_str().as_bytes())?;
-    if number < 1 || number > GREATEST_NUMBER {
-        return None;
-    }
-    Some(DayNumber {
-        number: number as u32,
-    })
+    let number = read_within(word, 1, GREATEST_NUMBER)?;
+    Some(DayNumber { number })
 }
 
 /// The number in `demo NUMBER`.

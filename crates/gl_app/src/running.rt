@@ -18,6 +18,7 @@ use crate::of_file::{Course, answer_of_file};
 use crate::racing::{Racing, race};
 use crate::replay::replay_schedule;
 use crate::score::score;
+use crate::series::series;
 use crate::status::Status;
 use crate::texts::usage;
 use gl_day::{Alone, Search};
@@ -54,6 +55,7 @@ fn answer_to_command<D: Desk, S: Search>(
         Command::Score(day) => score(alloc, desk, search, day, stewards),
         Command::Check(day) => check(alloc, desk, day),
         Command::Replay(words) => replay_schedule(alloc, desk, words),
+        Command::Series(words) => series(alloc, desk, words),
         Command::Demo(day) => demo(alloc, day, stewards),
     }
 }

@@ -6,7 +6,7 @@ use std::alloc::{AllocError, Global};
 
 /// The line for words that are of no form.
 const USAGE: &str = "usage: free FILE | triangle FILE | score TASK PROOF WORKERS | \
-    check TASK PROOF | replay FILE SCHEDULE WORKERS | demo NUMBER\n";
+    check TASK PROOF | replay FILE SCHEDULE WORKERS | series LIST DROP | demo NUMBER\n";
 
 /// How many digits of a length in centimetres stand behind the point of its metres.
 const METRE_PLACES: u32 = 2;

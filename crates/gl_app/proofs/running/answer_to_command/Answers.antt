@@ -3,6 +3,8 @@ use Rattle.gl_app.specs.Demo.{demo_promise}
 use Rattle.gl_app.specs.Free.{free_promise}
 use Rattle.gl_app.specs.Replay.{replay_promise}
 use Rattle.gl_app.specs.ReplayWords.{replay_seen}
+use Rattle.gl_app.specs.Series.{series_promise}
+use Rattle.gl_app.specs.SeriesWords.{series_seen}
 use Rattle.gl_app.specs.Triangle.{triangle_promise}
 use Rattle.gl_app.proofs.Commanded.{check_right, reads_right, unread_right}
 use Rattle.gl_app.proofs.running.answer_to_command.Goals as goal
@@ -34,6 +36,12 @@ returns-in-Replay-clause-right g c =
     let before = g.D.Desk.told c.args.desk.now in
     let promise = replay_promise before.folder (replay_seen c.in-Replay.words) in
     rw c.in-Replay.is (reads_right promise.IsRight promise.Passes before (g.D.Desk.told c.replay_schedule.new.desk) c.replay_schedule.result c.replay_schedule.ensures.right c.replay_schedule.ensures.reads)
+
+pub returns-in-Series-clause-right : goal.returns-in-Series-clause-right
+returns-in-Series-clause-right g c =
+    let before = g.D.Desk.told c.args.desk.now in
+    let promise = series_promise before.folder (series_seen c.in-Series.words) in
+    rw c.in-Series.is (reads_right promise.IsRight promise.Passes before (g.D.Desk.told c.series.new.desk) c.series.result c.series.ensures.right c.series.ensures.reads)
 
 pub returns-in-Demo-clause-right : goal.returns-in-Demo-clause-right
 returns-in-Demo-clause-right g c =
