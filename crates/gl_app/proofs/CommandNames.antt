@@ -5,7 +5,7 @@ use Rattle.std.specs.Cmp.{first_so, second_so}
 use Rattle.std.specs.Str.Parse.{digits_value}
 use Rattle.std.specs.Option.{option_or}
 use Rattle.gl_sphere.specs.PlaceText.{place_of_text}
-use Rattle.gl_app.specs.Words.{Check, Command, DayNames, Demo, Free, Near, NearCheck, NearWords, Point, Replay, ReplayWords, Score, Triangle, check_form, command_of, day_names, demo_form, file_form, is_file_name, is_text, is_worker_count, near_form, near_words, number_within, point_form, replay_form, replay_words, score_form}
+use Rattle.gl_app.specs.Words.{Check, Command, DayNames, Demo, Free, Near, NearCheck, NearWords, Point, Replay, ReplayWords, Score, Series, SeriesWords, Triangle, check_form, command_of, day_names, demo_form, file_form, is_file_name, is_text, is_worker_count, near_form, near_words, number_within, point_form, replay_form, replay_words, score_form, series_form, series_words}
 use Rattle.gl_app.proofs.DayLines.{AreUnbroken}
 use Rattle.gl_app.proofs.NearLaws.{HasUnbrokenNear}
 use Rattle.gl_app.proofs.ReplayLaws.{HasUnbrokenFiles}
@@ -22,6 +22,7 @@ HasUnbrokenNames (Some (Replay words)) = HasUnbrokenFiles words
 HasUnbrokenNames (Some (Near words)) = HasUnbrokenNear words
 HasUnbrokenNames (Some (NearCheck words)) = HasUnbrokenNear words
 HasUnbrokenNames (Some (Point words)) = is_unbroken words.flight ≡ true
+HasUnbrokenNames (Some (Series words)) = is_unbroken words.list ≡ true
 HasUnbrokenNames (Some (Demo number)) = Unit {0}
 
 -- so has one file
@@ -165,6 +166,26 @@ point_names (word ∷ flight ∷ place ∷ []) =
     some_point (is_text word (codes "point")) (is_file_name flight) (is_some (place_of_text place)) flight place (is_unbroken-file flight)
 point_names (word ∷ flight ∷ place ∷ more ∷ words) = tt
 
+-- so has the list of `series`
+some_list : (is : Bool) (words : SeriesWords) → (is ≡ true → is_unbroken words.list ≡ true) → HasUnbrokenNames (option_map Series (if is then Some words else None))
+some_list true words named = named refl
+some_list false words named = tt
+
+series_list : (list : List ℕ) (days : Option ℕ) → HasUnbrokenNames (option_map Series (series_words list days))
+series_list list None = tt
+series_list list (Some days) = some_list (is_file_name list) (record { list = list; left_out = days }) (is_unbroken-file list)
+
+if_series : (is : Bool) (words : Option SeriesWords) → HasUnbrokenNames (option_map Series words) → HasUnbrokenNames (option_map Series (if is then words else None))
+if_series true words named = named
+if_series false words named = tt
+
+series_names : (words : List (List ℕ)) → HasUnbrokenNames (option_map Series (series_form words))
+series_names [] = tt
+series_names (word ∷ []) = tt
+series_names (word ∷ list ∷ []) = tt
+series_names (word ∷ list ∷ days ∷ []) = if_series (is_text word (codes "series")) (series_words list (number_within 0 30 days)) (series_list list (number_within 0 30 days))
+series_names (word ∷ list ∷ days ∷ more ∷ words) = tt
+
 as_score : (names : Option DayNames) → HaveUnbroken names → HasUnbrokenNames (option_map Score names)
 as_score None named = tt
 as_score (Some names) named = named
@@ -196,13 +217,15 @@ command_names words =
     let point = option_map Point (point_form words) in
     let pair = option_or score (option_or check replay) in
     let nearest = option_or near (option_or near_check point) in
-    let last = option_or nearest demo in
+    let series = option_map Series (series_form words) in
+    let numbered = option_or series demo in
+    let last = option_or nearest numbered in
     or_names (option_or (option_map Free free) (option_map Triangle triangle)) (option_or pair last)
     (or_names (option_map Free free) (option_map Triangle triangle) (as_free free (file_names (codes "free") words)) (as_triangle triangle (file_names (codes "triangle") words)))
     (or_names pair last
     (or_names score (option_or check replay) (as_score (score_form words) (score_names words))
     (or_names check replay (as_check (check_form words) (check_names words)) (as_replay (replay_form words) (replay_names words))))
-    (or_names nearest demo
+    (or_names nearest numbered
     (or_names near (option_or near_check point) (as_near (near_form (codes "near") words) (near_names (codes "near") words))
     (or_names near_check point (as_near_check (near_form (codes "nearcheck") words) (near_names (codes "nearcheck") words)) (point_names words)))
-    (as_demo (demo_form words))))
+    (or_names series demo (series_names words) (as_demo (demo_form words)))))

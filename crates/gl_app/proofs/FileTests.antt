@@ -8,13 +8,15 @@ use Rattle.gl_igc.specs.declared.error.IgcError.{IgcError}
 use Rattle.gl_igc.specs.declared.error.IgcError.TheVariants as igc
 use Rattle.gl_near.proofs.Reading.{text_refused}
 use Rattle.gl_plain.proofs.StepLines.{schedule_told}
+use Rattle.gl_series.proofs.Lines.{list_told}
+use Rattle.gl_series.proofs.Sheets.{sheet_told}
 use Rattle.gl_app.specs.declared.halt.Halt.{Halt}
 use Rattle.gl_app.specs.declared.halt.Halt.TheVariants.{Refused, Stopped}
 use Rattle.gl_app.specs.declared.refusal.Cause.{Cause}
 use Rattle.gl_app.specs.declared.refusal.Refusal.{Refusal}
 use Rattle.gl_app.specs.declared.status.Status.TheVariants as status
 use Rattle.gl_app.specs.Answer.{Answer, refused}
-use Rattle.gl_app.specs.FileTests.{AllPass, Fails, NearProofText, near_proof_cause, FileTest, FirstFails, HasRead, HasReadFile, IsByTests, IsNoText, IsText, Kind, Listed, PassByTests, Passes, Reads, RecordingText, ScheduleText, Small, Unlisted, file_of, recording_cause, schedule_cause, text_tests}
+use Rattle.gl_app.specs.FileTests.{AllPass, Fails, NearProofText, SeriesListText, SheetText, list_cause, near_proof_cause, sheet_cause, FileTest, FirstFails, HasRead, HasReadFile, IsByTests, IsNoText, IsText, Kind, Listed, PassByTests, Passes, Reads, RecordingText, ScheduleText, Small, Unlisted, file_of, recording_cause, schedule_cause, text_tests}
 use Rattle.gl_app.specs.Halts.{AreBytes, RefusesFor}
 use Rattle.gl_app.specs.Texts.{IsLine}
 use Rattle.gl_app.proofs.LineTexts.{is_unbroken, said_by}
@@ -28,6 +30,10 @@ text_or_not ScheduleText text cause (steps, is) (error, told, why) =
     let e : ◌≡◌ {A = Option Cause} None (Some cause) = sym (ap schedule_cause (schedule_told text steps error is told)) ∙ why in cc
 text_or_not NearProofText text cause (best, boxes, is) (error, told, why) =
     let e : ◌≡◌ {A = Option Cause} None (Some cause) = sym (ap near_proof_cause (text_refused text best boxes error is told)) ∙ why in cc
+text_or_not SeriesListText text cause (series, is) (error, told, why) =
+    let e : ◌≡◌ {A = Option Cause} None (Some cause) = sym (ap list_cause (list_told text series error is told)) ∙ why in cc
+text_or_not SheetText text cause (day, is) (error, told, why) =
+    let e : ◌≡◌ {A = Option Cause} None (Some cause) = sym (ap sheet_cause (sheet_told text day error is told)) ∙ why in cc
 
 -- no test passes and fails
 passes_or_fails : (test : FileTest) (cause : Cause) → Passes test → Fails test cause → ⊥
@@ -75,7 +81,7 @@ abbrev pub AreNamed : List FileTest → Type 0
 AreNamed [] = Unit {0}
 AreNamed (test ∷ tests) = (is_unbroken (file_of test) ≡ true) × AreNamed tests
 
-refusal_named : (tests : List FileTest) (refusal : Refusal) → AreNamed tests → FirstFails tests refusal → is_unbroken refusal.file ≡ true
+pub refusal_named : (tests : List FileTest) (refusal : Refusal) → AreNamed tests → FirstFails tests refusal → is_unbroken refusal.file ≡ true
 refusal_named [] refusal named fails = absurd fails
 refusal_named (test ∷ tests) refusal named (inl (file, fails)) = ap is_unbroken file ∙ named.0
 refusal_named (test ∷ tests) refusal named (inr (pass, fails)) = refusal_named tests refusal named.1 fails

@@ -27,8 +27,11 @@ pub mod LineTexts
 pub mod OneAnswer
 pub mod OneDay
 pub mod OneFlight
+pub mod OneSeries
 pub mod Readings
 pub mod ReplayTests
+pub mod SeriesLaws
+pub mod SeriesTests
 pub mod Replays
 pub mod Pieces
 pub mod Rights

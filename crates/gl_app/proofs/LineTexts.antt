@@ -9,8 +9,9 @@ use Rattle.std.proofs.lemmas.List.Sums.{AllPass-from_list_all, list_all-from_All
 use Rattle.std.proofs.lemmas.List.Elements.{All-contains, All-weaker}
 use Rattle.gl_app.specs.declared.refusal.Cause.{Cause}
 use Rattle.gl_app.specs.declared.refusal.Cause.TheVariants.{NotListed, Listed, TooLarge, NotIgc, NoDate, TooManyFixes, NoFix, NotToml, NoKey, WrongValue, NumberTwice, TooManyItems, WrongAirspace, TooMuchAirspace, WrongStep, TooManySteps, NoHeading, WrongProof, ProofCut, WrongDay, NoNearHeading, WrongNearProof, NearProofCut}
+use Rattle.gl_app.specs.declared.refusal.Cause.TheVariants.{NoListHeading, NoSheetHeading, WrongListLine, WrongRecord}
 use Rattle.gl_app.specs.Answer.{Answer, refused}
-use Rattle.gl_app.specs.Refusals.{Parts, Place, Nowhere, AtLine, AtKey, parts_of, place_text, line_with, refusal_line, file_refusal}
+use Rattle.gl_app.specs.Refusals.{Parts, Place, Nowhere, AtLine, AtRecord, AtKey, parts_of, place_text, line_with, refusal_line, file_refusal}
 use Rattle.gl_app.specs.Texts.{IsLine, wrong_line}
 use Rattle.gl_app.specs.Words.{is_dots, is_file_name, is_name_byte}
 
@@ -68,6 +69,7 @@ number_unbroken n = digits_unbroken 64 n [] refl
 place_unbroken : (place : Place) → is_unbroken (place_text place) ≡ true
 place_unbroken Nowhere = refl
 place_unbroken (AtLine line) = number_unbroken line
+place_unbroken (AtRecord number) = number_unbroken number
 place_unbroken (AtKey row item part) = simp (list_all-append, number_unbroken row, number_unbroken item, number_unbroken part) refl
 
 kind_unbroken : (cause : Cause) → is_unbroken (parts_of cause).kind ≡ true
@@ -94,6 +96,10 @@ kind_unbroken ProofCut = refl
 kind_unbroken NoNearHeading = refl
 kind_unbroken (WrongNearProof line) = refl
 kind_unbroken NearProofCut = refl
+kind_unbroken NoListHeading = refl
+kind_unbroken (WrongListLine line) = refl
+kind_unbroken NoSheetHeading = refl
+kind_unbroken (WrongRecord number) = refl
 
 -- a refusal of a file whose name has no LF is one line
 refusal_is_line : (file : List ℕ) (cause : Cause) → is_unbroken file ≡ true → IsLine (refusal_line (file_refusal file cause))

@@ -15,7 +15,7 @@ use Rattle.gl_app.specs.Run.{Ends, Gives, GivesBegun, IsStopped, SaidLine, Stops
 use Rattle.gl_app.specs.Statuses.{stop_at}
 use Rattle.gl_app.specs.Texts.{IsLine, usage_line}
 use Rattle.gl_app.specs.Triangle.{IsTriangleText}
-use Rattle.gl_app.specs.Words.{Check, Command, Demo, Free, Near, NearCheck, Point, Replay, Score, Triangle}
+use Rattle.gl_app.specs.Words.{Check, Command, Demo, Free, Near, NearCheck, Point, Replay, Score, Series, Triangle}
 use Rattle.gl_app.proofs.CheckLaws.{check_lawful}
 use Rattle.gl_app.proofs.CommandNames.{HasUnbrokenNames}
 use Rattle.gl_app.proofs.DemoLaws.{demo_lawful}
@@ -25,6 +25,7 @@ use Rattle.gl_app.proofs.OfFileLaws.{of_file_lawful}
 use Rattle.gl_app.proofs.Promises.{IsLawful, result_goes_on, result_no_words}
 use Rattle.gl_app.proofs.ReplayLaws.{replay_lawful}
 use Rattle.gl_app.proofs.ScoreLaws.{score_lawful}
+use Rattle.gl_app.proofs.SeriesLaws.{series_lawful}
 
 -- Each command keeps the laws. A further command has its line here.
 lawful_of : (folder : Option FilesByName) (stewards : List StewardRules) (command : Command) → HasUnbrokenNames (Some command) → IsLawful (promise_of folder stewards (Some command))
@@ -36,6 +37,7 @@ lawful_of folder stewards (Replay words) named = replay_lawful folder words name
 lawful_of folder stewards (Near words) named = near_lawful folder words named
 lawful_of folder stewards (NearCheck words) named = near_check_lawful folder words named
 lawful_of folder stewards (Point words) named = of_file_lawful (IsPointText words.place) folder words.flight named
+lawful_of folder stewards (Series words) named = series_lawful folder words named
 lawful_of folder stewards (Demo number) named = demo_lawful folder stewards number
 
 -- a right answer has no status of a run that is stopped

@@ -16,10 +16,19 @@ use Rattle.gl_plain.specs.Schedule.{IsRefused, IsSchedule}
 use Rattle.gl_plain.specs.declared.error.StepError.{StepError}
 use Rattle.gl_plain.specs.declared.error.StepError.TheVariants as step
 use Rattle.gl_plain.specs.declared.schedule.Step.{Step}
+use Rattle.gl_series.specs.SeriesList as series_list
+use Rattle.gl_series.specs.SheetText as sheet_text
+use Rattle.gl_series.specs.declared.day.DaySheet.{DaySheet}
+use Rattle.gl_series.specs.declared.error.ListError.{ListError}
+use Rattle.gl_series.specs.declared.error.ListError.TheVariants as list
+use Rattle.gl_series.specs.declared.error.SheetError.{SheetError}
+use Rattle.gl_series.specs.declared.error.SheetError.TheVariants as sheet
+use Rattle.gl_series.specs.declared.series.Series.{Series}
 use Rattle.gl_app.specs.declared.halt.Halt.{Halt}
 use Rattle.gl_app.specs.declared.halt.Halt.TheVariants.{Refused, Stopped}
 use Rattle.gl_app.specs.declared.refusal.Cause.{Cause}
 use Rattle.gl_app.specs.declared.refusal.Cause.TheVariants.{NearProofCut, NoDate, NoFix, NoNearHeading, NotIgc, NotListed, TooLarge, TooManyFixes, TooManySteps, WrongDay, WrongNearProof, WrongStep}
+use Rattle.gl_app.specs.declared.refusal.Cause.TheVariants.{NoListHeading, NoSheetHeading, WrongListLine, WrongRecord}
 use Rattle.gl_app.specs.declared.refusal.Cause.TheVariants as cause
 use Rattle.gl_app.specs.declared.refusal.Refusal.{Refusal}
 use Rattle.gl_app.specs.Answer.{Answer, refused}
@@ -27,11 +36,14 @@ use Rattle.gl_app.specs.Promise.{IsTold}
 use Rattle.gl_app.specs.Refusals.{file_refusal}
 
 -- What a text is to be: a recording, by the day of a task if there is one; a schedule; the proof of a
--- closest approach. A further kind has its line here, and in the two rules below.
+-- closest approach; the list of a championship; the sheet of one of its days. A further kind has its
+-- line here, and in the two rules below.
 pub data Kind : Type 0 where
   RecordingText : Option ℤ → Kind
   ScheduleText : Kind
   NearProofText : Kind
+  SeriesListText : Kind
+  SheetText : Kind
 
 -- why a text is no recording
 abbrev pub recording_cause : IgcError → Option Cause
@@ -55,12 +67,26 @@ near_proof_cause (proof.Line line) = Some (WrongNearProof line)
 near_proof_cause proof.Cut = Some NearProofCut
 near_proof_cause proof.Memory = None
 
+-- why a text is no list of a championship
+abbrev pub list_cause : ListError → Option Cause
+list_cause list.Heading = Some NoListHeading
+list_cause (list.Line line) = Some (WrongListLine line)
+list_cause list.Memory = None
+
+-- why a text is no sheet of a day
+abbrev pub sheet_cause : SheetError → Option Cause
+sheet_cause sheet.Heading = Some NoSheetHeading
+sheet_cause (sheet.Record number) = Some (WrongRecord number)
+sheet_cause sheet.Memory = None
+
 -- a text is of a kind
 abbrev pub IsText : Kind → List ℕ → Type 0
 IsText (RecordingText day) text = (reading : Reading) × (recording_of text day ≡ Ok reading)
 IsText ScheduleText text = (steps : List Step) × IsSchedule text steps
 IsText NearProofText text =
     (best : Option NearBest) × (boxes : List (List (ℕ × ℕ) × NearWhy)) × IsTextOf text best boxes
+IsText SeriesListText text = (series : Series) × series_list.IsList text series
+IsText SheetText text = (day : DaySheet) × sheet_text.IsSheetOf text day
 
 -- a text isn't of a kind, for this cause
 abbrev pub IsNoText : Kind → List ℕ → Cause → Type 0
@@ -72,6 +98,10 @@ IsNoText ScheduleText text cause =
 IsNoText NearProofText text cause =
     (error : ProofError) × IsRefusal near_grammar text error
     × (near_proof_cause error ≡ Some cause)
+IsNoText SeriesListText text cause =
+    (error : ListError) × series_list.IsRefused text error × (list_cause error ≡ Some cause)
+IsNoText SheetText text cause =
+    (error : SheetError) × sheet_text.IsRefusedSheet text error × (sheet_cause error ≡ Some cause)
 
 -- What is tested of a file, by what is seen of it, its bytes or that it isn't listed: that it is
 -- listed, that it isn't, that it has at most so many bytes, and what its text is.

@@ -19,6 +19,9 @@ pub mod Near
 pub mod ReplayWords
 pub mod ReplayFiles
 pub mod Replay
+pub mod SeriesWords
+pub mod SeriesFiles
+pub mod Series
 pub mod DayNames
 pub mod Halts
 pub mod FileTests

@@ -2,11 +2,12 @@
 use Rattle.gl_app.specs.declared.line.Place as code
 use Rattle.gl_app.specs.declared.line.Place.TheVariants as place
 use Rattle.gl_app.specs.declared.line.Parts as code_parts
-use Rattle.gl_app.specs.Refusals.{Place, Nowhere, AtLine, Parts, at_key}
+use Rattle.gl_app.specs.Refusals.{Place, Nowhere, AtLine, AtRecord, Parts, at_key}
 
 abbrev pub place_seen : code.Place → Place
 place_seen place.Nowhere = Nowhere
 place_seen (place.AtLine line) = AtLine line
+place_seen (place.AtRecord number) = AtRecord number
 place_seen (place.AtKey key) = at_key key
 
 abbrev pub parts_seen : code_parts.Parts → Parts

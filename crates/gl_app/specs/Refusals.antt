@@ -4,19 +4,22 @@ use Rattle.std.specs.Fmt.{decimal}
 use Rattle.gl_task.specs.declared.error.Key.{Key}
 use Rattle.gl_app.specs.declared.refusal.Cause.{Cause}
 use Rattle.gl_app.specs.declared.refusal.Cause.TheVariants.{NotListed, Listed, TooLarge, NotIgc, NoDate, WrongDay, TooManyFixes, NoFix, NotToml, NoKey, WrongValue, NumberTwice, TooManyItems, WrongAirspace, TooMuchAirspace, WrongStep, TooManySteps, NoHeading, WrongProof, ProofCut, NoNearHeading, WrongNearProof, NearProofCut}
+use Rattle.gl_app.specs.declared.refusal.Cause.TheVariants.{NoListHeading, NoSheetHeading, WrongListLine, WrongRecord}
 use Rattle.gl_app.specs.declared.refusal.Refusal.{Refusal}
 
--- where in a file something is refused: nowhere in particular, at a line, or at a key of a task by
--- its row, its item and its part
+-- where in a file something is refused: nowhere in particular, at a line, at a record of a sheet, or
+-- at a key of a task by its row, its item and its part
 pub data Place : Type 0 where
   Nowhere : Place
   AtLine : ℕ → Place
+  AtRecord : ℕ → Place
   AtKey : ℕ → ℕ → ℕ → Place
 
 -- how a line writes a place
 abbrev pub place_text : Place → List ℕ
 place_text Nowhere = codes "-"
 place_text (AtLine line) = decimal line
+place_text (AtRecord number) = decimal number
 place_text (AtKey row item part) =
     decimal row ++ codes "." ++ decimal item ++ codes "." ++ decimal part
 
@@ -58,6 +61,10 @@ parts_of ProofCut = parts_at (codes "PROOF") 3 Nowhere
 parts_of NoNearHeading = parts_at (codes "NEARPROOF") 1 Nowhere
 parts_of (WrongNearProof line) = parts_at (codes "NEARPROOF") 2 (AtLine line)
 parts_of NearProofCut = parts_at (codes "NEARPROOF") 3 Nowhere
+parts_of NoListHeading = parts_at (codes "SERIES") 1 Nowhere
+parts_of (WrongListLine line) = parts_at (codes "SERIES") 2 (AtLine line)
+parts_of NoSheetHeading = parts_at (codes "SHEET") 1 Nowhere
+parts_of (WrongRecord number) = parts_at (codes "SHEET") 2 (AtRecord number)
 
 -- the line with these parts, and the name of a file: the kind, the number, the place and the name
 unfoldable pub line_with : Parts → List ℕ → List ℕ

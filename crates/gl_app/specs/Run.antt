@@ -16,10 +16,11 @@ use Rattle.gl_app.specs.Near.{near_check_promise, near_promise, point_promise}
 use Rattle.gl_app.specs.Promise.{Promise, no_command}
 use Rattle.gl_app.specs.Replay.{replay_promise}
 use Rattle.gl_app.specs.Score.{score_promise}
+use Rattle.gl_app.specs.Series.{series_promise}
 use Rattle.gl_app.specs.Statuses.{stop_at}
 use Rattle.gl_app.specs.Texts.{IsLine}
 use Rattle.gl_app.specs.Triangle.{triangle_promise}
-use Rattle.gl_app.specs.Words.{Check, Command, Demo, Free, Near, NearCheck, Point, Replay, Score, Triangle, command_of}
+use Rattle.gl_app.specs.Words.{Check, Command, Demo, Free, Near, NearCheck, Point, Replay, Score, Series, Triangle, command_of}
 
 -- The promise of a command, or of words of no form. A further command has its line here.
 abbrev pub promise_of : Option FilesByName → List StewardRules → Option Command → Promise
@@ -32,6 +33,7 @@ promise_of folder stewards (Some (Replay words)) = replay_promise folder words
 promise_of folder stewards (Some (Near words)) = near_promise folder words
 promise_of folder stewards (Some (NearCheck words)) = near_check_promise folder words
 promise_of folder stewards (Some (Point words)) = point_promise folder words
+promise_of folder stewards (Some (Series words)) = series_promise folder words
 promise_of folder stewards (Some (Demo number)) = demo_promise folder stewards number
 
 -- the answer was given: all of it was appended and said, and the run ended with its status; where

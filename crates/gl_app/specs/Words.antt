@@ -30,6 +30,11 @@ pub record PointWords : Type 0 where
   pub flight : List ℕ
   pub place : List ℕ
 
+-- the name of a list of days, and how many of the days are left out for each pilot
+pub record SeriesWords : Type 0 where
+  pub list : List ℕ
+  pub left_out : ℕ
+
 -- a command and what it is given
 pub data Command : Type 0 where
   Free : List ℕ → Command
@@ -40,6 +45,7 @@ pub data Command : Type 0 where
   Near : NearWords → Command
   NearCheck : NearWords → Command
   Point : PointWords → Command
+  Series : SeriesWords → Command
   Demo : ℕ → Command
 
 -- two texts are the same
@@ -155,6 +161,21 @@ point_form (word ∷ flight ∷ place ∷ []) =
     then Some (record { flight = flight; place = place }) else None
 point_form (word ∷ flight ∷ place ∷ more ∷ words) = None
 
+-- what `series` is given, where the name is that of a file
+abbrev pub series_words : List ℕ → Option ℕ → Option SeriesWords
+series_words list None = None
+series_words list (Some days) =
+    if is_file_name list then Some (record { list = list; left_out = days }) else None
+
+-- `series LIST DROP`, where the number of days is 0 to 30
+abbrev pub series_form : List (List ℕ) → Option SeriesWords
+series_form [] = None
+series_form (word ∷ []) = None
+series_form (word ∷ list ∷ []) = None
+series_form (word ∷ list ∷ days ∷ []) =
+    if is_text word (codes "series") then series_words list (number_within 0 30 days) else None
+series_form (word ∷ list ∷ days ∷ more ∷ words) = None
+
 -- the number from 1 to 1,000,000 that a word writes, without a sign and a leading zero
 abbrev pub day_number : List ℕ → Option ℕ
 day_number word = number_within 1 1_000_000 word
@@ -185,13 +206,18 @@ near_command words =
     (option_or (option_map NearCheck (near_form (codes "nearcheck") words))
     (option_map Point (point_form words)))
 
+-- the command that is given a number at its end, if the words are a form of one
+abbrev pub numbered_command : List (List ℕ) → Option Command
+numbered_command words =
+    option_or (option_map Series (series_form words)) (option_map Demo (demo_form words))
+
 -- The command that the words are a form of, if they are one. A further form is tried where none
 -- before it reads.
 unfoldable pub command_of : List (List ℕ) → Option Command
 command_of words =
     option_or (file_command words)
     (option_or (pair_command words)
-    (option_or (near_command words) (option_map Demo (demo_form words))))
+    (option_or (near_command words) (numbered_command words)))
 
 -- how many workers the words of `score` name
 abbrev pub named_workers : Option DayNames → List (List ℕ) → ℕ

@@ -1,12 +1,13 @@
 ghost use Rattle.std.specs.Prelude.{◌≡◌, option_map};
 ghost use Rattle.std.specs.List.{list_all};
-ghost use Rattle.gl_app.specs.Words.{Demo, command_of, demo_form, file_command, file_form, is_dots, is_file_name, is_name_byte, near_command, pair_command};
+ghost use Rattle.gl_app.specs.Words.{Demo, Series, command_of, demo_form, file_command, file_form, is_dots, is_file_name, is_name_byte, near_command, numbered_command, pair_command, series_form};
 ghost use Rattle.gl_app.specs.Command.{seen};
 
 use crate::day_names::{DayNames, read_check, read_score};
 use crate::day_number::{DayNumber, read_demo};
 use crate::near_words::{NearWords, PointWords, read_near_words, read_point};
 use crate::replay_words::{ReplayWords, read_replay};
+use crate::series_words::{SeriesWords, read_series};
 use gl_desk::Name;
 
 /// The most bytes that the name of a file has.
@@ -31,6 +32,8 @@ pub enum Command<'a> {
     NearCheck(NearWords<'a>),
     /// `point FILE PLACE`: how near a flight came to a place.
     Point(PointWords<'a>),
+    /// `series LIST DROP`: the standing of a championship.
+    Series(SeriesWords<'a>),
     /// `demo NUMBER`: the sheet of a generated day.
     Demo(DayNumber),
 }
@@ -99,12 +102,27 @@ fn read_near(words: &[Name]) -> Option<Command<'_>>
         .or_else(|| read_point(words).map(Command::Point))
 }
 
+/// `series LIST DROP`.
+fn read_championship(words: &[Name]) -> Option<Command<'_>>
+    ensures { option_map seen result ≡ option_map Series (series_form words.now) }
+{
+    let series = read_series(words)?;
+    Some(Command::Series(series))
+}
+
 /// `demo NUMBER`.
 fn read_generated(words: &[Name]) -> Option<Command<'_>>
     ensures { option_map seen result ≡ option_map Demo (demo_form words.now) }
 {
     let day = read_demo(words)?;
     Some(Command::Demo(day))
+}
+
+/// A command that is given a number at its end.
+fn read_numbered(words: &[Name]) -> Option<Command<'_>>
+    ensures { option_map seen result ≡ numbered_command words.now }
+{
+    read_championship(words).or_else(|| read_generated(words))
 }
 
 /// The command that the words are a form of; `None` where they are of no form. The form of a
@@ -116,5 +134,5 @@ pub fn read_words(words: &[Name]) -> Option<Command<'_>>
     read_course(words)
         .or_else(|| read_pair(words))
         .or_else(|| read_near(words))
-        .or_else(|| read_generated(words))
+        .or_else(|| read_numbered(words))
 }

@@ -4,7 +4,7 @@ ghost use Rattle.gl_app.specs.Halts.{Refuses, RefusesFor};
 
 use crate::refusal::{Cause, Refusal};
 use gl_desk::{DeskError, Name};
-use std::alloc::AllocError;
+use std::alloc::{AllocError, AllocFailed};
 
 /// What ends a command before its answer.
 #[derive(Debug, Drop)]
@@ -31,6 +31,16 @@ impl From<AllocError> for Halt {
     ghost from_gives = { λ _ halt. halt ≡ Stopped Memory };
 
     fn from(_error: AllocError) -> Halt {
+        Halt::Stopped(DeskError::Memory)
+    }
+}
+
+impl<T: Drop> From<AllocFailed<T>> for Halt {
+    ghost use Rattle.gl_app.specs.declared.halt.Halt.TheVariants.{Stopped};
+
+    ghost from_gives = { λ _ halt. halt ≡ Stopped Memory };
+
+    fn from(_error: AllocFailed<T>) -> Halt {
         Halt::Stopped(DeskError::Memory)
     }
 }

@@ -34,13 +34,16 @@ mod running;
 mod score;
 mod scoring;
 mod seeing;
+mod series;
+mod series_files;
+mod series_words;
 mod shelf;
 mod status;
 mod texts;
 mod triangle;
 
 pub use day_names::worker_count;
-pub use laws::one_answer;
+pub use laws::{one_answer, one_series};
 pub use program::run_program;
 pub use running::{run, run_single};
 pub use status::Status;

@@ -20,6 +20,8 @@ pub enum Place {
     Nowhere,
     /// At a line, counted from 1.
     AtLine(u32),
+    /// At a record of a sheet, counted from 1.
+    AtRecord(u32),
     /// At a key of a task.
     AtKey(Key),
 }
@@ -73,6 +75,10 @@ fn parts_of(cause: Cause) -> Parts
         Cause::NoNearHeading => parts_at("NEARPROOF", 1, Place::Nowhere),
         Cause::WrongNearProof(line) => parts_at("NEARPROOF", 2, Place::AtLine(line)),
         Cause::NearProofCut => parts_at("NEARPROOF", 3, Place::Nowhere),
+        Cause::NoListHeading => parts_at("SERIES", 1, Place::Nowhere),
+        Cause::WrongListLine(line) => parts_at("SERIES", 2, Place::AtLine(line)),
+        Cause::NoSheetHeading => parts_at("SHEET", 1, Place::Nowhere),
+        Cause::WrongRecord(number) => parts_at("SHEET", 2, Place::AtRecord(number)),
     }
 }
 
@@ -94,6 +100,7 @@ fn push_place(line: &mut Vec<u8>, place: Place) -> Result<(), AllocError>
     match place {
         Place::Nowhere => Ok(line.push(b'-')?),
         Place::AtLine(number) => push_u64(line, u64::from(number)),
+        Place::AtRecord(number) => push_u64(line, u64::from(number)),
         Place::AtKey(key) => push_key(line, key),
     }
 }

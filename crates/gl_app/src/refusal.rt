@@ -51,6 +51,14 @@ pub enum Cause {
     WrongNearProof(u32),
     /// The proof of a closest approach has no end.
     NearProofCut,
+    /// The text doesn't begin with the heading of a championship's list.
+    NoListHeading,
+    /// This line of the list doesn't read.
+    WrongListLine(u32),
+    /// The first record isn't the heading of a sheet.
+    NoSheetHeading,
+    /// This record of the sheet is wrong.
+    WrongRecord(u32),
 }
 
 /// The first test of a file that failed: the name of the file, and why.

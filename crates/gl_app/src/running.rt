@@ -20,6 +20,7 @@ use crate::of_file::{Course, answer_of_file};
 use crate::racing::{Racing, race};
 use crate::replay::replay_schedule;
 use crate::score::score;
+use crate::series::series;
 use crate::status::Status;
 use crate::texts::usage;
 use gl_day::{Alone, Search};
@@ -61,6 +62,7 @@ fn answer_to_command<D: Desk, S: Search>(
         Command::Point(words) => {
             answer_of_file(alloc, desk, Course::Point(words.place.place), words.flight)
         }
+        Command::Series(words) => series(alloc, desk, words),
         Command::Demo(day) => demo(alloc, day, stewards),
     }
 }

@@ -4,6 +4,8 @@ use Rattle.gl_app.specs.Free.{free_promise}
 use Rattle.gl_app.specs.NearWords.{near_seen, point_seen}
 use Rattle.gl_app.specs.Replay.{replay_promise}
 use Rattle.gl_app.specs.ReplayWords.{replay_seen}
+use Rattle.gl_app.specs.Series.{series_promise}
+use Rattle.gl_app.specs.SeriesWords.{series_seen}
 use Rattle.gl_app.specs.Triangle.{triangle_promise}
 use Rattle.gl_app.proofs.Commanded.{check_right, reads_right, unread_right}
 use Rattle.gl_app.proofs.Nears.{near_checked, pointed}
@@ -46,6 +48,12 @@ returns-in-Point-clause-right g c =
     let before = g.D.Desk.told c.args.desk.now in
     let words = c.in-Point.words in
     rw c.in-Point.is (pointed (point_seen words) words.place.place words.place.reads before (g.D.Desk.told c.answer_of_file-in-Point.new.desk) c.answer_of_file-in-Point.result c.answer_of_file-in-Point.ensures.right c.answer_of_file-in-Point.ensures.reads)
+
+pub returns-in-Series-clause-right : goal.returns-in-Series-clause-right
+returns-in-Series-clause-right g c =
+    let before = g.D.Desk.told c.args.desk.now in
+    let promise = series_promise before.folder (series_seen c.in-Series.words) in
+    rw c.in-Series.is (reads_right promise.IsRight promise.Passes before (g.D.Desk.told c.series.new.desk) c.series.result c.series.ensures.right c.series.ensures.reads)
 
 pub returns-in-Demo-clause-right : goal.returns-in-Demo-clause-right
 returns-in-Demo-clause-right g c =

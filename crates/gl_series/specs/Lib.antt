@@ -1,0 +1,11 @@
+pub mod Adding
+pub mod AddingRows
+pub mod Choices
+pub mod Forms
+pub mod Laws
+pub mod OneByOne
+pub mod SeriesList
+pub mod SheetText
+pub mod StandingText
+pub mod Tallies
+pub mod Totals

@@ -1,0 +1,226 @@
+ghost use Rattle.std.specs.Prelude.{◌≡◌, ◌≢◌, ◌⊎◌, ◌↔◌, ◌≤◌, ◌<◌, ◌∷◌, ◌++◌, ℕ, List, All, IfOk, IfErr, IsErrOf, IsTrue, MatchOption, MatchResult, OnOk, drop, length, slice_index};
+ghost use Rattle.gl_text.specs.Lines.{lines_of};
+ghost use Rattle.gl_series.specs.declared.entry.Entry.{Entry};
+ghost use Rattle.gl_series.specs.declared.entry.Entry.TheVariants.{Day, Team};
+ghost use Rattle.gl_series.specs.declared.error.ListError.{ListError};
+ghost use Rattle.gl_series.specs.declared.error.ListError.TheVariants.{Memory};
+ghost use Rattle.gl_series.specs.declared.series.Member.{Member};
+ghost use Rattle.gl_series.specs.declared.series.Series.{Series};
+ghost use Rattle.gl_series.specs.Adding.{IsBehindHeading, IsFirstSpace, IsMember, IsNext, IsSpaced, IsStopped, Says, member_line, with_entry};
+ghost use Rattle.gl_series.specs.SeriesList.{HasNoHeading, IsEntry, IsLineOf, IsList, IsRefused, IsSeries, line_of};
+
+use crate::entry::Entry;
+use crate::error::ListError;
+use crate::form::{is_file_name, is_number, is_team, text_in};
+use crate::items::Items;
+use crate::series::{Member, Series};
+use gl_desk::Name;
+use gl_text::next_line;
+use std::alloc::{AllocError, Global};
+
+/// The first line of a list.
+const HEADING: &[u8] = b"GLIDESERIES 1";
+
+/// The most days of a list.
+const MOST_DAYS: usize = 30;
+
+/// The most members of teams in a list.
+const MOST_MEMBERS: usize = 1_000;
+
+/// The name of a day's file, where the line is that of a day.
+fn day_name(line: &[u8]) -> Option<&str>
+    ensures { MatchOption result
+        ((name : List ℕ) → IsEntry (Day name) → line.now ≢ line_of (Day name))
+        (λ name. IsEntry (Day name.now) × (line.now ≡ line_of (Day name.now))) }
+{
+    let name = text_in(line.strip_prefix(b"DAY ")?)?;
+    is_file_name(name).then_some(name)
+}
+
+/// The place of the first space of a text.
+fn space_in(text: &[u8]) -> Option<usize>
+    ensures { MatchOption result
+        ((k : ℕ) → k < length text.now → slice_index text.now k ≢ 32)
+        (IsFirstSpace text.now) }
+{
+    text.iter().position(|byte| *byte == b' ')
+}
+
+/// What stands before the first space of a text, and what stands behind it.
+#[tactic(auto, using(crate::proofs::Members::spaced_at))]
+fn parted(text: &[u8]) -> Option<(&[u8], &[u8])>
+    ensures { MatchOption result
+        ((front back : List ℕ) → text.now ≢ front ++ 32 ∷ back)
+        (λ parts. IsSpaced text.now parts.0.now parts.1.now) }
+{
+    let space = space_in(text)?;
+    Some((&text[..space], &text[space + 1..]))
+}
+
+/// The number and the team that a text writes, with a space between them.
+fn number_and_team(text: &[u8]) -> Option<(&str, &str)>
+    ensures { MatchOption result
+        ((number team : List ℕ) → IsMember number team → text.now ≢ number ++ 32 ∷ team)
+        (λ texts. IsMember texts.0.now texts.1.now
+        × (text.now ≡ texts.0.now ++ 32 ∷ texts.1.now)) }
+{
+    let (number, team) = parted(text)?;
+    let number = text_in(number)?;
+    let team = text_in(team)?;
+    if !is_number(number) {
+        return None;
+    }
+    if !is_team(team) {
+        return None;
+    }
+    Some((number, team))
+}
+
+/// The number and the team of a member, where the line is that of one.
+fn member_texts(line: &[u8]) -> Option<(&str, &str)>
+    ensures { MatchOption result
+        ((number team : List ℕ) → IsMember number team → line.now ≢ member_line number team)
+        (λ texts. IsMember texts.0.now texts.1.now
+        × (line.now ≡ member_line texts.0.now texts.1.now)) }
+{
+    number_and_team(line.strip_prefix(b"TEAM ")?)
+}
+
+/// The entry that a line writes.
+fn entry_of(alloc: Global, line: &[u8]) -> Result<Option<Entry>, AllocError>
+    ensures { IfOk result (λ read. MatchOption read
+        ((entry : Entry) → IsLineOf line.now entry → ⊥) (IsLineOf line.now)) }
+{
+    if let Some(name) = day_name(line) {
+        return Ok(Some(Entry::Day(Name::from_text(alloc, name)?)));
+    }
+    let Some((number, team)) = member_texts(line) else {
+        return Ok(None);
+    };
+    Ok(Some(Entry::Team(Member {
+        number: Name::from_text(alloc, number)?,
+        team: Name::from_text(alloc, team)?,
+    })))
+}
+
+/// Whether no day has this file.
+fn is_new_day(days: &[Name], name: &Name) -> bool
+    ensures { IsTrue result ↔ All (λ day. day ≢ name.now) days.now }
+{
+    days.iter().all(|day| *day != *name)
+}
+
+/// Whether no member has this number.
+fn is_new_number(teams: &[Member], number: &Name) -> bool
+    ensures { IsTrue result ↔ All (λ member. member.number ≢ number.now) teams.now }
+{
+    teams.iter().all(|member| member.number != *number)
+}
+
+/// Whether an entry fits to the days and members before it.
+fn fits(days: &[Name], teams: &[Member], entry: &Entry) -> bool
+    requires { IsSeries (record { days = days.now; teams = teams.now }) }
+    ensures { IsTrue result ↔ IsSeries (with_entry days.now teams.now entry.now) }
+{
+    match entry {
+        Entry::Day(name) => days.len() < MOST_DAYS && is_new_day(days, name),
+        Entry::Team(member) => {
+            teams.len() < MOST_MEMBERS && is_new_number(teams, &member.number)
+        }
+    }
+}
+
+/// The entry of a line, where there is one that fits to the days and members before it.
+fn next_entry(
+    alloc: Global,
+    days: &[Name],
+    teams: &[Member],
+    line: &[u8],
+) -> Result<Option<Entry>, AllocError>
+    requires { IsSeries (record { days = days.now; teams = teams.now }) }
+    ensures { IfOk result (λ read. MatchOption read
+        ((entry : Entry) → IsNext days.now teams.now line.now entry → ⊥)
+        (IsNext days.now teams.now line.now)) }
+{
+    let Some(entry) = entry_of(alloc, line)? else {
+        return Ok(None);
+    };
+    if !fits(days, teams, &entry) {
+        return Ok(None);
+    }
+    Ok(Some(entry))
+}
+
+/// Puts an entry to the days and members before it.
+fn put(days: &mut Vec<Name>, teams: &mut Vec<Member>, entry: Entry) -> Result<(), AllocError>
+    ensures { OnOk result (record { days = days.new.items; teams = teams.new.items }
+        ≡ with_entry days.old.items teams.old.items entry) }
+{
+    match entry {
+        Entry::Day(name) => days.push(name)?,
+        Entry::Team(member) => teams.push(member)?,
+    }
+    Ok(())
+}
+
+/// What the lines say from a place on.
+fn series_in(alloc: Global, text: &[u8], start: usize) -> Result<Series, ListError>
+    requires { start ≤ length text.now }
+    ensures ok { IfOk result (Says (lines_of (drop start text.now))) }
+    ensures refused { IfErr result (IsStopped (lines_of (drop start text.now))) }
+{
+    let mut days = Vec::new(alloc);
+    let mut teams = Vec::new(alloc);
+    let mut at = start;
+    'lines: while let Some(line) = next_line(text, at) {
+        let read = next_entry(alloc, &days, &teams, &text[line.from..line.to])?;
+        let Some(entry) = read else {
+            return Err(ListError::Line((days.len() + teams.len()) as u32 + 2));
+        };
+        put(&mut days, &mut teams, entry)?;
+        at = line.next;
+    }
+    Ok(Series {
+        days: Items::from_vec(days),
+        teams: Items::from_vec(teams),
+    })
+}
+
+/// The place behind the heading, where the text has it.
+fn behind_heading(text: &[u8]) -> Option<usize>
+    ensures { MatchOption result (HasNoHeading text.now) (IsBehindHeading text.now) }
+{
+    let line = next_line(text, 0)?;
+    (&text[line.from..line.to] == HEADING).then_some(line.next)
+}
+
+/// What a list says, or why the text is none.
+fn list_in(alloc: Global, text: &[u8]) -> Result<Series, ListError>
+    ensures ok { IfOk result (IsList text.now) }
+    ensures refused { IfErr result (IsRefused text.now) }
+{
+    let Some(start) = behind_heading(text) else {
+        return Err(ListError::Heading);
+    };
+    series_in(alloc, text, start)
+}
+
+/// Reads the list of a championship: the heading, and then lines that name the sheets of its days
+/// and the members of its teams, at most 30 and at most 1,000, in any order.
+///
+/// [`ListError::Heading`] comes exactly where the first line isn't the heading or isn't there, and
+/// [`ListError::Line`] names the first line behind it that is none of these or that says a second
+/// time what an earlier one says; [`ListError::Memory`] only for want of memory.
+pub fn read_list(alloc: Global, text: &[u8]) -> Result<Series, ListError>
+    // What is read has this text, and what has this text is read.
+    ensures ok { IfOk result (IsList text.now) }
+    ensures only { (series : Series) → IsList text.now series
+        → MatchResult result (λ read. read ≡ series) (λ error. error ≡ Memory) }
+
+    // What is told is so, and what is so is told.
+    ensures refused { IfErr result (IsRefused text.now) }
+    ensures exact { (error : ListError) → error ≢ Memory → IsRefused text.now error
+        → IsErrOf result error ⊎ IsErrOf result Memory }
+{
+    list_in(alloc, text)
+}

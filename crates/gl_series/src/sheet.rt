@@ -1,0 +1,241 @@
+ghost use Rattle.std.specs.Prelude.{◌≡◌, ◌≢◌, ◌⊎◌, ◌↔◌, ◌≤◌, ◌++◌, ◌∷◌, [], ℕ, All, IfOk, IfErr, IsErrOf, IsTrue, IsUtf8, MatchOption, MatchResult, length, map};
+ghost use Rattle.std.specs.Fmt.{decimal};
+ghost use Rattle.csv.specs.Records.{fields_of};
+ghost use Rattle.gl_series.specs.declared.day.DayRow.{DayRow};
+ghost use Rattle.gl_series.specs.declared.day.DaySheet.{DaySheet};
+ghost use Rattle.gl_series.specs.declared.error.SheetError.{SheetError};
+ghost use Rattle.gl_series.specs.declared.error.SheetError.TheVariants.{Memory};
+ghost use Rattle.gl_series.specs.AddingRows.{IsNextRow, row_written};
+ghost use Rattle.gl_series.specs.Forms.{is_name, is_number};
+ghost use Rattle.gl_series.specs.SheetText.{IsRefusedSheet, IsRowOf, IsSheetOf, field_of, sheet_heading};
+ghost use Rattle.gl_series.specs.Totals.{IsDay};
+
+use crate::day::{DayRow, DaySheet};
+use crate::error::SheetError;
+use crate::form::{is_name, is_number, text_in};
+use crate::items::Items;
+use csv::{ByteRecord, ReaderBuilder};
+use gl_desk::Name;
+use gl_text::read_u64;
+use std::alloc::{AllocError, Global};
+
+/// How many fields a record of a sheet has.
+const COLUMNS: usize = 10;
+
+/// The places of the fields that are read, from 0.
+const NUMBER: usize = 1;
+
+const NAME: usize = 2;
+
+const POINTS: usize = 7;
+
+/// The most rows of a sheet.
+const MOST_ROWS: usize = 200;
+
+/// The most points of a day.
+const MOST_POINTS: u64 = 1_000;
+
+/// What a record writes of a pilot.
+#[derive(Clone, Copy)]
+pub(crate) struct Written<'a> {
+    pub number: &'a str,
+    pub name: &'a str,
+    pub points: u32,
+}
+
+/// The field at a place, empty where the record is too short.
+fn field(columns: &ByteRecord, place: usize) -> &[u8]
+    ensures { result.now ≡ field_of (fields_of columns.now) place }
+{
+    match columns.get(place) {
+        Some(field) => field,
+        None => b"",
+    }
+}
+
+/// Whether a record has these fields, and no other.
+fn has_fields(columns: &ByteRecord, fields: &[&[u8]]) -> bool
+    ensures { IsTrue result ↔ (fields_of columns.now ≡ map (λ field. field.now) fields.now) }
+{
+    if columns.len() != fields.len() {
+        return false;
+    }
+    for (place, name) in fields.iter().enumerate() {
+        if field(columns, place) != *name {
+            return false;
+        }
+    }
+    true
+}
+
+/// Whether a record is the heading of a sheet.
+fn is_heading(columns: &ByteRecord) -> bool
+    ensures { IsTrue result ↔ (fields_of columns.now ≡ sheet_heading) }
+{
+    has_fields(
+        columns,
+        &[
+            b"rank",
+            b"number",
+            b"name",
+            b"result",
+            b"metres",
+            b"seconds",
+            b"penalty",
+            b"points",
+            b"free",
+            b"triangle",
+        ],
+    )
+}
+
+/// The number that a record writes.
+fn number_in(columns: &ByteRecord) -> Option<&str>
+    ensures { let field = field_of (fields_of columns.now) 1 in MatchOption result
+        (IsTrue (is_number field) → ⊥)
+        (λ number. (field ≡ number.now) × IsTrue (is_number number.now)) }
+{
+    let number = text_in(field(columns, NUMBER))?;
+    is_number(number).then_some(number)
+}
+
+/// The name that a record writes.
+fn name_in(columns: &ByteRecord) -> Option<&str>
+    ensures { let field = field_of (fields_of columns.now) 2 in MatchOption result
+        (IsUtf8 field → IsTrue (is_name field) → ⊥)
+        (λ name. (field ≡ name.now) × IsUtf8 name.now × IsTrue (is_name name.now)) }
+{
+    let name = text_in(field(columns, NAME))?;
+    is_name(name).then_some(name)
+}
+
+/// The points that a record writes.
+fn points_in(columns: &ByteRecord) -> Option<u32>
+    ensures { let field = field_of (fields_of columns.now) 7 in MatchOption result
+        ((points : ℕ) → points ≤ 1_000 → field ≢ decimal points)
+        (λ points. (field ≡ decimal points) × (points ≤ 1_000)) }
+{
+    let points = read_u64(field(columns, POINTS))?;
+    if points > MOST_POINTS {
+        return None;
+    }
+    Some(points as u32)
+}
+
+/// What a record writes of a pilot, where it is the row of one.
+fn written_in(columns: &ByteRecord) -> Option<Written<'_>>
+    ensures { MatchOption result
+        ((row : DayRow) → IsRowOf (fields_of columns.now) row → ⊥)
+        (λ written. IsRowOf (fields_of columns.now) (row_written written)) }
+{
+    if columns.len() != COLUMNS {
+        return None;
+    }
+    let number = number_in(columns)?;
+    let name = name_in(columns)?;
+    let points = points_in(columns)?;
+    Some(Written {
+        number,
+        name,
+        points,
+    })
+}
+
+/// The row that a record writes, where it writes one.
+fn row_in(alloc: Global, columns: &ByteRecord) -> Result<Option<DayRow>, AllocError>
+    ensures { IfOk result (λ read. MatchOption read
+        ((row : DayRow) → IsRowOf (fields_of columns.now) row → ⊥)
+        (IsRowOf (fields_of columns.now))) }
+{
+    let Some(written) = written_in(columns) else {
+        return Ok(None);
+    };
+    Ok(Some(DayRow {
+        number: Name::from_text(alloc, written.number)?,
+        name: Name::from_text(alloc, written.name)?,
+        points: written.points,
+    }))
+}
+
+/// Whether no row has this number.
+fn is_new_number(rows: &[DayRow], number: &Name) -> bool
+    ensures { IsTrue result ↔ All (λ row. row.number ≢ number.now) rows.now }
+{
+    rows.iter().all(|row| row.number != *number)
+}
+
+/// Whether a row fits to those before it.
+fn fits(rows: &[DayRow], row: &DayRow) -> bool
+    requires day { IsDay rows.now }
+    requires low { row.now.points ≤ 1_000 }
+    ensures { IsTrue result ↔ IsDay (rows.now ++ row.now ∷ []) }
+{
+    rows.len() < MOST_ROWS && is_new_number(rows, &row.number)
+}
+
+/// The row of a record, where there is one that fits to those before it.
+fn next_row(
+    alloc: Global,
+    rows: &[DayRow],
+    columns: &ByteRecord,
+) -> Result<Option<DayRow>, AllocError>
+    requires { IsDay rows.now }
+    ensures { IfOk result (λ read. MatchOption read
+        ((row : DayRow) → IsNextRow rows.now (fields_of columns.now) row → ⊥)
+        (IsNextRow rows.now (fields_of columns.now))) }
+{
+    let Some(row) = row_in(alloc, columns)? else {
+        return Ok(None);
+    };
+    if !fits(rows, &row) {
+        return Ok(None);
+    }
+    Ok(Some(row))
+}
+
+/// The rows of a sheet, or why the text is none. Reading from memory fails for want of memory
+/// alone, and records may have any length.
+fn sheet_in(alloc: Global, text: &[u8]) -> Result<DaySheet, SheetError>
+    ensures ok { IfOk result (IsSheetOf text.now) }
+    ensures refused { IfErr result (IsRefusedSheet text.now) }
+{
+    let mut reader = ReaderBuilder::new()
+        .has_headers(false)
+        .flexible(true)
+        .from_reader(alloc, text);
+    let mut heading = ByteRecord::new(alloc);
+    if !reader.read_byte_record(&mut heading)? || !is_heading(&heading) {
+        return Err(SheetError::Heading);
+    }
+    let mut rows = Vec::new(alloc);
+    for record in reader.into_byte_records() {
+        let Some(row) = next_row(alloc, &rows, &record?)? else {
+            return Err(SheetError::Record(rows.len() as u32 + 2));
+        };
+        rows.push(row)?;
+    }
+    Ok(DaySheet {
+        rows: Items::from_vec(rows),
+    })
+}
+
+/// Reads the sheet of a day: the heading, and then a record for each pilot, at most 200, no two of
+/// one number. Of a record the number, the name and the points are read; the other fields may say
+/// anything.
+///
+/// [`SheetError::Heading`] comes exactly where the first record isn't the heading or isn't there,
+/// and [`SheetError::Record`] names the first record behind it that is wrong;
+/// [`SheetError::Memory`] only for want of memory.
+pub fn read_day(alloc: Global, text: &[u8]) -> Result<DaySheet, SheetError>
+    // What is read has this text, and what has this text is read.
+    ensures ok { IfOk result (IsSheetOf text.now) }
+    ensures only { (sheet : DaySheet) → IsSheetOf text.now sheet
+        → MatchResult result (λ read. read ≡ sheet) (λ error. error ≡ Memory) }
+
+    // What is told is so, and what is so is told.
+    ensures refused { IfErr result (IsRefusedSheet text.now) }
+    ensures exact { (error : SheetError) → error ≢ Memory → IsRefusedSheet text.now error
+        → IsErrOf result error ⊎ IsErrOf result Memory }
+{
+    sheet_in(alloc, text)
+}
