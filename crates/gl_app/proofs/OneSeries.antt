@@ -1,5 +1,5 @@
 -- In a folder two right answers of `series` are one.
-use Rattle.std.proofs.Common.{◌≡◌, ◌≢◌, ◌∙◌, refl, sym, ap, subst, ℕ, ◌⊎◌, inl, inr, List, [], ◌∷◌, Option, None, Some}
+use Rattle.std.proofs.Common.{◌≡◌, ◌∙◌, refl, sym, ap, subst, ℕ, ◌⊎◌, inl, inr, List, [], ◌∷◌, Option, None, Some}
 use Rattle.std.specs.Prelude.{IsSomeAnd}
 use Rattle.std.specs.List.{AllZip, flat_map}
 use Rattle.gl_desk.specs.Desk.{FilesByName}
@@ -19,7 +19,7 @@ use Rattle.gl_app.specs.declared.refusal.Cause.{Cause}
 use Rattle.gl_app.specs.declared.refusal.Refusal.{Refusal}
 use Rattle.gl_app.specs.declared.status.Status.TheVariants.{Done}
 use Rattle.gl_app.specs.Answer.{Answer, refused, saying}
-use Rattle.gl_app.specs.FileTests.{AllPass, Fails, FileTest, FirstFails, IsNoText, Kind, Listed, Reads, SeriesListText, SheetText, Small, list_cause, sheet_cause}
+use Rattle.gl_app.specs.FileTests.{AllPass, Fails, FileTest, FirstFails, IsNoText, Kind, Reads, SeriesListText, SheetText, list_cause, sheet_cause}
 use Rattle.gl_app.specs.Series.{HasOneSeries, IsAddedUp}
 use Rattle.gl_app.specs.SeriesFiles.{AreDaysSeen, DaySeen, IsDaySeen, IsListRead, IsSeriesSeen, IsSheetRead, SeriesSeen, day_tests, series_tests}
 use Rattle.gl_app.specs.Words.{SeriesWords}

@@ -1,6 +1,6 @@
 -- The laws of `series`.
-use Rattle.std.proofs.Common.{◌≡◌, ◌≢◌, ◌∙◌, refl, sym, ap, subst, ℕ, inl, inr, true, Bool, List, [], ◌∷◌, ◌++◌, length, Option, None, Some, Ok, Vec, arith, codes}
-use Rattle.std.specs.Prelude.{All, IsTrue, not}
+use Rattle.std.proofs.Common.{◌≡◌, ◌≢◌, ◌∙◌, refl, sym, ap, subst, ℕ, inl, inr, true, List, [], ◌∷◌, Option, None, Some, Ok, Vec, arith, codes}
+use Rattle.std.specs.Prelude.{not}
 use Rattle.std.specs.Cmp.{first_so, second_so}
 use Rattle.std.specs.List.{AllZip, flat_map, list_all}
 use Rattle.std.specs.declared.alloc.Global.{Global}
@@ -13,12 +13,11 @@ use Rattle.gl_series.specs.declared.day.DaySheet.{DaySheet}
 use Rattle.gl_series.specs.declared.entry.Entry.{Entry}
 use Rattle.gl_series.specs.declared.entry.Entry.TheVariants.{Day, Team}
 use Rattle.gl_series.specs.declared.series.Series.{Series}
-use Rattle.gl_app.specs.declared.refusal.Refusal.{Refusal}
 use Rattle.gl_app.specs.declared.status.Status.TheVariants.{Done}
 use Rattle.gl_app.specs.Answer.{Answer, saying}
-use Rattle.gl_app.specs.FileTests.{HasTested, IsByTests, SeriesListText}
+use Rattle.gl_app.specs.FileTests.{HasTested}
 use Rattle.gl_app.specs.Series.{IsAddedUp, IsSeries, IsStandingText, series_promise}
-use Rattle.gl_app.specs.SeriesFiles.{AreDaysSeen, AreSeriesRead, DaySeen, IsDaySeen, IsListRead, IsSeriesSeen, SeriesSeen, day_tests, series_tests, tests_of}
+use Rattle.gl_app.specs.SeriesFiles.{AreDaysSeen, AreSeriesRead, DaySeen, IsDaySeen, IsListRead, IsSeriesSeen, SeriesSeen, day_tests, series_tests}
 use Rattle.gl_app.specs.Texts.{IsLine}
 use Rattle.gl_app.specs.Words.{SeriesWords}
 use Rattle.gl_app.proofs.FileTests.{AreNamed, by_tests_passes, by_tests_result, refusal_named}

@@ -1,12 +1,12 @@
 -- The tests of the files of `series`, one after the other.
-use Rattle.std.proofs.Common.{◌≡◌, ◌≢◌, ◌∙◌, refl, sym, ap, subst, ℕ, ◌+◌, ◌<◌, ◌≤◌, inl, inr, true, List, [], ◌∷◌, ◌++◌, get_or, length, take, drop, Option, None, Some, Result, Ok, Err, Vec, arith}
+use Rattle.std.proofs.Common.{◌≡◌, ◌∙◌, refl, sym, ap, subst, ℕ, ◌+◌, ◌<◌, ◌≤◌, inl, inr, List, [], ◌∷◌, ◌++◌, get_or, length, take, drop, Option, None, Some, Result, Ok, Err, Vec, arith}
 use Rattle.std.specs.Prelude.{IsSomeAnd}
 use Rattle.std.specs.List.{AllByRecursion, AllZip, flat_map}
 use Rattle.std.specs.declared.alloc.Global.{Global}
 use Rattle.std.proofs.lemmas.List.{take-append-drop, take_all, take_more}
 use Rattle.gl_desk.specs.Desk.{FilesByName, IsSeenIn, ListsNames}
 use Rattle.gl_day.specs.Flight.{most_bytes}
-use Rattle.gl_series.proofs.Lines.{list_told, list_unique}
+use Rattle.gl_series.proofs.Lines.{list_told}
 use Rattle.gl_series.specs.SeriesList.{IsList, IsRefused}
 use Rattle.gl_series.specs.SheetText.{IsRefusedSheet, IsSheetOf}
 use Rattle.gl_series.specs.declared.day.DaySheet.{DaySheet}
@@ -23,9 +23,9 @@ use Rattle.gl_app.specs.declared.halt.Halt.{Halt}
 use Rattle.gl_app.specs.declared.halt.Halt.TheVariants.{Refused, Stopped}
 use Rattle.gl_app.specs.declared.refusal.Cause.{Cause}
 use Rattle.gl_app.specs.declared.refusal.Refusal.{Refusal}
-use Rattle.gl_app.specs.FileTests.{AllPass, FileTest, FirstFails, HasRead, HasReadFile, HasTested, IsNeeded, IsNoText, IsText, Kind, SeriesListText, SheetText, list_cause, sheet_cause, text_tests}
+use Rattle.gl_app.specs.FileTests.{AllPass, FileTest, FirstFails, HasRead, HasReadFile, HasTested, IsNeeded, Kind, SeriesListText, SheetText, list_cause, sheet_cause, text_tests}
 use Rattle.gl_app.specs.Halts.{RefusesFor}
-use Rattle.gl_app.specs.SeriesFiles.{AreSeriesRead, DaySeen, IsDaySeen, IsListRead, IsSeriesSeen, IsSheetRead, SeriesSeen, day_tests, series_tests, tests_of}
+use Rattle.gl_app.specs.SeriesFiles.{AreSeriesRead, DaySeen, IsDaySeen, IsListRead, IsSeriesSeen, IsSheetRead, day_tests, series_tests, tests_of}
 use Rattle.gl_app.specs.Words.{SeriesWords}
 use Rattle.gl_app.proofs.DayTests.{not_listed, seen_some}
 use Rattle.gl_app.proofs.FileTests.{all_pass, fails_behind, fails_in_front, some_text_fails, some_text_passes}
