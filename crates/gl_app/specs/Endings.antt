@@ -1,8 +1,35 @@
--- The numbers that the program ends with.
-use Rattle.std.specs.Prelude.{ℕ}
+-- How the program ends, by the words that the system gives, and the numbers that it ends with.
+use Rattle.std.specs.Prelude.{◌≡◌, ◌≢◌, ℕ, IfErr, List, MatchResult, Result, drop, map}
+use Rattle.std.specs.IoError.{error_kind}
+use Rattle.std.specs.String.{string_bytes}
+use Rattle.std.specs.Vec.Iter.{into_iter_items}
+use Rattle.std.specs.declared.alloc.Global.{Global}
+use Rattle.std.specs.declared.string.String.{String}
+use Rattle.std.specs.declared.vec.IntoIter.{IntoIter}
+use Rattle.std.specs.declared.io.Error.{Error}
+use Rattle.std.specs.declared.io.ErrorKind.TheVariants.{OutOfMemory}
+use Rattle.gl_desk.specs.Desk.{Told}
+use Rattle.gl_day.specs.Flight.{StewardRules}
 use Rattle.gl_app.specs.declared.program.Ending.{Ending}
 use Rattle.gl_app.specs.declared.program.Ending.TheVariants.{Ran, NoMemory, NoWords}
+use Rattle.gl_app.specs.Run.{IsRun}
 use Rattle.gl_app.specs.Statuses.{number_of_status}
+
+-- what the system gives: words, of which the first is the program's own name, or why it gives none
+abbrev pub Given : Type 0
+Given = Result (IntoIter (String Global) Global) Error
+
+-- How the program ends by what the system gave it, and what is told before and after that. By words
+-- it ends as the run of all but the first of them. Without words nothing is read, written or said,
+-- and it is told apart whether that was for want of memory.
+abbrev pub IsEnding : Given → List StewardRules → List StewardRules → Ending → Told → Told → Type 0
+IsEnding given stewards left (Ran status) before after = MatchResult given
+    (λ words. IsRun (map string_bytes (drop 1 (into_iter_items words))) stewards left status before after)
+    (λ error. ⊥)
+IsEnding given stewards left NoMemory before after = (after ≡ before) × (left ≡ stewards)
+    × IfErr given (λ error. error_kind error ≡ OutOfMemory)
+IsEnding given stewards left NoWords before after = (after ≡ before) × (left ≡ stewards)
+    × MatchResult given (λ words. ⊥) (λ error. error_kind error ≢ OutOfMemory)
 
 -- the status of a run as a number; 5 where there was no memory for the words, and 7 where the
 -- system gave none
