@@ -1,6 +1,7 @@
 pub mod Beside
 pub mod GreaterOnes
 pub mod Growing
+pub mod Kept
 pub mod LastMembers
 pub mod LastRows
 pub mod Least

@@ -3,6 +3,7 @@ pub mod AddingRows
 pub mod Choices
 pub mod Forms
 pub mod Laws
+pub mod Numbers
 pub mod OneByOne
 pub mod SeriesList
 pub mod SheetText

@@ -10,6 +10,7 @@ mod items;
 pub mod laws;
 mod list;
 mod numbered;
+mod numbers;
 mod ordered;
 mod pilots;
 mod ranks;

@@ -1,4 +1,4 @@
-ghost use Rattle.std.specs.Prelude.{◌≡◌, ◌≢◌, ◌⊎◌, ◌↔◌, ◌≤◌, ◌<◌, ◌∷◌, ◌++◌, ℕ, List, All, IfOk, IfErr, IsErrOf, IsTrue, MatchOption, MatchResult, OnOk, drop, length, slice_index};
+ghost use Rattle.std.specs.Prelude.{◌≡◌, ◌≢◌, ◌⊎◌, ◌↔◌, ◌≤◌, ◌<◌, ◌∷◌, ◌++◌, ℕ, List, All, IfOk, IfErr, IsErrOf, IsTrue, MatchOption, MatchResult, OnOk, drop, length, map, slice_index};
 ghost use Rattle.gl_text.specs.Lines.{lines_of};
 ghost use Rattle.gl_series.specs.declared.entry.Entry.{Entry};
 ghost use Rattle.gl_series.specs.declared.entry.Entry.TheVariants.{Day, Team};
@@ -7,12 +7,14 @@ ghost use Rattle.gl_series.specs.declared.error.ListError.TheVariants.{Memory};
 ghost use Rattle.gl_series.specs.declared.series.Member.{Member};
 ghost use Rattle.gl_series.specs.declared.series.Series.{Series};
 ghost use Rattle.gl_series.specs.Adding.{IsBehindHeading, IsFirstSpace, IsMember, IsNext, IsSpaced, IsStopped, Says, member_line, with_entry};
+ghost use Rattle.gl_series.specs.Numbers.{HasNumbers};
 ghost use Rattle.gl_series.specs.SeriesList.{HasNoHeading, IsEntry, IsLineOf, IsList, IsRefused, IsSeries, line_of};
 
 use crate::entry::Entry;
 use crate::error::ListError;
 use crate::form::{is_file_name, is_number, is_team, text_in};
 use crate::items::Items;
+use crate::numbers::Numbers;
 use crate::series::{Member, Series};
 use gl_desk::Name;
 use gl_text::next_line;
@@ -110,34 +112,31 @@ fn is_new_day(days: &[Name], name: &Name) -> bool
     days.iter().all(|day| *day != *name)
 }
 
-/// Whether no member has this number.
-fn is_new_number(teams: &[Member], number: &Name) -> bool
-    ensures { IsTrue result ↔ All (λ member. member.number ≢ number.now) teams.now }
-{
-    teams.iter().all(|member| member.number != *number)
-}
-
-/// Whether an entry fits to the days and members before it.
-fn fits(days: &[Name], teams: &[Member], entry: &Entry) -> bool
-    requires { IsSeries (record { days = days.now; teams = teams.now }) }
+/// Whether an entry fits to the days and members before it. The numbers of these are kept.
+fn fits(days: &[Name], teams: &[Member], numbers: &Numbers, entry: &Entry) -> bool
+    requires series { IsSeries (record { days = days.now; teams = teams.now }) }
+    requires kept { HasNumbers numbers.now (map (λ member. member.number) teams.now) }
     ensures { IsTrue result ↔ IsSeries (with_entry days.now teams.now entry.now) }
 {
     match entry {
         Entry::Day(name) => days.len() < MOST_DAYS && is_new_day(days, name),
         Entry::Team(member) => {
-            teams.len() < MOST_MEMBERS && is_new_number(teams, &member.number)
+            teams.len() < MOST_MEMBERS && numbers.is_new(&member.number)
         }
     }
 }
 
-/// The entry of a line, where there is one that fits to the days and members before it.
+/// The entry of a line, where there is one that fits to the days and members before it. The numbers
+/// of these are kept.
 fn next_entry(
     alloc: Global,
     days: &[Name],
     teams: &[Member],
+    numbers: &Numbers,
     line: &[u8],
 ) -> Result<Option<Entry>, AllocError>
-    requires { IsSeries (record { days = days.now; teams = teams.now }) }
+    requires series { IsSeries (record { days = days.now; teams = teams.now }) }
+    requires kept { HasNumbers numbers.now (map (λ member. member.number) teams.now) }
     ensures { IfOk result (λ read. MatchOption read
         ((entry : Entry) → IsNext days.now teams.now line.now entry → ⊥)
         (IsNext days.now teams.now line.now)) }
@@ -145,20 +144,32 @@ fn next_entry(
     let Some(entry) = entry_of(alloc, line)? else {
         return Ok(None);
     };
-    if !fits(days, teams, &entry) {
+    if !fits(days, teams, numbers, &entry) {
         return Ok(None);
     }
     Ok(Some(entry))
 }
 
-/// Puts an entry to the days and members before it.
-fn put(days: &mut Vec<Name>, teams: &mut Vec<Member>, entry: Entry) -> Result<(), AllocError>
-    ensures { OnOk result (record { days = days.new.items; teams = teams.new.items }
+/// Puts an entry to the days and members before it, and keeps the number of a member.
+fn put(
+    alloc: Global,
+    days: &mut Vec<Name>,
+    teams: &mut Vec<Member>,
+    numbers: &mut Numbers,
+    entry: Entry,
+) -> Result<(), AllocError>
+    requires { HasNumbers numbers.now (map (λ member. member.number) teams.now.items) }
+    ensures put { OnOk result (record { days = days.new.items; teams = teams.new.items }
         ≡ with_entry days.old.items teams.old.items entry) }
+    ensures kept { OnOk result
+        (HasNumbers numbers.new (map (λ member. member.number) teams.new.items)) }
 {
     match entry {
         Entry::Day(name) => days.push(name)?,
-        Entry::Team(member) => teams.push(member)?,
+        Entry::Team(member) => {
+            numbers.add(alloc, &member.number)?;
+            teams.push(member)?;
+        }
     }
     Ok(())
 }
@@ -171,13 +182,14 @@ fn series_in(alloc: Global, text: &[u8], start: usize) -> Result<Series, ListErr
 {
     let mut days = Vec::new(alloc);
     let mut teams = Vec::new(alloc);
+    let mut numbers = Numbers::new(alloc);
     let mut at = start;
     'lines: while let Some(line) = next_line(text, at) {
-        let read = next_entry(alloc, &days, &teams, &text[line.from..line.to])?;
+        let read = next_entry(alloc, &days, &teams, &numbers, &text[line.from..line.to])?;
         let Some(entry) = read else {
             return Err(ListError::Line((days.len() + teams.len()) as u32 + 2));
         };
-        put(&mut days, &mut teams, entry)?;
+        put(alloc, &mut days, &mut teams, &mut numbers, entry)?;
         at = line.next;
     }
     Ok(Series {

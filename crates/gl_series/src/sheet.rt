@@ -7,6 +7,7 @@ ghost use Rattle.gl_series.specs.declared.error.SheetError.{SheetError};
 ghost use Rattle.gl_series.specs.declared.error.SheetError.TheVariants.{Memory};
 ghost use Rattle.gl_series.specs.AddingRows.{IsNextRow, row_written};
 ghost use Rattle.gl_series.specs.Forms.{is_name, is_number};
+ghost use Rattle.gl_series.specs.Numbers.{HasNumbers};
 ghost use Rattle.gl_series.specs.SheetText.{IsRefusedSheet, IsRowOf, IsSheetOf, field_of, sheet_heading};
 ghost use Rattle.gl_series.specs.Totals.{IsDay};
 
@@ -14,6 +15,7 @@ use crate::day::{DayRow, DaySheet};
 use crate::error::SheetError;
 use crate::form::{is_name, is_number, text_in};
 use crate::items::Items;
+use crate::numbers::Numbers;
 use csv::{ByteRecord, ReaderBuilder};
 use gl_desk::Name;
 use gl_text::read_u64;
@@ -157,29 +159,25 @@ fn row_in(alloc: Global, columns: &ByteRecord) -> Result<Option<DayRow>, AllocEr
     }))
 }
 
-/// Whether no row has this number.
-fn is_new_number(rows: &[DayRow], number: &Name) -> bool
-    ensures { IsTrue result ↔ All (λ row. row.number ≢ number.now) rows.now }
-{
-    rows.iter().all(|row| row.number != *number)
-}
-
-/// Whether a row fits to those before it.
-fn fits(rows: &[DayRow], row: &DayRow) -> bool
+/// Whether a row fits to those before it, whose numbers are kept.
+fn fits(rows: &[DayRow], numbers: &Numbers, row: &DayRow) -> bool
     requires day { IsDay rows.now }
+    requires kept { HasNumbers numbers.now (map (λ row. row.number) rows.now) }
     requires low { row.now.points ≤ 1_000 }
     ensures { IsTrue result ↔ IsDay (rows.now ++ row.now ∷ []) }
 {
-    rows.len() < MOST_ROWS && is_new_number(rows, &row.number)
+    rows.len() < MOST_ROWS && numbers.is_new(&row.number)
 }
 
-/// The row of a record, where there is one that fits to those before it.
+/// The row of a record, where there is one that fits to those before it, whose numbers are kept.
 fn next_row(
     alloc: Global,
     rows: &[DayRow],
+    numbers: &Numbers,
     columns: &ByteRecord,
 ) -> Result<Option<DayRow>, AllocError>
-    requires { IsDay rows.now }
+    requires day { IsDay rows.now }
+    requires kept { HasNumbers numbers.now (map (λ row. row.number) rows.now) }
     ensures { IfOk result (λ read. MatchOption read
         ((row : DayRow) → IsNextRow rows.now (fields_of columns.now) row → ⊥)
         (IsNextRow rows.now (fields_of columns.now))) }
@@ -187,7 +185,7 @@ fn next_row(
     let Some(row) = row_in(alloc, columns)? else {
         return Ok(None);
     };
-    if !fits(rows, &row) {
+    if !fits(rows, numbers, &row) {
         return Ok(None);
     }
     Ok(Some(row))
@@ -208,10 +206,12 @@ fn sheet_in(alloc: Global, text: &[u8]) -> Result<DaySheet, SheetError>
         return Err(SheetError::Heading);
     }
     let mut rows = Vec::new(alloc);
+    let mut numbers = Numbers::new(alloc);
     for record in reader.into_byte_records() {
-        let Some(row) = next_row(alloc, &rows, &record?)? else {
+        let Some(row) = next_row(alloc, &rows, &numbers, &record?)? else {
             return Err(SheetError::Record(rows.len() as u32 + 2));
         };
+        numbers.add(alloc, &row.number)?;
         rows.push(row)?;
     }
     Ok(DaySheet {

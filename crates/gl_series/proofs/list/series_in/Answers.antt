@@ -7,8 +7,9 @@ pub lines-preserved : goal.lines-preserved
 lines-preserved c =
     let text = c.args.text.now in
     record {
+      kept = c.in_ok-put.ensures.kept;
       within = search rules;
-      says = says_more (lines_of (drop c.args.start text)) (lines_of (drop c.lines.at text)) (lines_of (drop c.in-Some.line.next text)) _ c.lines.days.items c.lines.teams.items c.in-Some-read.entry _ c.lines.invariant.says c.in-Some.ensures.line (search rules) c.in_ok-put.ensures;
+      says = says_more (lines_of (drop c.args.start text)) (lines_of (drop c.lines.at text)) (lines_of (drop c.in-Some.line.next text)) _ c.lines.days.items c.lines.teams.items c.in-Some-read.entry _ c.lines.invariant.says c.in-Some.ensures.line (search rules) c.in_ok-put.ensures.put;
     }
 
 pub returns-in_default-read-clause-refused : goal.returns-in_default-read-clause-refused

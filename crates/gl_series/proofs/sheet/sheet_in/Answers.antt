@@ -8,6 +8,7 @@ use Rattle.csv.proofs.ReadFacts.{rows-end, rows-more}
 use Rattle.gl_series.specs.declared.day.DayRow.{DayRow}
 use Rattle.gl_series.specs.AddingRows.{IsNextRow}
 use Rattle.gl_series.specs.SheetText.{IsSheetOf, sheet_heading}
+use Rattle.gl_series.proofs.Kept.{kept_item}
 use Rattle.gl_series.proofs.Sheets.{first_read, left_of, rows_all, rows_further, rows_none, unread_heading, wrong_heading, wrong_here}
 use Rattle.gl_series.proofs.sheet.sheet_in.Goals as goal
 use Rattle.gl_series.proofs.sheet.sheet_in.Goals.{then-not-branch-via-then-not-branch, then-not-branch-via-else-not-branch+then-not-is_heading}
@@ -51,6 +52,7 @@ loop-record-init c =
       config = reads.2 ∙ config;
       ahead = first.0;
       source = first.1;
+      kept = c.new-numbers.ensures;
       rows = rows_none text fields new.state first.0 first.2 is_heading;
     })
 
@@ -86,6 +88,7 @@ loop-record-preserved c =
       config = s.0.2 ∙ inv.config;
       ahead = m.0;
       source = m.1;
+      kept = kept_item (λ (row : DayRow). row.number) c.loop-record.numbers.seen c.add.new.self.seen rows c.push.new.self.items row c.in_ok-push.ensures.items c.in_ok-add.ensures inv.kept;
       rows = rows_further text rows c.push.new.self.items before.state after.state inv.ahead m.0 inv.rows fields row m.2 next c.in_ok-push.ensures.items;
     }
 

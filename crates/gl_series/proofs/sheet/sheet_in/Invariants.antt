@@ -1,6 +1,7 @@
-use Rattle.std.proofs.Common.{◌≡◌, ◌<◌, ℕ, List, Some}
+use Rattle.std.proofs.Common.{◌≡◌, ◌<◌, ℕ, List, Some, map}
 use Rattle.csv.specs.Reading.{Ready, default_config, source_of}
 use Rattle.csv.specs.declared.reader.Trim.TheVariants as trim
+use Rattle.gl_series.specs.Numbers.{HasNumbers}
 use Rattle.gl_series.proofs.Sheets.{RowsUpTo}
 use Rattle.gl_series.proofs.sheet.sheet_in.Given as goal
 
@@ -12,5 +13,6 @@ invariant-loop-record l = record {
   config : l.record-iterator.rdr.config ≡ default_config;
   ahead : List ℕ;
   source : source_of (λ s. Some s.now) l.record-iterator.rdr ≡ Some ahead;
+  kept : HasNumbers l.numbers (map (λ row. row.number) l.rows.items);
   rows : RowsUpTo l.fn.text l.rows.items l.record-iterator.rdr.state ahead;
 }
