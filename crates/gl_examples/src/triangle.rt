@@ -19,6 +19,27 @@ fn round_flight(alloc: Global, digits: &str) -> Result<Vec<u8>, AllocError> {
     Vec::from_slice(alloc, text.as_bytes())
 }
 
+/// Legs of 25, 30 and 45 percent of 750 km are fair. If the first is a centimetre shorter, or the
+/// third a centimetre longer, or 750 km a centimetre away, they aren't.
+#[test]
+fn legs_of_25_to_45_percent_are_fair_from_750_km_on(rt: HostRuntime) -> Result<(), Fail> {
+    let cases = [
+        (18_750_000, 22_500_000, 33_750_000, true),
+        (18_749_999, 22_500_001, 33_750_000, false),
+        (18_750_000, 22_499_999, 33_750_001, false),
+        (18_750_000, 22_499_999, 33_750_000, false),
+    ];
+    for (first, second, third, right) in cases {
+        let orders = [
+            fair(first, second, third),
+            fair(second, third, first),
+            fair(third, first, second),
+        ];
+        assert_eq!(rt; orders, [right; 3], "{first} {second} {third}");
+    }
+    Ok(())
+}
+
 #[test]
 fn legs_of_28_percent_are_fair(rt: HostRuntime) -> Result<(), Fail> {
     let cases = [

@@ -14,6 +14,7 @@ pub(crate) struct Round {
 impl Round {
     ghost use Rattle.std.specs.Prelude.{◌≡◌, ◌+◌};
     ghost use Rattle.std.specs.List.{sum};
+    ghost use Rattle.gl_goal.specs.Fair.{none_above, none_below, some_above, some_below};
     ghost use Rattle.gl_goal.specs.Round.{legs_of};
 
     /// All three legs together.
@@ -22,5 +23,37 @@ impl Round {
         ensures legs { result ≡ self.now.first + self.now.second + self.now.third }
     {
         self.first + self.second + self.third
+    }
+
+    /// Whether no leg is shorter than a share, in hundredths of a centimetre.
+    #[inline]
+    pub fn none_below(&self, share: u64) -> bool
+        ensures { result ≡ none_below share (legs_of self.now) }
+    {
+        share <= 100 * self.first && share <= 100 * self.second && share <= 100 * self.third
+    }
+
+    /// Whether no leg is longer than a share, in hundredths of a centimetre.
+    #[inline]
+    pub fn none_above(&self, share: u64) -> bool
+        ensures { result ≡ none_above share (legs_of self.now) }
+    {
+        100 * self.first <= share && 100 * self.second <= share && 100 * self.third <= share
+    }
+
+    /// Whether some leg is shorter than a share, in hundredths of a centimetre.
+    #[inline]
+    pub fn some_below(&self, share: u64) -> bool
+        ensures { result ≡ some_below share (legs_of self.now) }
+    {
+        100 * self.first < share || 100 * self.second < share || 100 * self.third < share
+    }
+
+    /// Whether some leg is longer than a share, in hundredths of a centimetre.
+    #[inline]
+    pub fn some_above(&self, share: u64) -> bool
+        ensures { result ≡ some_above share (legs_of self.now) }
+    {
+        share < 100 * self.first || share < 100 * self.second || share < 100 * self.third
     }
 }

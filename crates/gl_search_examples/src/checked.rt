@@ -1,9 +1,9 @@
 use gl_check::{Verdict, check_claim};
-use gl_goal::FreeGoal;
+use gl_goal::{FreeGoal, TriangleGoal};
 use gl_igc::Fix;
 use gl_proof::read_proof;
 use gl_sphere::{Grid, vector};
-use std::alloc::Global;
+use std::alloc::{AllocError, Global};
 use std::test::Fail;
 
 /// A fix at a latitude in 1/100,000 minute, on the meridian of 0 degrees.
@@ -126,5 +126,61 @@ fn a_claim_over_two_fixes(rt: HostRuntime) -> Result<(), Fail> {
         let answer = said(rt.alloc(), &goal, "11119492", lines.as_str())?;
         assert_eq!(rt; answer, verdict, "{lines}");
     }
+    Ok(())
+}
+
+/// A fix on the grid, at 1,000 metres.
+fn fix_on(lat: i32, lon: i32) -> Fix {
+    let grid = Grid { lat, lon };
+    Fix {
+        second: 0,
+        grid,
+        at: vector(grid),
+        alt: 1_000,
+        enl: None,
+    }
+}
+
+/// The place that a choice of four has on an axis: the axis of a bit of both halves of its number.
+fn place_of(number: u32, axis: u32) -> u32 {
+    2 * (number >> (5 - axis) & 1) + (number >> (2 - axis) & 1)
+}
+
+/// A box for each choice of three of four fixes, in the order of the split tree: disordered where a
+/// fix is later than the next, else shut.
+fn all_choices(alloc: Global) -> Result<String, AllocError> {
+    let mut text = String::new(alloc);
+    for number in 0..64u32 {
+        let (a, b, c) = (
+            place_of(number, 0),
+            place_of(number, 1),
+            place_of(number, 2),
+        );
+        let reason = if a > b || b > c { "D" } else { "S" };
+        let line = format!(in alloc; "BOX {reason} {a}-{a} {b}-{b} {c}-{c}\n")?;
+        text.push_str(line.as_str())?;
+    }
+    Ok(text)
+}
+
+/// A flight from the origin by two degrees east, and by 2.7 degrees north and half a degree east, back
+/// to the origin. Its triangle of 871 km has legs of 25.5, 39.4 and 35.0 percent. So the choice of its
+/// first three fixes isn't shut, and that is box 11; those before it are disordered or have legs of 0
+/// and twice 50 percent.
+#[test]
+fn no_box_shuts_a_large_triangle_out(rt: HostRuntime) -> Result<(), Fail> {
+    let fixes = [
+        fix_on(0, 0),
+        fix_on(0, 12_000_000),
+        fix_on(16_200_000, 3_000_000),
+        fix_on(0, 0),
+    ];
+    let goal = TriangleGoal::new(rt.alloc(), &fixes, 0, 3, 100_000)?;
+    let boxes = all_choices(rt.alloc())?;
+    let text = format!(in rt.alloc(); "GLIDEPROOF 1\nCLAIM EE TRIANGLE NONE\n{boxes}END\n")?;
+    let proof = read_proof(rt.alloc(), text.as_bytes())?;
+    let claim = proof.claims.first().ok_or("a claim")?;
+    assert_eq!(rt; claim.cells.len(), 64);
+    assert_eq!(rt; check_claim(rt.alloc(), &goal, claim)?, Verdict::Cell(11));
     Ok(())
 }

@@ -32,18 +32,22 @@ fn grid_of(text: &str) -> Result<Grid, Fail> {
     })
 }
 
-/// The fixes of a flight, at 1,000 metres.
+/// A fix at 1,000 metres.
+fn fix_at(grid: Grid) -> Fix {
+    Fix {
+        second: 0,
+        grid,
+        at: vector(grid),
+        alt: 1_000,
+        enl: None,
+    }
+}
+
+/// The fixes of a flight.
 fn flight_of(alloc: Global, places: &str) -> Result<Vec<Fix>, Fail> {
     let mut fixes = Vec::new(alloc);
     for place in places.split(", ") {
-        let grid = grid_of(place)?;
-        fixes.push(Fix {
-            second: 0,
-            grid,
-            at: vector(grid),
-            alt: 1_000,
-            enl: None,
-        })?;
+        fixes.push(fix_at(grid_of(place)?))?;
     }
     Ok(fixes)
 }
@@ -127,5 +131,49 @@ fn laps_over_the_same_places(rt: HostRuntime) -> Result<(), Fail> {
     }
     assert!(rt; !fixes.is_empty() && fixes.len() <= 90_000);
     assert_eq!(rt; greatest(rt.alloc(), &fixes, 100_000)?, Some(37_963_921));
+    Ok(())
+}
+
+/// The next of some numbers that look like chance.
+fn next_draw(draw: u32) -> u32 {
+    draw.wrapping_mul(1_664_525).wrapping_add(1_013_904_223)
+}
+
+/// A latitude or a longitude, of the thousand from 100 minutes below 0 on that are 12 seconds apart.
+fn drawn_angle(draw: u32) -> i32 {
+    (draw >> 8) as i32 % 1_000 * 20_000 - 10_000_000
+}
+
+/// Eight fixes that are drawn from a square of 370 km.
+fn drawn_flight(alloc: Global, seed: u32) -> Result<Vec<Fix>, AllocError> {
+    let mut fixes = Vec::new(alloc);
+    let mut draw = seed;
+    for _ in 0..8 {
+        let north = next_draw(draw);
+        draw = next_draw(north);
+        fixes.push(fix_at(Grid {
+            lat: drawn_angle(north),
+            lon: drawn_angle(draw),
+        }))?;
+    }
+    Ok(fixes)
+}
+
+/// Sixty flights that close within 200 km. One has no triangle. The longest of 22 are shorter than
+/// 750 km; of the other 37 the longest of 20 have a leg of less than 28 percent. The sum of all,
+/// like these numbers, is that of a program in another language that tries all triangles.
+#[test]
+fn triangles_of_both_rules_of_legs(rt: HostRuntime) -> Result<(), Fail> {
+    let mut sum = 0u64;
+    let mut none = 0u8;
+    for seed in 0..60u32 {
+        let fixes = drawn_flight(rt.alloc(), seed)?;
+        assert!(rt; !fixes.is_empty() && fixes.len() <= 90_000);
+        let total = greatest(rt.alloc(), &fixes, 20_000_000)?;
+        assert_eq!(rt; total, longest(&fixes, 20_000_000), "of seed {seed}");
+        sum = sum.saturating_add(total.unwrap_or(0));
+        none = none.saturating_add(u8::from(total.is_none()));
+    }
+    assert_eq!(rt; (sum, none), (4_518_292_148, 1));
     Ok(())
 }

@@ -79,7 +79,7 @@ legs_held fixes ordered order spans legs worth p q r at_place within are held ro
         first_between = (omega (arith, are.first.least, distance-at_least hull_p hull_q x y at_p at_q), omega (arith, are.first.most, distance-at_most hull_p hull_q x y at_p at_q));
         second_between = (omega (arith, are.second.least, distance-at_least hull_q hull_r y z at_q at_r), omega (arith, are.second.most, distance-at_most hull_q hull_r y z at_q at_r));
         third_between = (omega (arith, are.third.least, distance-at_least hull_r hull_p z x at_r at_p), omega (arith, are.third.most, distance-at_most hull_r hull_p z x at_r at_p));
-        fair = legs_fair (distance x y) (distance y z) (distance z x) round.fair;
+        allowed = legs_fair (distance x y) (distance y z) (distance z x) round.fair;
       };
       sum_is = round.worth_is;
     }

@@ -22,7 +22,7 @@ use Rattle.gl_goal.specs.Laws.Fair.{and_parts, sum-three}
 use Rattle.gl_goal.specs.Laws.Free.{length-numbers_between, numbers_between-named}
 use Rattle.gl_triangle.specs.Node.{fixes_of}
 use Rattle.gl_triangle.specs.Order.{sorted}
-use Rattle.gl_triangle.proofs.Fair.{FairLegs, fair_legs}
+use Rattle.gl_triangle.proofs.Fair.{FairLegs, fair_legs, fair_round, fair_turned}
 
 gap-turned : (a b : ℤ) → squared_gap a b ≡ squared_gap b a
 unfolding squared_gap
@@ -50,6 +50,11 @@ pub record IsRound (fixes : List Fix) (worth a b c : ℕ) : Type 0 where
   pub fair : FairLegs (distance first.at second.at) (distance second.at third.at) (distance third.at first.at)
   pub worth_is : worth ≡ distance first.at second.at + distance second.at third.at + distance third.at first.at
 
+-- fair legs are fair under other names
+renamed : (x y z p q r : ℕ) → x ≡ p → y ≡ q → z ≡ r → FairLegs x y z → FairLegs p q r
+renamed x y z p q r first second third fair =
+    subst (FairLegs p q) third (subst (λ n. FairLegs p n z) second (subst (λ n. FairLegs n y z) first fair))
+
 first_turned : (fixes : List Fix) (worth a b c : ℕ) → IsRound fixes worth a b c → IsRound fixes worth b a c
 first_turned fixes worth a b c is =
     let one = distance-turned is.first.at is.second.at in
@@ -62,12 +67,7 @@ first_turned fixes worth a b c is =
       first_is = is.second_is;
       second_is = is.first_is;
       third_is = is.third_is;
-      fair = record {
-        some = omega (arith, one, two, three, is.fair.some);
-        first = omega (arith, one, two, three, is.fair.first);
-        second = omega (arith, one, two, three, is.fair.third);
-        third = omega (arith, one, two, three, is.fair.second);
-      };
+      fair = renamed _ _ _ _ _ _ one three two (fair_turned _ _ _ is.fair);
       worth_is = omega (arith, one, two, three, is.worth_is);
     }
 
@@ -83,12 +83,7 @@ second_turned fixes worth a b c is =
       first_is = is.first_is;
       second_is = is.third_is;
       third_is = is.second_is;
-      fair = record {
-        some = omega (arith, one, two, three, is.fair.some);
-        first = omega (arith, one, two, three, is.fair.third);
-        second = omega (arith, one, two, three, is.fair.second);
-        third = omega (arith, one, two, three, is.fair.first);
-      };
+      fair = renamed _ _ _ _ _ _ three two one (fair_turned _ _ _ (fair_round _ _ _ (fair_round _ _ _ is.fair)));
       worth_is = omega (arith, one, two, three, is.worth_is);
     }
 

@@ -1,5 +1,5 @@
 -- How long the legs of a triangle can be where of each corner no more is known than a span.
-use Rattle.std.specs.Prelude.{◌≡◌, ℕ, ◌+◌, ◌≤◌, IsTrue, List, [], ◌∷◌}
+use Rattle.std.specs.Prelude.{◌≡◌, ℕ, ◌+◌, ◌≤◌, Bool, IsTrue, List, [], ◌∷◌}
 use Rattle.gl_box.specs.declared.span.Span.{Span}
 use Rattle.gl_box.specs.Cell.{ends}
 use Rattle.gl_igc.specs.declared.fix.Fix.{Fix}
@@ -40,14 +40,22 @@ IsAcross fixes spans legs Third =
 abbrev pub IsBetween : Leg → ℕ → Type 0
 IsBetween leg length = (leg.least ≤ length) × (length ≤ leg.most)
 
--- three lengths are those of fair legs
-pub record AreFair (legs : Legs) (first second third : ℕ) : Type 0 where
+-- three lengths are those of legs that a rule allows
+pub record AreBy (rule : List ℕ → Bool) (legs : Legs) (first second third : ℕ) : Type 0 where
   pub first_between : IsBetween legs.first first
   pub second_between : IsBetween legs.second second
   pub third_between : IsBetween legs.third third
-  pub fair : IsTrue (is_fair (first ∷ second ∷ third ∷ []))
+  pub allowed : IsTrue (rule (first ∷ second ∷ third ∷ []))
+
+-- legs that a rule allows are together at most so long
+abbrev pub AreAtMostBy : (List ℕ → Bool) → Legs → ℕ → Type 0
+AreAtMostBy rule legs most =
+    (first second third : ℕ) → AreBy rule legs first second third → first + second + third ≤ most
+
+-- three lengths are those of fair legs
+abbrev pub AreFair : Legs → ℕ → ℕ → ℕ → Type 0
+AreFair legs first second third = AreBy is_fair legs first second third
 
 -- fair legs are together at most so long
 abbrev pub AreAtMost : Legs → ℕ → Type 0
-AreAtMost legs most =
-    (first second third : ℕ) → AreFair legs first second third → first + second + third ≤ most
+AreAtMost legs most = AreAtMostBy is_fair legs most
