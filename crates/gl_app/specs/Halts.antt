@@ -4,6 +4,8 @@ use Rattle.std.specs.declared.alloc.Global.{Global}
 use Rattle.gl_desk.specs.Desk.{FilesByName, IsSeenIn, IsLongerThan}
 use Rattle.gl_desk.specs.declared.error.DeskError.{DeskError}
 use Rattle.gl_desk.specs.declared.error.DeskError.TheVariants.{Failed, Memory}
+use Rattle.gl_desk.specs.declared.error.ReadError.{ReadError}
+use Rattle.gl_desk.specs.declared.error.ReadError.TheVariants as reading
 use Rattle.gl_app.specs.declared.halt.Halt.{Halt}
 use Rattle.gl_app.specs.declared.halt.Halt.TheVariants.{Refused, Stopped}
 use Rattle.gl_app.specs.declared.refusal.Cause.{Cause}
@@ -39,6 +41,12 @@ Refuses file cause (Stopped stop) = stop ≡ Memory
 abbrev pub RefusesFor : List ℕ → Option Cause → Halt → Type 0
 RefusesFor file None halt = halt ≡ Stopped Memory
 RefusesFor file (Some cause) halt = Refuses file cause halt
+
+-- what it comes to that a file wasn't read
+abbrev pub IsUnread : List ℕ → ReadError → Halt → Type 0
+IsUnread file reading.TooLarge halt = Refuses file TooLarge halt
+IsUnread file reading.Fault halt = halt ≡ Stopped Failed
+IsUnread file reading.Memory halt = halt ≡ Stopped Memory
 
 -- the bytes that were seen of a file, which are at most so many, or there are more
 abbrev pub AreBytes : Option FilesByName → List ℕ → ℕ → Result (Vec ℕ Global) Halt → Type 0

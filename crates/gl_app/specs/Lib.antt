@@ -1,6 +1,7 @@
 pub mod Words
 pub mod Refusals
 pub mod Answer
+pub mod Pouring
 pub mod Promise
 pub mod Statuses
 pub mod Demo

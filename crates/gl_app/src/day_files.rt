@@ -7,11 +7,11 @@ ghost use Rattle.gl_app.specs.Halts.{AreBytes, IsNoFault, IsTested, halt_stop};
 
 use crate::day_names::DayNames;
 use crate::file_tests::MOST_PROOF_BYTES;
-use crate::halt::{Halt, refusing, refusing_for};
+use crate::halt::{Halt, refusing, refusing_for, unread};
 use crate::refusal::Cause;
 use gl_airspace::{AirError, Airspace, empty, read_openair};
 use gl_day::MOST_BYTES;
-use gl_desk::{Desk, DeskError, Name, ReadError, read_all};
+use gl_desk::{Desk, Name, read_all};
 use gl_proof::{Proof, ProofError, read_proof};
 use gl_task::{Task, TaskError, read_task};
 use std::alloc::Global;
@@ -36,9 +36,7 @@ pub fn read_bytes<D: Desk>(
 {
     match read_all(alloc, desk, file, most) {
         Ok(bytes) => Ok(bytes),
-        Err(ReadError::TooLarge) => Err(refusing(file, Cause::TooLarge)),
-        Err(ReadError::Fault) => Err(Halt::Stopped(DeskError::Failed)),
-        Err(ReadError::Memory) => Err(Halt::Stopped(DeskError::Memory)),
+        Err(error) => Err(unread(file, error)),
     }
 }
 

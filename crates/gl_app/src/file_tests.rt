@@ -2,15 +2,14 @@ ghost use Rattle.std.specs.Prelude.{◌≡◌};
 ghost use Rattle.gl_desk.specs.Answers.{OnlyReads};
 ghost use Rattle.gl_desk.specs.Desk.{HasFile};
 ghost use Rattle.gl_day.specs.Flight.{most_bytes};
-ghost use Rattle.gl_app.specs.FileTests.{HasRead, HasReadFile, IsNeeded, IsRecordingOf, IsUnused, RecordingText, recording_cause};
+ghost use Rattle.gl_app.specs.FileTests.{HasReadFile, IsNeeded, IsRecordingOf, IsUnused, RecordingText, recording_cause};
 ghost use Rattle.gl_app.specs.Halts.{IsNoFault, halt_stop};
 
-use crate::day_files::read_bytes;
-use crate::halt::{Halt, refusing, refusing_for};
+use crate::halt::{Halt, refusing, refusing_for, unread};
+use crate::pouring::read_recording_file;
 use crate::refusal::Cause;
-use gl_day::MOST_BYTES;
 use gl_desk::{Desk, Name};
-use gl_igc::{IgcError, Recording, read_igc};
+use gl_igc::{IgcError, Recording};
 use std::alloc::Global;
 
 /// The most bytes that a proof may have; any other file has at most those of a recording.
@@ -52,22 +51,6 @@ fn recording_cause(error: &IgcError) -> Option<Cause>
     }
 }
 
-/// The recording of a text, by the day of a task if there is one.
-fn recording_in(
-    alloc: Global,
-    file: &Name,
-    text: &[u8],
-    day: Option<i32>,
-) -> Result<Recording, Halt>
-    ensures read { HasRead (RecordingText day) file.now text.now (IsRecordingOf day) result }
-    ensures no_fault { IsNoFault result }
-{
-    match read_igc(alloc, text, day) {
-        Ok(recording) => Ok(recording),
-        Err(error) => Err(refusing_for(file, recording_cause(&error))),
-    }
-}
-
 /// The recording of a listed file, by the day of a task if there is one.
 pub fn read_recording<D: Desk>(
     alloc: Global,
@@ -80,6 +63,9 @@ pub fn read_recording<D: Desk>(
         (IsRecordingOf day) result }
     ensures reads { OnlyReads (halt_stop result) (D.told desk.old) (D.told desk.new) }
 {
-    let bytes = read_bytes(alloc, desk, file, MOST_BYTES)?;
-    recording_in(alloc, file, &bytes, day)
+    match read_recording_file(alloc, desk, file, day) {
+        Ok(Ok(recording)) => Ok(recording),
+        Ok(Err(error)) => Err(refusing_for(file, recording_cause(&error))),
+        Err(error) => Err(unread(file, error)),
+    }
 }

@@ -1,9 +1,9 @@
 ghost use Rattle.std.specs.Prelude.{◌≡◌};
 ghost use Rattle.gl_desk.specs.declared.error.DeskError.TheVariants.{Memory};
-ghost use Rattle.gl_app.specs.Halts.{Refuses, RefusesFor};
+ghost use Rattle.gl_app.specs.Halts.{IsUnread, Refuses, RefusesFor};
 
 use crate::refusal::{Cause, Refusal};
-use gl_desk::{DeskError, Name};
+use gl_desk::{DeskError, Name, ReadError};
 use std::alloc::{AllocError, AllocFailed};
 
 /// What ends a command before its answer.
@@ -62,5 +62,16 @@ pub fn refusing_for(file: &Name, cause: Option<Cause>) -> Halt
     match cause {
         Some(cause) => refusing(file, cause),
         None => Halt::Stopped(DeskError::Memory),
+    }
+}
+
+/// Why a file wasn't read: it is refused where it is too large, and else its reading was stopped.
+pub fn unread(file: &Name, error: ReadError) -> Halt
+    ensures { IsUnread file.now error result }
+{
+    match error {
+        ReadError::TooLarge => refusing(file, Cause::TooLarge),
+        ReadError::Fault => Halt::Stopped(DeskError::Failed),
+        ReadError::Memory => Halt::Stopped(DeskError::Memory),
     }
 }

@@ -24,6 +24,7 @@ mod near_files;
 mod near_words;
 mod of_file;
 mod place_word;
+mod pouring;
 mod program;
 mod racing;
 mod refusal;

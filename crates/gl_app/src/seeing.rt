@@ -2,8 +2,9 @@ ghost use Rattle.std.specs.Prelude.{ℕ, List, Option, IfOk};
 ghost use Rattle.gl_desk.specs.Answers.{OnlyReads, stop_of};
 ghost use Rattle.gl_app.specs.Asked.{HaveFiles, IsEntrantSeen, IsSeenAmong};
 
-use gl_day::{MOST_BYTES, Seen, absent_flight, large_flight, read_flight};
-use gl_desk::{Desk, DeskError, Name, ReadError, read_all};
+use crate::pouring::read_recording_file;
+use gl_day::{Seen, absent_flight, large_flight, read_flight};
+use gl_desk::{Desk, DeskError, Name, ReadError};
 use gl_task::{Entrant, Task};
 use std::alloc::Global;
 
@@ -25,8 +26,8 @@ pub fn see_entrant<D: Desk>(
     if !names.contains(&entrant.file) {
         return Ok(Seen::Refused(absent_flight(task, entrant)));
     }
-    match read_all(alloc, desk, &entrant.file, MOST_BYTES) {
-        Ok(bytes) => Ok(read_flight(alloc, task, entrant, &bytes)?),
+    match read_recording_file(alloc, desk, &entrant.file, Some(task.date)) {
+        Ok(read) => Ok(read_flight(task, entrant, read)?),
         Err(ReadError::TooLarge) => Ok(Seen::Refused(large_flight(task, entrant))),
         Err(ReadError::Fault) => Err(DeskError::Failed),
         Err(ReadError::Memory) => Err(DeskError::Memory),

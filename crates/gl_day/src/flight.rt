@@ -1,14 +1,15 @@
 ghost use Rattle.std.specs.Prelude.{◌≡◌, ◌<◌, ◌≤◌, ℕ, List, [], None, Some, Option, IfOk, length};
 ghost use Rattle.gl_airspace.specs.declared.volume.Airspace.{Airspace};
+ghost use Rattle.gl_igc.specs.Recording.{IsReadAs};
 ghost use Rattle.gl_task.specs.Limits.{greatest_handicap};
 ghost use Rattle.gl_day.specs.Flight.{IsFlight, IsSeen, IsUnjudged, StewardRules, most_bytes};
 ghost use Rattle.gl_day.specs.Totals.{column};
 
-use gl_igc::{Recording, read_igc};
+use gl_igc::{IgcError, Recording};
 use gl_points::Performance;
 use gl_sheet::{Listed, Outcome};
 use gl_task::{Entrant, Task};
-use std::alloc::{AllocError, Global};
+use std::alloc::AllocError;
 
 /// The most bytes that a recording may have.
 pub const MOST_BYTES: u64 = 16_777_216;
@@ -86,20 +87,17 @@ pub fn large_flight(task: &Task, entrant: &Entrant) -> Flight
     unjudged(task, entrant, true, Outcome::Refused(TOO_LARGE))
 }
 
-/// What is seen of an entrant's file with these bytes: the recording of the task's day, or the flight of
-/// an entrant whose file is refused. The only error is want of memory.
+/// What is seen of an entrant's file that was read so, by the task's day: the recording, or the
+/// flight of an entrant whose file is refused. The only error is want of memory.
 pub fn read_flight(
-    alloc: Global,
     task: &Task,
     entrant: &Entrant,
-    bytes: &[u8],
+    read: Result<Recording, IgcError>,
 ) -> Result<Seen, AllocError>
-    ensures { IfOk result (IsSeen task.now entrant.now bytes.now) }
+    ensures { IfOk result (λ seen. (bytes : List ℕ) → length bytes ≤ most_bytes
+        → IsReadAs bytes (Some task.now.date) read → IsSeen task.now entrant.now bytes seen) }
 {
-    if bytes.len() as u64 > MOST_BYTES {
-        return Ok(Seen::Refused(large_flight(task, entrant)));
-    }
-    match read_igc(alloc, bytes, Some(task.date)) {
+    match read {
         Ok(recording) => Ok(Seen::Recorded(recording)),
         Err(error) => match error.number() {
             Some(number) => {

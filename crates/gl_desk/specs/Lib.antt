@@ -3,3 +3,4 @@ pub mod Desk
 pub mod HostDesk
 pub mod MemDesk
 pub mod Outcome
+pub mod Pouring

@@ -78,6 +78,10 @@ calls_of desk = desk.calls.made
 abbrev pub failing_of : MemDesk → List ℕ
 failing_of desk = desk.calls.failing.items
 
+-- the most bytes that one call reads
+abbrev pub most_of : MemDesk → ℕ
+most_of desk = desk.limit.most
+
 -- a desk in memory tells everything
 abbrev pub told_by : MemDesk → Told
 told_by desk = record {
@@ -91,10 +95,11 @@ told_by desk = record {
 abbrev pub IsDue : MemDesk → Type 0
 IsDue desk = IsNextDue desk.calls
 
--- a call was counted, and those that are to fail are the same
+-- a call was counted, and those that are to fail are the same, as is the most that one call reads
 pub record CountsCall (old new : MemDesk) : Type 0 where
   pub calls : calls_of new ≡ min (calls_of old + 1) (2 ^ 64 - 1)
   pub failing : failing_of new ≡ failing_of old
+  pub most : most_of new ≡ most_of old
 
 -- `Failed` is answered only where the call was due to fail, and counted; where it was due, nothing
 -- but want of memory is answered in its place

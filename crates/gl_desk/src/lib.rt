@@ -9,12 +9,17 @@ mod listing;
 pub mod mem;
 mod mem_file;
 pub mod name;
+mod piece_limit;
+pub mod pouring;
 pub mod read;
 mod system;
+pub mod taker;
 
 pub use desk::Desk;
 pub use error::{DeskError, ReadError};
 pub use host::HostDesk;
 pub use mem::MemDesk;
 pub use name::Name;
+pub use pouring::pour;
 pub use read::read_all;
+pub use taker::Taker;

@@ -1,4 +1,4 @@
-ghost use Rattle.std.specs.Prelude.{◌≡◌, ◌≢◌, ◌≤◌, ◌/◌, ◌-◌, ◌++◌, ℕ, min, List, take, length, IsTrue, IfOk, IsSome, IfSome, OnOk, OnErr, Some, []};
+ghost use Rattle.std.specs.Prelude.{◌≡◌, ◌≢◌, ◌≤◌, ◌^◌, ◌/◌, ◌-◌, ◌++◌, ℕ, min, List, take, length, IsTrue, IfOk, IsSome, IfSome, OnOk, OnErr, Some, []};
 ghost use Rattle.std.specs.Ordering.{nat_cmp};
 ghost use Rattle.std.specs.Cmp.Lexicographic.{slice_cmp};
 ghost use Rattle.std.specs.BTreeMap.{is_at};
@@ -11,6 +11,7 @@ use crate::desk::Desk;
 use crate::error::DeskError;
 use crate::mem_file::{MemFile, copy_from};
 use crate::name::Name;
+use crate::piece_limit::PieceLimit;
 use std::alloc::{AllocError, Global};
 use std::collections::BTreeMap;
 
@@ -20,13 +21,15 @@ pub struct MemDesk {
     files: BTreeMap<Name, MemFile>,
     said: Vec<u8>,
     calls: Calls,
+    limit: PieceLimit,
 }
 
 impl MemDesk {
     ghost use Rattle.std.specs.Option.{option_copied};
-    ghost use Rattle.gl_desk.specs.MemDesk.{files_of, outputs_of, said_to, faults_of, calls_of, failing_of, HoldsFiles};
+    ghost use Rattle.gl_desk.specs.MemDesk.{files_of, outputs_of, said_to, faults_of, calls_of, failing_of, most_of, HoldsFiles};
 
-    /// A desk with these files, whose k-th call, counted from 1, fails where `failing` holds k.
+    /// A desk with these files, whose k-th call, counted from 1, fails where `failing` holds k. One
+    /// call reads as many bytes as there is room for.
     pub fn new(
         alloc: Global,
         files: Vec<(Name, Vec<u8>)>,
@@ -39,11 +42,34 @@ impl MemDesk {
         ensures faults { IfOk result (λ desk. faults_of desk ≡ 0) }
         ensures calls { IfOk result (λ desk. calls_of desk ≡ 0) }
         ensures failing { IfOk result (λ desk. failing_of desk ≡ failing.items) }
+        ensures most { IfOk result (λ desk. most_of desk ≡ 2 ^ 64 - 1) }
+    {
+        MemDesk::short(alloc, files, failing, u64::MAX)
+    }
+
+    /// The same desk, of which one call reads at most `most` bytes, so that a file comes in many
+    /// short pieces.
+    pub fn short(
+        alloc: Global,
+        files: Vec<(Name, Vec<u8>)>,
+        failing: Vec<u64>,
+        most: u64,
+    ) -> Result<MemDesk, AllocError>
+        requires differ { IsTrue (all_differ (keys_of files.items)) }
+        requires some { 1 ≤ most }
+        ensures files { IfOk result (λ desk. HoldsFiles files.items (files_of desk)) }
+        ensures outputs { IfOk result (λ desk. (name : List ℕ) → outputs_of desk name ≡ []) }
+        ensures said { IfOk result (λ desk. said_to desk ≡ []) }
+        ensures faults { IfOk result (λ desk. faults_of desk ≡ 0) }
+        ensures calls { IfOk result (λ desk. calls_of desk ≡ 0) }
+        ensures failing { IfOk result (λ desk. failing_of desk ≡ failing.items) }
+        ensures most { IfOk result (λ desk. most_of desk ≡ most) }
     {
         Ok(MemDesk {
             files: store(alloc, files)?,
             said: Vec::new(alloc),
             calls: Calls::new(failing),
+            limit: PieceLimit { most },
         })
     }
 
@@ -119,7 +145,7 @@ fn add(
 
 impl Desk for MemDesk {
     ghost use Rattle.std.specs.Prelude.{Err};
-    ghost use Rattle.gl_desk.specs.MemDesk.{files_of, outputs_of, said_to, told_by, CountsCall, FailsWhenDue, AppendsUnder, IsSameUnder};
+    ghost use Rattle.gl_desk.specs.MemDesk.{files_of, most_of, outputs_of, said_to, told_by, CountsCall, FailsWhenDue, AppendsUnder, IsSameUnder};
 
     ghost told = { told_by };
 
@@ -149,7 +175,7 @@ impl Desk for MemDesk {
         ensures bytes { IfOk result (λ n.
             IfSome (files_of self.old name.now) (λ file. ReadsFrom file at into.new n)) }
         ensures full { IfOk result (λ n. IfSome (files_of self.old name.now)
-            (λ file. n ≡ min (length file - at) (length into.new))) }
+            (λ file. n ≡ min (min (length file - at) (length into.new)) (most_of self.old))) }
         ensures due { FailsWhenDue result self.old self.new }
         ensures counted { CountsCall self.old self.new }
         ensures same_files { files_of self.new ≡ files_of self.old }
@@ -160,7 +186,7 @@ impl Desk for MemDesk {
             return Err(self.calls.fail());
         }
         let file = self.files.get(name).unwrap();
-        Ok(copy_from(file.bytes(), at, into))
+        Ok(copy_from(file.bytes(), at, self.limit, into))
     }
 
     fn append(&mut self, alloc: Global, name: &Name, piece: &[u8]) -> Result<(), DeskError>

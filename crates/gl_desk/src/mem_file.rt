@@ -1,6 +1,7 @@
 ghost use Rattle.std.specs.Prelude.{◌≡◌, ◌≤◌, ◌-◌, ◌++◌, min, List, ℕ, [], take, drop, length, IfOk, OnOk, OnErr};
 ghost use Rattle.gl_desk.specs.Desk.{ReadsFrom};
 
+use crate::piece_limit::PieceLimit;
 use std::alloc::{AllocError, Global};
 use std::marker::Model;
 
@@ -54,15 +55,17 @@ impl MemFile {
     }
 }
 
-/// Puts what stands from place `at` on into the front of `into`, and answers how many bytes.
-pub fn copy_from(bytes: &[u8], at: u64, into: &mut [u8]) -> usize
+/// Puts what stands from place `at` on into the front of `into`, no more of it than the limit, and
+/// answers how many bytes.
+pub fn copy_from(bytes: &[u8], at: u64, limit: PieceLimit, into: &mut [u8]) -> usize
     ensures within { result ≤ length into.new }
-    ensures full { result ≡ min (length bytes.now - at) (length into.new) }
+    ensures full { result ≡ min (min (length bytes.now - at) (length into.new)) limit.most }
     ensures read { ReadsFrom bytes.now at into.new result }
 {
     let start = at.min(bytes.len() as u64) as usize;
     let rest = &bytes[start..];
-    let count = rest.len().min(into.len());
+    let room = rest.len().min(into.len());
+    let count = limit.most.min(room as u64) as usize;
     into[..count].copy_from_slice(&rest[..count]);
     count
 }

@@ -1,20 +1,29 @@
-ghost use Rattle.std.specs.Prelude.{◌≡◌, ◌≤◌, vec_len, Some, Err, IfOk};
+ghost use Rattle.std.specs.Prelude.{◌≡◌, ◌≤◌, [], vec_len, Some, Err, IfOk};
 ghost use Rattle.gl_desk.specs.Answers.{OnlyReads, reading_stop};
 ghost use Rattle.gl_desk.specs.Desk.{HasFile, IsSeenIn, IsLongerThan};
 
 use crate::desk::Desk;
 use crate::error::ReadError;
 use crate::name::Name;
+use crate::pouring::pour;
+use crate::taker::Taker;
 use std::alloc::{AllocError, Global};
 
-/// How many bytes are asked for at once.
-const PIECE: usize = 65_536;
+/// The bytes of a file, as far as they were read.
+#[derive(Drop)]
+struct Gathered {
+    bytes: Vec<u8>,
+}
 
-/// A buffer of `length` bytes.
-fn buffer(alloc: Global, length: usize) -> Result<Vec<u8>, AllocError>
-    ensures { IfOk result (λ bytes. vec_len bytes ≡ length) }
-{
-    vec![in alloc; 0; length]
+impl Taker for Gathered {
+    ghost tag = { λ _. [] };
+
+    ghost stands_for = { λ gathered text. gathered.bytes.items ≡ text };
+
+    fn take(&mut self, piece: &[u8]) -> Result<(), AllocError> {
+        self.bytes.reserve_exact(piece.len())?;
+        self.bytes.extend_from_slice(piece)
+    }
 }
 
 /// The whole file, where it has at most `limit` bytes.
@@ -35,17 +44,9 @@ pub fn read_all<D: Desk>(
         → IsLongerThan limit (D.told desk.old).folder name.now }
     ensures reads { OnlyReads (reading_stop result) (D.told desk.old) (D.told desk.new) }
 {
-    let mut bytes = Vec::new(alloc);
-    let mut piece = buffer(alloc, PIECE)?;
-    'pieces: loop {
-        let read = desk.read_at(alloc, name, bytes.len() as u64, &mut piece)?;
-        if read == 0 {
-            return Ok(bytes);
-        }
-        if read as u64 > limit - bytes.len() as u64 {
-            return Err(ReadError::TooLarge);
-        }
-        bytes.reserve_exact(read)?;
-        bytes.extend_from_slice(&piece[..read])?;
-    }
+    let mut gathered = Gathered {
+        bytes: Vec::new(alloc),
+    };
+    pour(alloc, desk, name, limit, &mut gathered)?;
+    Ok(gathered.bytes)
 }

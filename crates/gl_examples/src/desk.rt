@@ -1,7 +1,8 @@
+ghost use Rattle.std.specs.Prelude.{◌≡◌, []};
 ghost use Rattle.gl_desk.specs.Desk.{HasFile};
 
 use crate::system::{Broken, OddSystem};
-use gl_desk::{Desk, DeskError, HostDesk, MemDesk, Name, ReadError, read_all};
+use gl_desk::{Desk, DeskError, HostDesk, MemDesk, Name, ReadError, Taker, pour, read_all};
 use std::alloc::{AllocError, Global};
 use std::os::unix::fs::symlink;
 use std::rt::Files;
@@ -87,6 +88,47 @@ fn a_file_is_read_up_to_the_limit_and_no_further(rt: HostRuntime) -> Result<(), 
         read_all(alloc, &mut desk, &name, 4),
         Err(ReadError::TooLarge)
     );
+    Ok(())
+}
+
+/// Counts the pieces that it is given, and keeps their bytes.
+#[derive(Drop)]
+struct Counted {
+    bytes: Vec<u8>,
+    pieces: usize,
+}
+
+impl Taker for Counted {
+    ghost tag = { λ _. [] };
+
+    ghost stands_for = { λ counted text. counted.bytes.items ≡ text };
+
+    fn take(&mut self, piece: &[u8]) -> Result<(), AllocError> {
+        self.pieces = self.pieces.saturating_add(1);
+        self.bytes.extend_from_slice(piece)
+    }
+}
+
+/// A file of five bytes on a desk that gives one, two, or as many bytes at once as there are.
+#[test]
+fn a_file_is_handed_over_in_short_pieces(rt: HostRuntime) -> Result<(), Fail> {
+    let alloc = rt.alloc();
+    let name = Name::from_text(alloc, "FIVE.TXT")?;
+    for (most, pieces) in [(1, 5), (2, 3), (u64::MAX, 1)] {
+        let mut files = Vec::new(alloc);
+        files.push((Name::from_text(alloc, "FIVE.TXT")?, Vec::from_slice(alloc, b"abcde")?))?;
+        let mut desk = MemDesk::short(alloc, files, Vec::new(alloc), most)?;
+        assert!(rt; desk.file(&name).is_some());
+        let mut counted = Counted {
+            bytes: Vec::new(alloc),
+            pieces: 0,
+        };
+        let poured = pour(alloc, &mut desk, &name, 5, &mut counted);
+        assert_eq!(rt; (poured, counted.pieces), (Ok(5), pieces));
+        assert_eq!(rt; counted.bytes.as_slice(), b"abcde".as_slice());
+        let again = pour(alloc, &mut desk, &name, 4, &mut counted);
+        assert_eq!(rt; again, Err(ReadError::TooLarge));
+    }
     Ok(())
 }
 

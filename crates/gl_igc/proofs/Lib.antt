@@ -3,6 +3,7 @@ pub mod DeclarationLemmas
 pub mod FinishLemmas
 pub mod GroupLemmas
 pub mod LawLemmas
+pub mod PieceLemmas
 pub mod ProgressLemmas
 pub mod ReaderLemmas
 pub mod SecondsLemmas

@@ -6,6 +6,7 @@ pub mod FirstOf
 pub mod FixLine
 pub mod Laws
 pub mod Parts
+pub mod Pieces
 pub mod Progress
 pub mod Reading
 pub mod Recording

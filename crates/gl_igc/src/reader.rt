@@ -6,10 +6,8 @@ ghost use Rattle.gl_igc.specs.Recording.{reading_of, sighting_of};
 ghost use Rattle.gl_igc.specs.declared.error.IgcError.TheVariants.{Memory};
 
 use crate::error::IgcError;
-use crate::finish::finish;
-use crate::progress_steps::{no_lines, take_line};
+use crate::igc_reader::IgcReader;
 use crate::recording::Recording;
-use gl_text::next_line;
 use std::alloc::Global;
 
 /// Reads the text of a recording, by the profile of the IGC flight recorder specification that
@@ -31,11 +29,7 @@ pub fn read_igc(alloc: Global, text: &[u8], task_day: Option<i32>) -> Result<Rec
     // A line that is no date, I, B, C or E line says nothing.
     ensures left_out { CanBeLeftOut (lines_of text.now) task_day }
 {
-    let mut progress = no_lines(alloc);
-    let mut at = 0;
-    while let Some(line) = next_line(text, at) {
-        take_line(&mut progress, &text[line.from..line.to])?;
-        at = line.next;
-    }
-    finish(progress, task_day)
+    let mut reader = IgcReader::new(alloc, task_day);
+    reader.feed(text)?;
+    reader.finish()
 }

@@ -2,6 +2,7 @@
 mod declarations;
 mod files;
 mod lines;
+mod pieces;
 mod seconds;
 
 use gl_igc::{Fix, IgcError, Recording, read_igc};

@@ -15,6 +15,11 @@ pub fn fresh(alloc: Global, failing: u64) -> Result<MemDesk, AllocError> {
     MemDesk::new(alloc, Vec::new(alloc), failures)
 }
 
+/// An empty folder, of whose files one call reads at most so many bytes, at least one.
+pub fn short(alloc: Global, most: u64) -> Result<MemDesk, AllocError> {
+    MemDesk::short(alloc, Vec::new(alloc), Vec::new(alloc), most.max(1))
+}
+
 /// The text, in which `\n` and `\r` stand for the ends of lines.
 fn unescaped(alloc: Global, text: &str) -> Result<String, AllocError> {
     text.replace(alloc, "\\n", "\n")?

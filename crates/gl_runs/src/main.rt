@@ -40,6 +40,7 @@ fn main(rt: HostRuntime) -> Result<()> {
                 desk = folder::fresh(rt.alloc(), 0)?;
             }
             "failing" => desk = folder::fresh(rt.alloc(), rest.parse::<u64>()?)?,
+            "short" => desk = folder::short(rt.alloc(), rest.parse::<u64>()?)?,
             _ => obey(&rt, &mut desk, word, rest)?,
         }
     }

@@ -1,5 +1,5 @@
 -- The first line of what is left of a text.
-use Rattle.std.proofs.Common.{◌≡◌, ◌≢◌, ℕ, suc, ◌+◌, ◌-◌, ◌<◌, ◌≤◌, Bool, false, cond, eqb, List, [], ◌∷◌, ◌++◌, map, length, get_or, take, drop, slice_range, sym, refl, ap, ◌∙◌, arith, inl, inr, take-append-drop, drop-drop, length-take, length-drop, get_or-drop, get_or-take, take-take, eq-eqb, subst}
+use Rattle.std.proofs.Common.{◌≡◌, ◌≢◌, ℕ, suc, ◌+◌, ◌-◌, ◌<◌, ◌≤◌, Bool, false, cond, eqb, List, [], ◌∷◌, ◌++◌, map, length, get_or, take, drop, slice_range, sym, refl, ap, ◌∙◌, arith, inl, inr, take-append-drop, drop-drop, length-take, length-drop, get_or-drop, get_or-take, take-take, eq-eqb, subst, append_assoc}
 use Rattle.std.specs.Str.Lines.{strip_carriage_return}
 use Rattle.std.proofs.lemmas.List.{drop_more, drop_all, take_rest, nil_from_length}
 use Rattle.std.proofs.lemmas.Bool.Decides.{nat_tests}
@@ -40,14 +40,16 @@ no_feed_between text at end h = λ k below.
     let apart = h.inside (at + k) (omega arith) (omega arith) in
     rw (get_or-take, get_or-drop) apart
 
-pieces_of-drop_ended : (text : List ℕ) (at end : ℕ) → IsEnd text at end → end < length text → get_or text end 0 ≡ 10 → pieces_of (drop at text) ≡ slice_range text at end ∷ pieces_of (drop (end + 1) text)
-pieces_of-drop_ended text at end h more feed =
-    let there : at + (end - at) ≡ end = omega arith in
+split_at_feed : (text : List ℕ) (at end : ℕ) → IsEnd text at end → end < length text → get_or text end 0 ≡ 10 → drop at text ≡ slice_range text at end ++ 10 ∷ drop (end + 1) text
+split_at_feed text at end h more feed =
+    let there : at + (end - at) ≡ end = omega (arith, h.after) in
     let rest : drop (end - at) (drop at text) ≡ 10 ∷ drop (end + 1) text =
     drop-drop (end - at) at text ∙ ap (λ (k : ℕ). drop k text) there ∙ drop_more text end 0 more ∙ ap (λ (b : ℕ). b ∷ drop (end + 1) text) feed in
-    let split : drop at text ≡ slice_range text at end ++ 10 ∷ drop (end + 1) text =
-    sym (take-append-drop (end - at) (drop at text)) ∙ ap (λ (r : List ℕ). slice_range text at end ++ r) rest in
-    ap pieces_of split ∙ pieces_of-ended (slice_range text at end) (drop (end + 1) text) (no_feed_between text at end h)
+    sym (take-append-drop (end - at) (drop at text)) ∙ ap (λ (r : List ℕ). slice_range text at end ++ r) rest
+
+pieces_of-drop_ended : (text : List ℕ) (at end : ℕ) → IsEnd text at end → end < length text → get_or text end 0 ≡ 10 → pieces_of (drop at text) ≡ slice_range text at end ∷ pieces_of (drop (end + 1) text)
+pieces_of-drop_ended text at end h more feed =
+    ap pieces_of (split_at_feed text at end h more feed) ∙ pieces_of-ended (slice_range text at end) (drop (end + 1) text) (no_feed_between text at end h)
 
 pieces_of-drop_last : (text : List ℕ) (at : ℕ) → IsEnd text at (length text) → at < length text → pieces_of (drop at text) ≡ slice_range text at (length text) ∷ []
 pieces_of-drop_last text at h more =
@@ -91,30 +93,38 @@ last_between text at end some within =
     let below : end - at - 1 < end - at = omega arith in
     rw (count, get_or-take, get_or-drop, place)
 
--- the line of a text that ends in CR
-pub lines_of-with_return : (text : List ℕ) (at end next : ℕ) → IsEnd text at end → IsNext text end next → at < end → get_or text (end - 1) 0 ≡ 13 → lines_of (drop at text) ≡ slice_range text at (end - 1) ∷ lines_of (drop next text)
-unfolding lines_of
-lines_of-with_return text at end next h n some return =
+pub strip_return : (text : List ℕ) (at end : ℕ) → end ≤ length text → at < end → get_or text (end - 1) 0 ≡ 13 → strip_carriage_return (slice_range text at end) ≡ slice_range text at (end - 1)
+strip_return text at end within some return =
     let l = slice_range text at end in
-    let count = length_between text at end h.after h.within in
+    let count = length_between text at end (omega (arith, some)) within in
     let short : length l - 1 ≡ end - 1 - at = omega arith in
-    let line : strip_carriage_return l ≡ slice_range text at (end - 1) =
-    strip_yes l (last_between text at end some h.within ∙ return) ∙ ap (λ (k : ℕ). take k l) short ∙ take-take (end - 1 - at) (end - at) (drop at text) (omega arith) in
-    ap (map strip_carriage_return) (pieces_of-drop text at end next h n (omega (arith, h.within))) ∙ ap (λ (p : List ℕ). p ∷ lines_of (drop next text)) line
+    strip_yes l (last_between text at end some within ∙ return) ∙ ap (λ (k : ℕ). take k l) short ∙ take-take (end - 1 - at) (end - at) (drop at text) (omega arith)
 
--- the line of a text that is empty or ends otherwise
-pub lines_of-with_all : (text : List ℕ) (at end next : ℕ) → IsEnd text at end → IsNext text end next → at < length text → (at < end → get_or text (end - 1) 0 ≢ 13) → lines_of (drop at text) ≡ slice_range text at end ∷ lines_of (drop next text)
-unfolding lines_of
-lines_of-with_all text at end next h n more other =
+pub strip_nothing : (text : List ℕ) (at end : ℕ) → at ≤ end → end ≤ length text → (at < end → get_or text (end - 1) 0 ≢ 13) → strip_carriage_return (slice_range text at end) ≡ slice_range text at end
+strip_nothing text at end after within other =
     let l = slice_range text at end in
-    let apart : get_or l (length l - 1) 0 ≢ 13 =
-    elim (cases_lt at end) [
-      | inl some ↦ λ e. other some (sym (last_between text at end some h.within) ∙ e)
+    strip_no l (elim (cases_lt at end) [
+      | inl some ↦ λ e. other some (sym (last_between text at end some within) ∙ e)
       | inr none ↦
-          let empty : l ≡ [] = nil_from_length l (length_between text at end h.after h.within ∙ omega arith) in
+          let empty : l ≡ [] = nil_from_length l (length_between text at end after within ∙ omega arith) in
           λ e. absurd (omega (arith, sym (ap (λ (xs : List ℕ). get_or xs (length xs - 1) 0) empty) ∙ e))
-    ] in
-    ap (map strip_carriage_return) (pieces_of-drop text at end next h n more) ∙ ap (λ (p : List ℕ). p ∷ lines_of (drop next text)) (strip_no l apart)
+    ])
+
+-- the line of a text, and those behind it
+pub next_of_lines : (text : List ℕ) (at end next to : ℕ) → IsEnd text at end → IsNext text end next → at < length text → strip_carriage_return (slice_range text at end) ≡ slice_range text at to → lines_of (drop at text) ≡ slice_range text at to ∷ lines_of (drop next text)
+unfolding lines_of
+next_of_lines text at end next to h n more line =
+    ap (map strip_carriage_return) (pieces_of-drop text at end next h n more) ∙ ap (λ (p : List ℕ). p ∷ lines_of (drop next text)) line
+
+-- a line that an LF ends is as it is, whatever follows the text
+pub ended_of_lines : (text more : List ℕ) (at end to : ℕ) → IsEnd text at end → end < length text → get_or text end 0 ≡ 10 → strip_carriage_return (slice_range text at end) ≡ slice_range text at to → lines_of (drop at text ++ more) ≡ slice_range text at to ∷ lines_of (drop (end + 1) text ++ more)
+unfolding lines_of
+ended_of_lines text more at end to h inside feed is =
+    let line = slice_range text at end in
+    let rest = drop (end + 1) text in
+    let split : drop at text ++ more ≡ line ++ 10 ∷ (rest ++ more) =
+    ap (λ (t : List ℕ). t ++ more) (split_at_feed text at end h inside feed) ∙ append_assoc line (10 ∷ rest) more in
+    ap (λ (t : List ℕ). map strip_carriage_return (pieces_of t)) split ∙ ap (map strip_carriage_return) (pieces_of-ended line (rest ++ more) (no_feed_between text at end h)) ∙ ap (λ (p : List ℕ). p ∷ lines_of (rest ++ more)) is
 
 -- no line is left at the end of a text
 pub lines_of-end : (text : List ℕ) (at : ℕ) → at ≡ length text → lines_of (drop at text) ≡ []

@@ -6,5 +6,5 @@ mod lines;
 mod numbers;
 
 pub use digits::read_digits;
-pub use lines::{LineAt, next_line};
+pub use lines::{LineAt, next_ended_line, next_line};
 pub use numbers::{push_fixed, push_u64, read_u64};

@@ -1,4 +1,5 @@
-ghost use Rattle.std.specs.Prelude.{◌≡◌, ◌≢◌, ◌↔◌, ℕ, ◌<◌, ◌≤◌, [], ◌∷◌, length, drop, slice_index, slice_range, IsNone, IfNone, IfSome};
+ghost use Rattle.std.specs.Prelude.{◌≡◌, ◌≢◌, ◌↔◌, ℕ, ◌-◌, ◌<◌, ◌≤◌, List, [], ◌∷◌, ◌++◌, length, drop, slice_index, slice_range, IsNone, IfNone, IfSome};
+ghost use Rattle.std.specs.Str.Lines.{strip_carriage_return};
 ghost use Rattle.gl_text.specs.Lines.{lines_of, LineEnds};
 
 use memchr::memchr;
@@ -35,6 +36,22 @@ fn line_end(text: &[u8], at: usize) -> usize
     }
 }
 
+/// The end of the bytes of a line: one CR right before the line's LF or end is left off.
+fn without_return(text: &[u8], at: usize, end: usize) -> usize
+    requires after { at ≤ end }
+    requires within { end ≤ length text.now }
+    ensures after { at ≤ result }
+    ensures within { result ≤ end }
+    ensures line { strip_carriage_return (slice_range text.now at end)
+        ≡ slice_range text.now at result }
+{
+    if at < end && text[end - 1] == CARRIAGE_RETURN {
+        end - 1
+    } else {
+        end
+    }
+}
+
 /// The line that begins at the place `at`, or `None` where `at` is the end of the text.
 ///
 /// A line ends before the next LF or at the end of the text. One CR right before that LF or end is
@@ -56,7 +73,33 @@ pub fn next_line(text: &[u8], at: usize) -> Option<LineAt>
     }
     let end = line_end(text, at);
     let next = if end < text.len() { end + 1 } else { end };
-    let has_return = at < end && text[end - 1] == CARRIAGE_RETURN;
-    let to = if has_return { end - 1 } else { end };
+    let to = without_return(text, at, end);
     Some(LineAt { from: at, to, next })
+}
+
+/// The line that begins at the place `at` and that an LF ends, or `None` where no LF stands from
+/// `at` on. Whatever follows the text, this line stays as it is.
+///
+/// One CR right before the LF is left off.
+pub fn next_ended_line(text: &[u8], at: usize) -> Option<LineAt>
+    requires { at ≤ length text.now }
+    ensures none { IfNone result
+        ((k : ℕ) → at ≤ k → k < length text.now → slice_index text.now k ≢ LINE_FEED) }
+    ensures bounds { IfSome result (λ l.
+        (l.from ≡ at) × (l.from ≤ l.to) × (l.to < l.next) × (l.next ≤ length text.now)) }
+    ensures ends { IfSome result (λ l. slice_index text.now (l.next - 1) ≡ LINE_FEED) }
+    ensures line { IfSome result (λ l. (more : List ℕ)
+        → lines_of (drop at text.now ++ more)
+        ≡ slice_range text.now l.from l.to ∷ lines_of (drop l.next text.now ++ more)) }
+{
+    let end = line_end(text, at);
+    if end == text.len() {
+        return None;
+    }
+    let to = without_return(text, at, end);
+    Some(LineAt {
+        from: at,
+        to,
+        next: end + 1,
+    })
 }
