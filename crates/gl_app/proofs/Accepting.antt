@@ -13,6 +13,7 @@ use Rattle.gl_judge.specs.Claims.{AreExpected}
 use Rattle.gl_proof.specs.declared.proof.Proof.{Proof}
 use Rattle.gl_proof.specs.Claim.{Statement}
 use Rattle.gl_proof.specs.Text.{IsTextOf, statements_of}
+use Rattle.gl_proof.specs.declared.version.Version.TheVariants.{Two}
 use Rattle.gl_task.specs.declared.task.Entrant.{Entrant}
 use Rattle.gl_task.specs.declared.task.Task.{Task}
 use Rattle.gl_day.specs.declared.fault.Checked.{Checked}
@@ -167,7 +168,7 @@ record HasDay (files : FilesByName) (names : DayNames) (day : DayFiles) (bytes t
   proof_there : files names.proof ≡ Some text
   passed : PassedDay (Some files) names.task bytes day
   small : nat_lt most_proof_bytes (length text) ≡ false
-  is_text : IsTextOf text statements
+  is_text : IsTextOf Two text statements
 
 -- such files aren't refused by `check`
 not_refused : (files : FilesByName) (names : DayNames) (day : DayFiles) (bytes text : List ℕ) (statements : List Statement) (refusal : Refusal) → HasDay files names day bytes text statements → IsCheckTested (Some files) names (Err refusal) → ⊥
@@ -191,7 +192,7 @@ has_day files names folder ended = record {
 -- what is found of a proof that `score` wrote: its claims are accepted, and counted
 pub record FoundAccepted (appended : List ℕ) (tested : Tested Checked) : Type 0 where
   pub statements : List Statement
-  pub is_text : IsTextOf appended statements
+  pub is_text : IsTextOf Two appended statements
   pub accepted : tested ≡ Ok (checked.Accepted (length statements))
 
 -- what `score` wrote `check` accepts
@@ -205,7 +206,7 @@ scored_found files names tested folder (Ok passed, are, (said, is, same)) =
     let statements = statements_of_all ended.scored.scored in
     let with = check_with files names ended.day ended.bytes folder.answer.appended statements passed has.task_there has.proof_there has.passed has.is_text are in
     let have = all_asked (Some folder.before) ended.day folder.stewards ended.day.task.entrants ended.scored.scored ended.scored.each in
-    let foreign = subst (λ (t : List ℕ). recording_of t (Some ended.day.task.date) ≡ Err NotIgc) (sym ended.scored.appended.is) (proof_is_no_recording statements (Some ended.day.task.date)) in
+    let foreign = subst (λ (t : List ℕ). recording_of t (Some ended.day.task.date) ≡ Err NotIgc) (sym ended.scored.appended.is) (proof_is_no_recording Two statements (Some ended.day.task.date)) in
     let asked = all_moved folder.before files names.proof folder.answer.appended ended.day.task ended.day.airspace ended.day.task.entrants have.claims ended.proof_new folder.proof foreign folder.others have.asked in
     let checked_is = subst (λ (l : List Statement). IsDayChecked (Some files) ended.day l said) with.1 (subst (λ (d : DayFiles). IsDayChecked (Some files) d (statements_of passed.1) said) with.0 is) in
     record {

@@ -10,6 +10,7 @@ use Rattle.gl_desk.specs.declared.error.DeskError.{DeskError}
 use Rattle.gl_desk.specs.declared.error.DeskError.TheVariants.{Failed, Memory}
 use Rattle.gl_proof.specs.Claim.{Statement}
 use Rattle.gl_proof.specs.Text.{proof_text}
+use Rattle.gl_proof.specs.declared.version.Version.TheVariants.{Two}
 use Rattle.gl_day.specs.Expected.{Proves}
 use Rattle.gl_day.specs.Flight.{StewardRules}
 use Rattle.gl_app.specs.declared.answer.Answer as code
@@ -57,7 +58,7 @@ part_cut A B text one other k count (inr is) = let n = part_of k count other in 
 
 begun_part : (folder : Option FilesByName) (day : DayFiles) (text : List ℕ) (k : ℕ) → IsBegun folder day text → IsBegun folder day (take k text)
 begun_part folder day text k begun =
-    let n = part_cut (begun.others ≡ []) (AllZip Proves begun.expected begun.statements) text (text_so_far begun.statements) (proof_text begun.statements) k begun.count begun.part in
+    let n = part_cut (begun.others ≡ []) (AllZip Proves begun.expected begun.statements) text (text_so_far begun.statements) (proof_text Two begun.statements) k begun.count begun.part in
     record {
       entrants = begun.entrants;
       others = begun.others;
@@ -90,14 +91,14 @@ score_stopped names stewards day x m y z stop lists tested reads stopped =
     }
 
 -- a proof has a text
-some_text : (statements : List Statement) → proof_text statements ≡ [] → ⊥
+some_text : (statements : List Statement) → proof_text Two statements ≡ [] → ⊥
 some_text statements none = cc
 
 -- `score` has its answer
 pub score_right : (names : DayNames) (stewards : List StewardRules) (day : DayFiles) (x m y z : Told) (sheet : List ℕ) → OnlyReads None x m → IsScoreTested m.folder names (Ok day) → OnlyReads None m y → IsDayDone day stewards names.proof y z sheet → (text : List ℕ) × IsScore x.folder stewards names (record { status = Done; said = sheet; appended = text }) × HasGiven (Some names.proof) text x z
 score_right names stewards day x m y z sheet lists tested reads done =
     let all = reads_twice x m y lists reads in
-    let text = proof_text (statements_of_all done.scored) in
+    let text = proof_text Two (statements_of_all done.scored) in
     let right : IsScore x.folder stewards names (record { status = Done; said = sheet; appended = text }) = (
       Ok day,
       subst (λ (f : Option FilesByName). IsScoreTested f names (Ok day)) lists.folder tested,

@@ -9,6 +9,7 @@ use Rattle.gl_goal.specs.Rule.{IsGoal}
 use Rattle.gl_proof.specs.Claim.{Statement, claim_text}
 use Rattle.gl_proof.specs.Line.{EndLine, HeadingLine, ended}
 use Rattle.gl_proof.specs.Text.{proof_text}
+use Rattle.gl_proof.specs.declared.version.Version.TheVariants.{Two}
 use Rattle.gl_task.specs.declared.task.Entrant.{Entrant}
 use Rattle.gl_task.specs.declared.task.Task.{Task}
 use Rattle.gl_day.specs.Asked.{Expected}
@@ -98,12 +99,12 @@ part_of_longer (suc count) (byte ∷ text) more =
     (suc rest.0, ap (λ (l : List ℕ). byte ∷ l) rest.1)
 
 -- the claims of a proof stand in front of what else it has
-proof_text-front : (front back : List Statement) → proof_text (front ++ back) ≡ text_so_far front ++ (flat_map claim_text back ++ ended EndLine)
+proof_text-front : (front back : List Statement) → proof_text Two (front ++ back) ≡ text_so_far front ++ (flat_map claim_text back ++ ended EndLine)
 proof_text-front front back =
-    proof_text-parts (front ++ back)
-    ∙ ap (λ (l : List ℕ). ended HeadingLine ++ (l ++ ended EndLine)) (claim_texts-append front back)
-    ∙ ap (λ (l : List ℕ). ended HeadingLine ++ l) (append_assoc (flat_map claim_text front) (flat_map claim_text back) (ended EndLine))
-    ∙ sym (append_assoc (ended HeadingLine) (flat_map claim_text front) (flat_map claim_text back ++ ended EndLine))
+    proof_text-parts Two (front ++ back)
+    ∙ ap (λ (l : List ℕ). ended (HeadingLine Two) ++ (l ++ ended EndLine)) (claim_texts-append front back)
+    ∙ ap (λ (l : List ℕ). ended (HeadingLine Two) ++ l) (append_assoc (flat_map claim_text front) (flat_map claim_text back) (ended EndLine))
+    ∙ sym (append_assoc (ended (HeadingLine Two)) (flat_map claim_text front) (flat_map claim_text back ++ ended EndLine))
 
 -- an answer of a day, of which a text is a first part
 pub record IsPartOfDay (folder : Option FilesByName) (day : DayFiles) (stewards : List StewardRules) (text : List ℕ) : Type 0 where
@@ -113,11 +114,11 @@ pub record IsPartOfDay (folder : Option FilesByName) (day : DayFiles) (stewards 
   pub is : text ≡ take count answer.appended
 
 -- flights of all entrants are an answer
-day_of : (folder : Option FilesByName) (day : DayFiles) (stewards : List StewardRules) (scored : List Scored) (text : List ℕ) (count : ℕ) → AllZip (IsScored folder day stewards) day.task.entrants scored → text ≡ take count (proof_text (statements_of_all scored)) → IsPartOfDay folder day stewards text
+day_of : (folder : Option FilesByName) (day : DayFiles) (stewards : List StewardRules) (scored : List Scored) (text : List ℕ) (count : ℕ) → AllZip (IsScored folder day stewards) day.task.entrants scored → text ≡ take count (proof_text Two (statements_of_all scored)) → IsPartOfDay folder day stewards text
 day_of folder day stewards scored text count each is =
     let sheet = some_sheet day.task (flights_of_all scored) (length-flights scored ∙ sym (zip-length (IsScored folder day stewards) day.task.entrants scored each)) in
     record {
-      answer = record { status = Done; said = sheet.0; appended = proof_text (statements_of_all scored) };
+      answer = record { status = Done; said = sheet.0; appended = proof_text Two (statements_of_all scored) };
       right = record {
         scored = scored;
         each = each;
@@ -144,18 +145,18 @@ claims_begun folder day stewards text begun is =
     let part = part_of_longer begun.count (text_so_far statements) (flat_map claim_text (more.0 ++ statements_of_all back.0) ++ ended EndLine) in
     day_of folder day stewards scored text part.0
     (subst (λ (l : List Entrant). AllZip (IsScored folder day stewards) l scored) (sym begun.are) each)
-    (is ∙ part.1 ∙ ap (take part.0) (sym (ap proof_text all ∙ proof_text-front statements (more.0 ++ statements_of_all back.0))))
+    (is ∙ part.1 ∙ ap (take part.0) (sym (ap (proof_text Two) all ∙ proof_text-front statements (more.0 ++ statements_of_all back.0))))
 
 -- where all claims are proved and the end is begun
-end_begun : (folder : Option FilesByName) (day : DayFiles) (stewards : List StewardRules) (text : List ℕ) → (begun : IsBegun folder day text) → begun.others ≡ [] → AllZip Proves begun.expected begun.statements → text ≡ take begun.count (proof_text begun.statements) → IsPartOfDay folder day stewards text
+end_begun : (folder : Option FilesByName) (day : DayFiles) (stewards : List StewardRules) (text : List ℕ) → (begun : IsBegun folder day text) → begun.others ≡ [] → AllZip Proves begun.expected begun.statements → text ≡ take begun.count (proof_text Two begun.statements) → IsPartOfDay folder day stewards text
 end_begun folder day stewards text begun none proved is =
     let front = flights_with folder day stewards begun.entrants begun.expected begun.statements begun.asked proved in
     let all : begun.entrants ≡ day.task.entrants = sym (begun.are ∙ ap (λ (l : List Entrant). begun.entrants ++ l) none ∙ append-nil begun.entrants) in
     day_of folder day stewards front.scored text begun.count
     (subst (λ (l : List Entrant). AllZip (IsScored folder day stewards) l front.scored) all front.each)
-    (is ∙ ap (λ (l : List Statement). take begun.count (proof_text l)) (sym front.are))
+    (is ∙ ap (λ (l : List Statement). take begun.count (proof_text Two l)) (sym front.are))
 
 -- each of the two
-pub begun_either : (folder : Option FilesByName) (day : DayFiles) (stewards : List StewardRules) (text : List ℕ) (begun : IsBegun folder day text) → (text ≡ take begun.count (text_so_far begun.statements)) ⊎ ((begun.others ≡ []) × AllZip Proves begun.expected begun.statements × (text ≡ take begun.count (proof_text begun.statements))) → IsPartOfDay folder day stewards text
+pub begun_either : (folder : Option FilesByName) (day : DayFiles) (stewards : List StewardRules) (text : List ℕ) (begun : IsBegun folder day text) → (text ≡ take begun.count (text_so_far begun.statements)) ⊎ ((begun.others ≡ []) × AllZip Proves begun.expected begun.statements × (text ≡ take begun.count (proof_text Two begun.statements))) → IsPartOfDay folder day stewards text
 begun_either folder day stewards text begun (inl is) = claims_begun folder day stewards text begun is
 begun_either folder day stewards text begun (inr (none, proved, is)) = end_begun folder day stewards text begun none proved is

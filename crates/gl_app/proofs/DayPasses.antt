@@ -9,6 +9,7 @@ use Rattle.gl_day.specs.Laws.Airspaces.{airspace_same, no_volumes_same}
 use Rattle.gl_proof.proofs.Unique.{text_refused, text_unique}
 use Rattle.gl_proof.specs.Claim.{Statement}
 use Rattle.gl_proof.specs.Text.{IsTextOf, statements_of}
+use Rattle.gl_proof.specs.declared.version.Version.{Version}
 use Rattle.gl_lines.specs.declared.error.ProofError.{ProofError}
 use Rattle.gl_proof.specs.declared.proof.Proof.{Proof}
 use Rattle.gl_task.specs.Reading.{IsReadFrom}
@@ -145,18 +146,18 @@ day_not_refused files file bytes day refusal passed (Err other, is, same) =
     task_not_refused file bytes day.task other passed.task_is is
 
 -- a proof that passed
-proof_in_ok : (file bytes : List ℕ) (p : Proof) → IsProofIn file bytes (Ok p) → IsTextOf bytes (statements_of p)
+proof_in_ok : (file bytes : List ℕ) (p : Proof) → IsProofIn file bytes (Ok p) → IsTextOf p.version bytes (statements_of p)
 proof_in_ok file bytes p (Ok read, is, same) =
     let e : p ≡ read = cc in
-    subst (λ (q : Proof). IsTextOf bytes (statements_of q)) (sym e) is
+    subst (λ (q : Proof). IsTextOf q.version bytes (statements_of q)) (sym e) is
 proof_in_ok file bytes p (Err error, is, refused) = absurd (refused_ok file (proof_cause error) p refused)
 
-proof_in_err : (file bytes : List ℕ) (statements : List Statement) (refusal : Refusal) → IsTextOf bytes statements → IsProofIn file bytes (Err refusal) → ⊥
+proof_in_err : {v : Version} (file bytes : List ℕ) (statements : List Statement) (refusal : Refusal) → IsTextOf v bytes statements → IsProofIn file bytes (Err refusal) → ⊥
 proof_in_err file bytes statements refusal passed (Ok read, is, same) = ok_or_err read refusal (sym same)
 proof_in_err file bytes statements refusal passed (Err error, is, refused) =
     subst (λ (e : ProofError). IsRefusedFor {X = Proof} file (proof_cause e) (Err refusal)) (text_refused bytes statements error passed is) refused
 
-pub proof_passed : (file bytes : List ℕ) (p : Proof) → IsProofOf file bytes (Ok p) → (nat_lt most_proof_bytes (length bytes) ≡ false) × IsTextOf bytes (statements_of p)
+pub proof_passed : (file bytes : List ℕ) (p : Proof) → IsProofOf file bytes (Ok p) → (nat_lt most_proof_bytes (length bytes) ≡ false) × IsTextOf p.version bytes (statements_of p)
 proof_passed file bytes p is =
     let small = small_ok (nat_lt most_proof_bytes (length bytes)) p _ (IsProofIn file bytes (Ok p)) is in
     (small.0, proof_in_ok file bytes p small.1)
@@ -221,13 +222,13 @@ check_not_refused files names passed refusal (task_seen, task_there, is) (task_o
     let both = check_ok (Some files) names.task ok.0 names.proof proof_ok.0 proof_ok.2.0 passed proof_ok.2.1 proof_ok.2.2 in
     check_err files names.task ok.0 names.proof proof_ok.0 proof_err.0 passed refusal both proof_err.1 proof_err.2
 
-proof_text_err : (proof text : List ℕ) (day : DayFiles) (statements : List Statement) (then : Tested Proof) (refusal : Refusal) → nat_lt most_proof_bytes (length text) ≡ false → IsTextOf text statements → IsProofOf proof text then → IfPassed {Y = DayFiles × Proof} then (Err refusal) (λ read. ◌≡◌ {A = Tested (DayFiles × Proof)} (Err refusal) (Ok (day, read))) → ⊥
+proof_text_err : {v : Version} (proof text : List ℕ) (day : DayFiles) (statements : List Statement) (then : Tested Proof) (refusal : Refusal) → nat_lt most_proof_bytes (length text) ≡ false → IsTextOf v text statements → IsProofOf proof text then → IfPassed {Y = DayFiles × Proof} then (Err refusal) (λ read. ◌≡◌ {A = Tested (DayFiles × Proof)} (Err refusal) (Ok (day, read))) → ⊥
 proof_text_err proof text day statements (Ok read) refusal small is reads same = ok_or_err _ refusal (sym same)
 proof_text_err proof text day statements (Err other) refusal small is reads same =
     proof_in_err proof text statements other is (small_then (nat_lt most_proof_bytes (length text)) _ (IsProofIn proof text (Err other)) small reads)
 
 -- a day that passed, with a text of a proof, isn't refused by `check`
-pub check_parts : (files : FilesByName) (file bytes proof text : List ℕ) (day : DayFiles) (first : Tested DayFiles) (refusal : Refusal) (statements : List Statement) → PassedDay (Some files) file bytes day → nat_lt most_proof_bytes (length text) ≡ false → IsTextOf text statements → IsDayOf (Some files) file bytes first → IfPassed {Y = DayFiles × Proof} first (Err refusal) (λ d. (then : Tested Proof) × IsProofOf proof text then × IfPassed {Y = DayFiles × Proof} then (Err refusal) (λ read. ◌≡◌ {A = Tested (DayFiles × Proof)} (Err refusal) (Ok (d, read)))) → ⊥
+pub check_parts : {v : Version} (files : FilesByName) (file bytes proof text : List ℕ) (day : DayFiles) (first : Tested DayFiles) (refusal : Refusal) (statements : List Statement) → PassedDay (Some files) file bytes day → nat_lt most_proof_bytes (length text) ≡ false → IsTextOf v text statements → IsDayOf (Some files) file bytes first → IfPassed {Y = DayFiles × Proof} first (Err refusal) (λ d. (then : Tested Proof) × IsProofOf proof text then × IfPassed {Y = DayFiles × Proof} then (Err refusal) (λ read. ◌≡◌ {A = Tested (DayFiles × Proof)} (Err refusal) (Ok (d, read)))) → ⊥
 check_parts files file bytes proof text day (Ok d) refusal statements passed small is day_is then =
     proof_text_err proof text d statements then.0 refusal small is then.1 then.2
 check_parts files file bytes proof text day (Err other) refusal statements passed small is day_is same =
@@ -254,7 +255,7 @@ day_alone files file bytes a b is too =
     λ i. record { task = tasks i; airspace = airs i }
 
 -- what passed the tests of `check` in a folder with this day and this text of a proof
-pub check_with : (files : FilesByName) (names : DayNames) (day : DayFiles) (bytes text : List ℕ) (statements : List Statement) (passed : DayFiles × Proof) → files names.task ≡ Some bytes → files names.proof ≡ Some text → PassedDay (Some files) names.task bytes day → IsTextOf text statements → IsCheckTested (Some files) names (Ok passed) → (passed.0 ≡ day) × (statements_of passed.1 ≡ statements)
+pub check_with : {v : Version} (files : FilesByName) (names : DayNames) (day : DayFiles) (bytes text : List ℕ) (statements : List Statement) (passed : DayFiles × Proof) → files names.task ≡ Some bytes → files names.proof ≡ Some text → PassedDay (Some files) names.task bytes day → IsTextOf v text statements → IsCheckTested (Some files) names (Ok passed) → (passed.0 ≡ day) × (statements_of passed.1 ≡ statements)
 check_with files names day bytes text statements passed task_there proof_there day_is is_text (seen, there, is) =
     let listed = listed_then {X = DayFiles × Proof} names.task seen bytes (Ok passed) _ (sym there ∙ task_there) is in
     let proof = listed_then {X = DayFiles × Proof} names.proof listed.0 text (Ok passed) _ (sym listed.1 ∙ proof_there) listed.2 in

@@ -11,6 +11,7 @@ use Rattle.gl_desk.specs.Desk.{FilesByName, FileTakes, Told, file_of, grown_by}
 use Rattle.gl_desk.specs.MemDesk.{HoldsFiles}
 use Rattle.gl_proof.specs.Claim.{Statement}
 use Rattle.gl_proof.specs.Text.{IsTextOf, proof_text}
+use Rattle.gl_proof.specs.declared.version.Version.TheVariants.{Two}
 use Rattle.gl_day.specs.Flight.{StewardRules}
 use Rattle.gl_app.specs.declared.status.Status.TheVariants as status
 use Rattle.gl_app.specs.Answer.{Answer, saying}
@@ -68,10 +69,10 @@ grown_new None text after new grows = ap (λ (o : Option (Option (List ℕ))). u
 grown_new (Some bytes) text after new grows = absurd (cc)
 
 -- the proof stands in the folder
-taken : (before files : FilesByName) (name text : List ℕ) (statements : List Statement) → before name ≡ None → IsTextOf text statements → FileTakes (Some before) (Some files) name text → files name ≡ Some text
+taken : (before files : FilesByName) (name text : List ℕ) (statements : List Statement) → before name ≡ None → IsTextOf Two text statements → FileTakes (Some before) (Some files) name text → files name ≡ Some text
 taken before files name text statements new is (inl grows) = grown_new (before name) text (files name) new grows
 taken before files name text statements new is (inr (none, same)) =
-    let e : [] ≡ proof_text statements = sym none ∙ is.is in
+    let e : [] ≡ proof_text Two statements = sym none ∙ is.is in
     absurd (cc)
 
 -- the folder behind a `score` that ended with a sheet

@@ -21,6 +21,7 @@ use Rattle.gl_proof.specs.declared.claim.ClaimKind.{ClaimKind}
 use Rattle.gl_proof.specs.Claim.{IsStatement, Statement, claim_text}
 use Rattle.gl_proof.specs.Line.{EndLine, HeadingLine, ended}
 use Rattle.gl_proof.specs.Text.{proof_text}
+use Rattle.gl_proof.specs.declared.version.Version.TheVariants.{Two}
 use Rattle.gl_task.specs.declared.task.Entrant.{Entrant}
 use Rattle.gl_task.specs.declared.task.Task.{Task}
 use Rattle.gl_day.specs.declared.flight.Flight.{Flight}
@@ -150,15 +151,15 @@ statements-push scored s =
 
 text-more : (front back : List Statement) → text_so_far (front ++ back) ≡ text_so_far front ++ flat_map claim_text back
 text-more front back =
-    ap (λ (l : List ℕ). ended HeadingLine ++ l) (claim_texts-append front back) ∙ sym (append_assoc (ended HeadingLine) (flat_map claim_text front) (flat_map claim_text back))
+    ap (λ (l : List ℕ). ended (HeadingLine Two) ++ l) (claim_texts-append front back) ∙ sym (append_assoc (ended (HeadingLine Two)) (flat_map claim_text front) (flat_map claim_text back))
 
 -- the heading was appended
-pub none_scored : (day : DayFiles) (stewards : List StewardRules) (proof heading : List ℕ) (x y : Told) → heading ≡ ended HeadingLine → HasAppended proof heading x y → AreEntrantsScored day stewards [] proof x y []
+pub none_scored : (day : DayFiles) (stewards : List StewardRules) (proof heading : List ℕ) (x y : Told) → heading ≡ ended (HeadingLine Two) → HasAppended proof heading x y → AreEntrantsScored day stewards [] proof x y []
 none_scored day stewards proof heading x y is appended = record {
   scored = [];
   each = tt;
   are = refl;
-  appended = subst (λ (text : List ℕ). HasAppended proof text x y) (is ∙ sym (append-nil (ended HeadingLine))) appended;
+  appended = subst (λ (text : List ℕ). HasAppended proof text x y) (is ∙ sym (append-nil (ended (HeadingLine Two)))) appended;
 }
 
 push_scored : (day : DayFiles) (stewards : List StewardRules) (entrants : List Entrant) (e : Entrant) (seen : Option (List ℕ)) (proof : List ℕ) (x y z : Told) (flights : List Flight) (flight : Flight) → AreEntrantsScored day stewards entrants proof x y flights → IsSeenIn x.folder e.file seen → IsEntrantScored day stewards e seen proof y z flight → AreEntrantsScored day stewards (entrants ++ e ∷ []) proof x z (flights ++ flight ∷ [])
@@ -203,7 +204,7 @@ begun_at day stewards entrants others proof x y flights are so_far =
     }
 
 -- the heading wasn't appended whole
-pub heading_stopped : (day : DayFiles) (proof heading : List ℕ) (x y : Told) (stop : DeskError) → heading ≡ ended HeadingLine → HasAppendedPart proof heading x y stop → IsDayStopped day proof x y stop
+pub heading_stopped : (day : DayFiles) (proof heading : List ℕ) (x y : Told) (stop : DeskError) → heading ≡ ended (HeadingLine Two) → HasAppendedPart proof heading x y stop → IsDayStopped day proof x y stop
 heading_stopped day proof heading x y stop is part = record {
   text = heading;
   begun = record {
@@ -215,7 +216,7 @@ heading_stopped day proof heading x y stop is part = record {
     statements = [];
     partly = whole [] [] tt;
     count = length heading;
-    part = inl (sym (take-length heading) ∙ ap (take (length heading)) (is ∙ sym (append-nil (ended HeadingLine))));
+    part = inl (sym (take-length heading) ∙ ap (take (length heading)) (is ∙ sym (append-nil (ended (HeadingLine Two)))));
   };
   appended = part;
 }
@@ -278,16 +279,16 @@ entrant_stopped day stewards names i e seen proof x y z flights stop below item 
     }
 
 -- the text of a proof is what is there so far, and its end
-text-ended : (statements : List Statement) → proof_text statements ≡ text_so_far statements ++ ended EndLine
+text-ended : (statements : List Statement) → proof_text Two statements ≡ text_so_far statements ++ ended EndLine
 text-ended statements =
-    proof_text-parts statements ∙ sym (append_assoc (ended HeadingLine) (flat_map claim_text statements) (ended EndLine))
+    proof_text-parts Two statements ∙ sym (append_assoc (ended (HeadingLine Two)) (flat_map claim_text statements) (ended EndLine))
 
 -- the end wasn't appended whole
 pub end_stopped : (day : DayFiles) (stewards : List StewardRules) (proof end : List ℕ) (x y z : Told) (flights : List Flight) (stop : DeskError) → end ≡ ended EndLine → AreEntrantsScored day stewards day.task.entrants proof x y flights → HasAppendedPart proof end y z stop → IsDayStopped day proof x z stop
 end_stopped day stewards proof end x y z flights stop is so_far part =
     let statements = statements_of_all so_far.scored in
     let have = all_asked x.folder day stewards day.task.entrants so_far.scored so_far.each in
-    let text = proof_text statements in
+    let text = proof_text Two statements in
     record {
       text = text;
       begun = record {

@@ -6,6 +6,7 @@ use Rattle.gl_desk.specs.Desk.{FilesByName}
 use Rattle.gl_proof.proofs.Unique.{text_unique}
 use Rattle.gl_proof.specs.Claim.{Statement}
 use Rattle.gl_proof.specs.Text.{IsTextOf}
+use Rattle.gl_proof.specs.declared.version.Version.TheVariants.{Two}
 use Rattle.gl_task.specs.declared.task.Entrant.{Entrant}
 use Rattle.gl_day.specs.Flight.{IsFlight, StewardRules}
 use Rattle.gl_day.specs.Laws.Sheets.{sheet_of-one}
@@ -52,7 +53,7 @@ each_one files day stewards (e ∷ entrants) (s ∷ one) (t ∷ other) is also =
     }
 
 -- proofs whose claims are alike
-proofs_alike : (one other : List ℕ) (ss ts : List Statement) → AllZip AreAlike ss ts → IsTextOf one ss → IsTextOf other ts → AreProofsAlike one other
+proofs_alike : (one other : List ℕ) (ss ts : List Statement) → AllZip AreAlike ss ts → IsTextOf Two one ss → IsTextOf Two other ts → AreProofsAlike one other
 proofs_alike one other ss ts alike is also statements others is_one is_other =
     subst (λ (list : List Statement). AllZip AreAlike statements list) (text_unique other ts others also is_other)
     (subst (λ (list : List Statement). AllZip AreAlike list ts) (text_unique one ss statements is is_one) alike)

@@ -134,7 +134,7 @@ IsProofOfText file (Ok read) tested = tested ≡ Ok read
 IsProofOfText file (Err error) tested = IsRefusedFor file (proof_cause error) tested
 
 abbrev pub IsProofRead : List ℕ → Result Proof ProofError → Type 0
-IsProofRead text (Ok read) = IsTextOf text (statements_of read)
+IsProofRead text (Ok read) = IsTextOf read.version text (statements_of read)
 IsProofRead text (Err error) = IsRefused text error
 
 abbrev pub IsProofIn : List ℕ → List ℕ → Tested Proof → Type 0

@@ -6,6 +6,7 @@ use Rattle.gl_demo.specs.Task.{task_file_name}
 use Rattle.gl_desk.specs.Desk.{FilesByName}
 use Rattle.gl_proof.specs.Claim.{Statement}
 use Rattle.gl_proof.specs.Text.{IsTextOf}
+use Rattle.gl_proof.specs.declared.version.Version.TheVariants.{Two}
 use Rattle.gl_day.specs.Flight.{StewardRules}
 use Rattle.gl_app.specs.declared.day_files.DayFiles.{DayFiles}
 use Rattle.gl_app.specs.declared.status.Status.TheVariants.{Done}
@@ -31,7 +32,7 @@ claims_line claims = codes "CLAIMS " ++ decimal claims ++ codes " ACCEPTED" ++ 1
 -- the text of a proof has so many claims
 abbrev pub IsCountOf : List ℕ → ℕ → Type 0
 IsCountOf text claims =
-    (statements : List Statement) × IsTextOf text statements × (claims ≡ length statements)
+    (statements : List Statement) × IsTextOf Two text statements × (claims ≡ length statements)
 
 -- The answer says the sheet of a day as `score` does, and how many claims the proof has that it
 -- appends there; nothing is appended here.

@@ -4,6 +4,7 @@ use Rattle.std.specs.List.{AllZip}
 use Rattle.gl_desk.specs.Desk.{FilesByName}
 use Rattle.gl_proof.specs.Claim.{Statement}
 use Rattle.gl_proof.specs.Text.{IsTextOf}
+use Rattle.gl_proof.specs.declared.version.Version.TheVariants.{Two}
 use Rattle.gl_day.specs.Flight.{StewardRules}
 use Rattle.gl_app.specs.Answer.{Answer}
 use Rattle.gl_app.specs.Score.{IsScore}
@@ -18,7 +19,7 @@ pub record AreAlike (one other : Statement) : Type 0 where
 -- in two proofs each claim is one, but for the choice of its fixes and its boxes
 abbrev pub AreProofsAlike : List ℕ → List ℕ → Type 0
 AreProofsAlike one other =
-    (statements others : List Statement) → IsTextOf one statements → IsTextOf other others
+    (statements others : List Statement) → IsTextOf Two one statements → IsTextOf Two other others
     → AllZip AreAlike statements others
 
 -- In a folder, `score` has one status, one sheet and one proof but for the choice of fixes and boxes:

@@ -5,6 +5,7 @@ use Rattle.gl_desk.specs.Desk.{FilesByName}
 use Rattle.gl_proof.specs.Claim.{Statement, claim_text}
 use Rattle.gl_proof.specs.Line.{HeadingLine, ended}
 use Rattle.gl_proof.specs.Text.{IsTextOf, proof_text}
+use Rattle.gl_proof.specs.declared.version.Version.TheVariants.{Two}
 use Rattle.gl_task.specs.declared.task.Entrant.{Entrant}
 use Rattle.gl_day.specs.declared.flight.Flight.{Flight}
 use Rattle.gl_day.specs.Day.{IsSheetOf}
@@ -37,14 +38,14 @@ statements_of_all scored = flat_map (λ s. s.statements) scored
 abbrev pub flights_of_all : List Scored → List Flight
 flights_of_all scored = map (λ s. s.flight) scored
 
--- The answer of a day: what is appended is the text of a proof that has the claims of all entrants,
--- each proved, and what is said is the sheet of their flights.
+-- The answer of a day: what is appended is the text, in version 2, of a proof that has the claims of
+-- all entrants, each proved, and what is said is the sheet of their flights.
 pub record IsDayScored (folder : Option FilesByName) (day : DayFiles) (stewards : List StewardRules)
     (answer : Answer) : Type 0 where
   pub scored : List Scored
   pub each : AllZip (IsScored folder day stewards) day.task.entrants scored
   pub ended : answer.status ≡ Done
-  pub appended : IsTextOf answer.appended (statements_of_all scored)
+  pub appended : IsTextOf Two answer.appended (statements_of_all scored)
   pub said : IsSheetOf day.task (flights_of_all scored) answer.said
 
 -- the answer of `score`: that of the day whose files pass the tests, or the first refusal
@@ -63,7 +64,7 @@ pub record ArePartlyProved (expected : List Expected) (statements : List Stateme
 
 -- the text of a proof as far as its claims go, without its end
 abbrev pub text_so_far : List Statement → List ℕ
-text_so_far statements = ended HeadingLine ++ flat_map claim_text statements
+text_so_far statements = ended (HeadingLine Two) ++ flat_map claim_text statements
 
 -- A first part of the text of a proof: its heading, and the first of the claims that are expected of
 -- the first of the entrants, each proved; the end stands only behind all claims of all entrants.
@@ -78,7 +79,7 @@ pub record IsBegun (folder : Option FilesByName) (day : DayFiles) (text : List �
   pub count : ℕ
   pub part : (text ≡ take count (text_so_far statements))
       ⊎ ((others ≡ []) × AllZip Proves expected statements
-      × (text ≡ take count (proof_text statements)))
+      × (text ≡ take count (proof_text Two statements)))
 
 -- such a part for the day of a folder whose files pass the tests
 abbrev pub IsScoreBegun : Option FilesByName → DayNames → List ℕ → Type 0

@@ -5,6 +5,7 @@ use Rattle.gl_desk.specs.Desk.{Told}
 use Rattle.gl_desk.specs.declared.error.DeskError.{DeskError}
 use Rattle.gl_proof.specs.Claim.{Statement, claim_text}
 use Rattle.gl_proof.specs.Text.{proof_text}
+use Rattle.gl_proof.specs.declared.version.Version.TheVariants.{Two}
 use Rattle.gl_task.specs.declared.task.Entrant.{Entrant}
 use Rattle.gl_day.specs.declared.flight.Flight.{Flight}
 use Rattle.gl_day.specs.declared.totals.Totals.{Totals}
@@ -70,5 +71,5 @@ pub record IsDayDone (day : DayFiles) (stewards : List StewardRules) (proof : Li
     (before now : Told) (sheet : List ℕ) : Type 0 where
   pub scored : List Scored
   pub each : AllZip (IsScored before.folder day stewards) day.task.entrants scored
-  pub appended : HasAppended proof (proof_text (statements_of_all scored)) before now
+  pub appended : HasAppended proof (proof_text Two (statements_of_all scored)) before now
   pub sheet_is : IsSheetOf day.task (flights_of_all scored) sheet

@@ -22,7 +22,7 @@ fn expect_refused(rt: &impl Abort, alloc: Global, proof: &str, said: &str) -> Re
 /// No text that a proof begins with, and that is shorter, is a proof.
 #[test]
 fn no_first_part_of_a_proof_is_accepted(rt: HostRuntime) -> Result<(), Fail> {
-    let whole = joined(rt.alloc(), &["GLIDEPROOF 1\n", CLAIM, "END\n"])?;
+    let whole = joined(rt.alloc(), &["GLIDEPROOF 2\n", CLAIM, "END\n"])?;
     for length in 0..whole.len() {
         let Some(part) = whole.get(..length) else {
             continue;

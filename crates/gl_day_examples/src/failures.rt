@@ -8,7 +8,7 @@ use std::test::Fail;
 #[test]
 fn each_call_of_the_desk_fails(rt: HostRuntime) -> Result<(), Fail> {
     let files = race(rt.alloc(), RACE)?;
-    let whole = joined(rt.alloc(), &["GLIDEPROOF 1\n", CLAIM, "END\n"])?;
+    let whole = joined(rt.alloc(), &["GLIDEPROOF 2\n", CLAIM, "END\n"])?;
     let calls = run(rt.alloc(), "score DAY.TOML P.TXT 1", &files, 0)?.calls;
     assert!(rt; calls > 8, "only {calls} calls");
     for failing in 1..=calls {
@@ -28,7 +28,7 @@ fn each_call_of_the_desk_fails(rt: HostRuntime) -> Result<(), Fail> {
 #[test]
 fn sheet_is_not_said(rt: HostRuntime) -> Result<(), Fail> {
     let files = race(rt.alloc(), RACE)?;
-    let whole = joined(rt.alloc(), &["GLIDEPROOF 1\n", CLAIM, "END\n"])?;
+    let whole = joined(rt.alloc(), &["GLIDEPROOF 2\n", CLAIM, "END\n"])?;
     let last = run(rt.alloc(), "score DAY.TOML P.TXT 1", &files, 0)?.calls;
     let ended = run(rt.alloc(), "score DAY.TOML P.TXT 1", &files, last)?;
     assert_eq!(rt; ended.status, Status::Desk);

@@ -21,7 +21,7 @@ fn two_workers_of_a_day_see_each_other_at_the_gate(rt: HostRuntime) -> Result<()
     assert_eq!(rt; status, Status::Done);
     assert_eq!(rt; desk.printed(), SHEET.as_bytes());
     let proof = text_of(alloc, &desk, "P.TXT")?.unwrap_or(String::new(alloc));
-    let right = joined(alloc, &["GLIDEPROOF 1\n", CLAIM, "END\n"])?;
+    let right = joined(alloc, &["GLIDEPROOF 2\n", CLAIM, "END\n"])?;
     assert_eq!(rt; proof.as_str(), right.as_str());
     Ok(())
 }

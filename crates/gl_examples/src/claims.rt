@@ -45,7 +45,7 @@ fn found_claims_are_accepted(rt: HostRuntime) -> Result<(), Fail> {
         let goal = FreeGoal::new(rt.alloc(), recording.fixes.as_slice(), 0, last, 1_000)?;
         let found = search_one(rt.alloc(), &goal)?;
         let claim = claim_of(rt.alloc(), &goal, found)?.ok_or("a claim")?;
-        let mut text = Vec::from_slice(rt.alloc(), b"GLIDEPROOF 1\n")?;
+        let mut text = Vec::from_slice(rt.alloc(), b"GLIDEPROOF 2\n")?;
         write_claim(&mut text, &claim)?;
         text.extend_from_slice(b"END\n")?;
         let proof = read_proof(rt.alloc(), &text)?;

@@ -11,14 +11,17 @@ use Rattle.gl_box.specs.declared.closed.Why.{Why}
 use Rattle.gl_box.specs.Cell.{spans_of}
 use Rattle.gl_box.specs.declared.closed.Why.TheVariants.{Disordered, Shut, Bound}
 use Rattle.gl_proof.specs.declared.claim.ClaimKind.{ClaimKind}
+use Rattle.gl_proof.specs.declared.version.Version.{Version}
+use Rattle.gl_proof.specs.declared.version.Version.TheVariants.{One, Two}
 use Rattle.gl_lines.specs.declared.error.ProofError.{ProofError}
-use Rattle.gl_lines.specs.declared.error.ProofError.TheVariants.{Memory}
+use Rattle.gl_lines.specs.declared.error.ProofError.TheVariants.{Heading, Line as WrongLine, Cut, Memory}
 use Rattle.gl_lines.specs.Grammar.{IsPlain}
+use Rattle.gl_lines.specs.Refusal.{IsRefusal, RunsThrough}
 use Rattle.gl_lines.specs.Words.{IsSpan, spaced, span_word, total_word}
 use Rattle.gl_lines.proofs.Codes.{words_front}
 use Rattle.gl_lines.proofs.Refused.{IsFull, follow_append, full_refused, full_unique, last-append, refused_once}
 use Rattle.gl_lines.proofs.Words.{feed_first, no_word, number_once, span_once, total_there, total_unique}
-use Rattle.gl_proof.specs.Claim.{IsStatement, Statement, box_line, claim_lines, fix_lines}
+use Rattle.gl_proof.specs.Claim.{IsStatement, Statement, box_line, claim_lines, fix_lines, spelled}
 use Rattle.gl_proof.specs.Fronts.{Adds, AddsBox, AreSpansAt}
 use Rattle.gl_proof.specs.Line.{AreFixes, Line, HeadingLine, ClaimLine, FixLine, BoxLine, EndLine, IsLine, ended, kind_word, proof_grammar, reason_word}
 use Rattle.gl_proof.specs.Refusal.{IsRefused}
@@ -28,7 +31,7 @@ use Rattle.gl_proof.proofs.Lines.{box_is, claim_is, entrant_unique, fix_is, kind
 
 -- the byte with which a line begins
 tag : Line → ℕ
-tag HeadingLine = 71
+tag (HeadingLine version) = 71
 tag (ClaimLine number kind total) = 67
 tag (FixLine fixes) = 70
 tag (BoxLine why spans) = 66
@@ -36,11 +39,34 @@ tag EndLine = 69
 
 tag_is : (line : Line) (r : List ℕ) → get_or (ended line ++ r) 0 0 ≡ tag line
 unfolding tag
-tag_is HeadingLine r = refl
+tag_is (HeadingLine One) r = refl
+tag_is (HeadingLine Two) r = refl
 tag_is (ClaimLine number kind total) r = refl
 tag_is (FixLine fixes) r = refl
 tag_is (BoxLine why spans) r = refl
 tag_is EndLine r = refl
+
+-- the byte of a version in its heading, which is the twelfth
+version_byte : Version → ℕ
+version_byte One = 49
+version_byte Two = 50
+
+byte_is : (v : Version) (r : List ℕ) → get_or (ended (HeadingLine v) ++ r) 11 0 ≡ version_byte v
+unfolding version_byte
+byte_is One r = refl
+byte_is Two r = refl
+
+versions_apart : (v w : Version) → version_byte v ≡ version_byte w → v ≡ w
+unfolding version_byte
+versions_apart One One same = refl
+versions_apart Two Two same = refl
+versions_apart v w same = absurd (omega arith)
+
+-- one version has the heading with which a text begins
+pub heading_unique : (v w : Version) (r q : List ℕ) → ended (HeadingLine v) ++ r ≡ ended (HeadingLine w) ++ q → (v ≡ w) × (r ≡ q)
+heading_unique v w r q same =
+    let version : v ≡ w = versions_apart v w (sym (byte_is v r) ∙ ap (λ (t : List ℕ). get_or t 11 0) same ∙ byte_is w q) in
+    (version, append_cancel_left (ended (HeadingLine w)) r q (ap (λ (u : Version). ended (HeadingLine u) ++ r) (sym version) ∙ same))
 
 reason_unique : (w v : Why) (r q : List ℕ) → reason_word w ++ r ≡ reason_word v ++ q → (w ≡ v) × (r ≡ q)
 reason_unique Disordered Disordered r q same = (refl, append_cancel_left (codes "D") r q same)
@@ -65,7 +91,8 @@ claims_unique m n k j t u r q is_one is_other same =
 
 pub line_unique : (l m : Line) (r q : List ℕ) → IsLine l → IsLine m → ended l ++ r ≡ ended m ++ q → (l ≡ m) × (r ≡ q)
 unfolding tag
-line_unique HeadingLine HeadingLine r q is_l is_m same = (refl, append_cancel_left (ended HeadingLine) r q same)
+line_unique (HeadingLine v) (HeadingLine w) r q is_l is_m same =
+    let one = heading_unique v w r q same in (ap HeadingLine one.0, one.1)
 line_unique EndLine EndLine r q is_l is_m same = (refl, append_cancel_left (ended EndLine) r q same)
 line_unique (ClaimLine number kind total) (ClaimLine n k t) r q is_l is_m same = claims_unique number n kind k total t r q is_l is_m same
 line_unique (FixLine fixes) (FixLine others) r q is_l is_m same =
@@ -86,31 +113,63 @@ line_unique l m r q is_l is_m same =
     absurd (omega (arith, sym (tag_is l r) ∙ ap (λ (t : List ℕ). get_or t 0 0) same ∙ tag_is m q))
 
 -- no line of a proof is spelled in two ways, and nothing may stand behind its end
-pub proof_plain : IsPlain proof_grammar
-proof_plain = record {
+pub proof_plain : (v : Version) → IsPlain (proof_grammar v)
+proof_plain v = record {
   once = λ line other rest more is_line is_other same. line_unique line other rest more is_line is_other same;
   ends = λ line. refl;
 }
 
 -- the text of a proof runs through to its end
-text_full : (text : List ℕ) (ss : List Statement) → IsTextOf text ss → IsFull proof_grammar text (lines_of ss)
-text_full text ss of =
+text_full : (v : Version) (text : List ℕ) (ss : List Statement) → IsTextOf v text ss → IsFull (proof_grammar v) text (lines_of ss)
+text_full v text ss of =
     let lines = flat_map claim_lines ss in
     record {
       runs = record {
-        is = of.is ∙ sym (append-nil (proof_text ss));
-        follow = follow_append proof_grammar HeadingLine lines (EndLine ∷ []) (lines_follow ss of.each).0 (tt, end_follows ss of.each, tt);
+        is = of.is ∙ sym (append-nil (proof_text v ss));
+        follow = follow_append (proof_grammar v) (HeadingLine v) lines (EndLine ∷ []) (lines_follow v ss of.each).0 (tt, end_follows v ss of.each, tt);
       };
-      ends = last-append HeadingLine lines (EndLine ∷ []);
+      ends = last-append (HeadingLine v) lines (EndLine ∷ []);
     }
+
+-- a text that has a heading is refused by the version of that heading, if at all
+runs_of : (v w : Version) (text r : List ℕ) (lines : List Line) (rest : List ℕ) → text ≡ ended (HeadingLine v) ++ r → RunsThrough (proof_grammar w) text lines rest → w ≡ v
+runs_of v w text r lines rest begins runs =
+    (heading_unique w v (spelled lines ++ rest) r (sym (append_assoc (ended (HeadingLine w)) (spelled lines) rest) ∙ sym runs.is ∙ begins)).0
+
+refused_by : (v : Version) (text r : List ℕ) (error : ProofError) → text ≡ ended (HeadingLine v) ++ r → IsRefused text error → IsRefusal (proof_grammar v) text error
+refused_by v text r Heading begins is = is v
+refused_by v text r (WrongLine told) begins is =
+    subst (λ (w : Version). IsRefusal (proof_grammar w) text (WrongLine told)) (runs_of v is.0 text r is.1.1.lines is.1.1.rest begins is.1.1.runs) is.1
+refused_by v text r Cut begins is =
+    subst (λ (w : Version). IsRefusal (proof_grammar w) text Cut) (runs_of v is.0 text r is.1.lines is.1.rest begins is.1.runs) is.1
+refused_by v text r Memory begins is = tt
+
+headed : (v : Version) (text : List ℕ) (lines : List Line) (rest : List ℕ) → RunsThrough (proof_grammar v) text lines rest → text ≡ ended (HeadingLine v) ++ (spelled lines ++ rest)
+headed v text lines rest runs = runs.is ∙ append_assoc (ended (HeadingLine v)) (spelled lines) rest
+
+once_by : (v : Version) (text : List ℕ) (lines : List Line) (rest : List ℕ) (a b : ProofError) → (a ≡ Memory → ⊥) → (b ≡ Memory → ⊥) → RunsThrough (proof_grammar v) text lines rest → IsRefused text a → IsRefused text b → a ≡ b
+once_by v text lines rest a b some_a some_b runs is_a is_b =
+    let begins = headed v text lines rest runs in
+    refused_once (proof_grammar v) (proof_plain v) text a b some_a some_b (refused_by v text _ a begins is_a) (refused_by v text _ b begins is_b)
 
 -- one refusal is told of a text, beside want of memory
 pub refused_unique : (text : List ℕ) (a b : ProofError) → (a ≡ Memory → ⊥) → (b ≡ Memory → ⊥) → IsRefused text a → IsRefused text b → a ≡ b
-refused_unique text a b some_a some_b is_a is_b = refused_once proof_grammar proof_plain text a b some_a some_b is_a is_b
+refused_unique text Memory b some_a some_b is_a is_b = absurd (some_a refl)
+refused_unique text a Memory some_a some_b is_a is_b = absurd (some_b refl)
+refused_unique text Heading Heading some_a some_b is_a is_b = refl
+refused_unique text a (WrongLine told) some_a some_b is_a is_b =
+    once_by is_b.0 text is_b.1.1.lines is_b.1.1.rest a (WrongLine told) some_a some_b is_b.1.1.runs is_a is_b
+refused_unique text a Cut some_a some_b is_a is_b =
+    once_by is_b.0 text is_b.1.lines is_b.1.rest a Cut some_a some_b is_b.1.runs is_a is_b
+refused_unique text (WrongLine told) Heading some_a some_b is_a is_b =
+    once_by is_a.0 text is_a.1.1.lines is_a.1.1.rest (WrongLine told) Heading some_a some_b is_a.1.1.runs is_a is_b
+refused_unique text Cut Heading some_a some_b is_a is_b =
+    once_by is_a.0 text is_a.1.lines is_a.1.rest Cut Heading some_a some_b is_a.1.runs is_a is_b
 
 -- and none of the text of a proof
-pub text_refused : (text : List ℕ) (ss : List Statement) (error : ProofError) → IsTextOf text ss → IsRefused text error → error ≡ Memory
-text_refused text ss error of is = full_refused proof_grammar proof_plain text (lines_of ss) error (text_full text ss of) is
+pub text_refused : {v : Version} (text : List ℕ) (ss : List Statement) (error : ProofError) → IsTextOf v text ss → IsRefused text error → error ≡ Memory
+text_refused {v} text ss error of is =
+    full_refused (proof_grammar v) (proof_plain v) text (lines_of ss) error (text_full v text ss of) (refused_by v text (spelled (lines_of ss)) error of.is is)
 
 -- lines that begin with no box
 no_box_first : List Line → Type 0
@@ -173,10 +232,15 @@ lines_injective (s ∷ ss) (t ∷ ts) each_s each_t same =
     let rest = lines_injective ss ts (All-tail IsStatement s ss each_s) (All-tail IsStatement t ts each_t) parts.5 in
     λ i. first i ∷ rest i
 
--- one proof has a text
-pub text_unique : (text : List ℕ) (ss ts : List Statement) → IsTextOf text ss → IsTextOf text ts → ss ≡ ts
-text_unique text ss ts one other =
-    lines_injective ss ts one.each other.each (full_unique proof_grammar proof_plain text (lines_of ss) (lines_of ts) (text_full text ss one) (text_full text ts other))
+-- one version of one proof has a text
+pub version_unique : {v w : Version} (text : List ℕ) (ss ts : List Statement) → IsTextOf v text ss → IsTextOf w text ts → v ≡ w
+version_unique {v} {w} text ss ts one other =
+    (heading_unique v w (spelled (lines_of ss)) (spelled (lines_of ts)) (sym one.is ∙ other.is)).0
+
+pub text_unique : {v w : Version} (text : List ℕ) (ss ts : List Statement) → IsTextOf v text ss → IsTextOf w text ts → ss ≡ ts
+text_unique {v} {w} text ss ts one other =
+    let also : IsTextOf v text ts = subst (λ (u : Version). IsTextOf u text ts) (sym (version_unique text ss ts one other)) other in
+    lines_injective ss ts one.each other.each (full_unique (proof_grammar v) (proof_plain v) text (lines_of ss) (lines_of ts) (text_full v text ss one) (text_full v text ts also))
 
 -- with the word of a box and the letter of its reason before them, spans are the line of a box
 pub box_adds : (text words tail : List ℕ) (why : Why) (before after : List Closed) (taken : Option (Bor (List ℕ))) → text ≡ codes "BOX " ++ words → words ≡ reason_word why ++ tail → Adds (AreSpansAt tail) why before after taken → AddsBox text before after taken

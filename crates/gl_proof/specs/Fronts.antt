@@ -9,9 +9,14 @@ use Rattle.gl_box.specs.Cell.{spans_of}
 use Rattle.gl_box.specs.Closed.{box_of}
 use Rattle.gl_lines.specs.Words.{spaced, span_word}
 use Rattle.gl_proof.specs.declared.claim.ClaimKind.{ClaimKind}
+use Rattle.gl_proof.specs.declared.version.Version.{Version}
 use Rattle.gl_proof.specs.Claim.{box_line}
-use Rattle.gl_proof.specs.Line.{AreFixes, AreSpans, ClaimLine, IsLine, ended, kind_word, reason_word}
+use Rattle.gl_proof.specs.Line.{AreFixes, AreSpans, ClaimLine, HeadingLine, IsLine, ended, kind_word, reason_word}
 use Rattle.gl_proof.specs.Number.{is_number}
+
+-- the heading of a version
+abbrev pub IsHeadingAt : List ℕ → Version → List ℕ → Type 0
+IsHeadingAt text version rest = text ≡ ended (HeadingLine version) ++ rest
 
 -- the spans of a box, each behind a space, and LF
 pub record AreSpansAt (text : List ℕ) (spans : List (ℕ × ℕ)) (rest : List ℕ) : Type 0 where

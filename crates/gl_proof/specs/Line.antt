@@ -7,13 +7,15 @@ use Rattle.gl_lines.specs.Grammar.{Grammar}
 pub use Rattle.gl_lines.specs.Words.{IsSpan, spaced, span_word, total_word}
 use Rattle.gl_proof.specs.declared.claim.ClaimKind.{ClaimKind}
 use Rattle.gl_proof.specs.declared.claim.ClaimKind.TheVariants.{Area, Out, Free, Triangle}
+use Rattle.gl_proof.specs.declared.version.Version.{Version}
+use Rattle.gl_proof.specs.declared.version.Version.TheVariants.{One, Two}
 use Rattle.gl_proof.specs.Number.{is_number}
 
--- What a line says: that the text is a proof; whose claim follows, of which kind and of which
--- total; the numbers of its fixes; a box, by which reason it is closed and its spans; that the
--- proof ends.
+-- What a line says: that the text is a proof, and of which version; whose claim follows, of which
+-- kind and of which total; the numbers of its fixes; a box, by which reason it is closed and its
+-- spans; that the proof ends.
 pub data Line : Type 0 where
-  HeadingLine : Line
+  HeadingLine : Version → Line
   ClaimLine : List ℕ → ClaimKind → Option ℕ → Line
   FixLine : List ℕ → Line
   BoxLine : Why → List (ℕ × ℕ) → Line
@@ -30,12 +32,13 @@ reason_word Disordered = codes "D"
 reason_word Shut = codes "S"
 reason_word Bound = codes "B"
 
--- the heading of a proof; it tells the version of the format
-abbrev pub heading : List ℕ
-heading = codes "GLIDEPROOF 1"
+-- the heading of a proof, which tells its version
+abbrev pub heading : Version → List ℕ
+heading One = codes "GLIDEPROOF 1"
+heading Two = codes "GLIDEPROOF 2"
 
 abbrev pub line_text : Line → List ℕ
-line_text HeadingLine = heading
+line_text (HeadingLine version) = heading version
 line_text (ClaimLine number kind total) =
     codes "CLAIM" ++ spaced (number ∷ kind_word kind ∷ total_word total ∷ [])
 line_text (FixLine fixes) = codes "FIX" ++ spaced (map decimal fixes)
@@ -60,7 +63,7 @@ pub record AreFixes (fixes : List ℕ) : Type 0 where
 
 -- what can stand in a line
 abbrev pub IsLine : Line → Type 0
-IsLine HeadingLine = Unit {0}
+IsLine (HeadingLine version) = Unit {0}
 IsLine (ClaimLine number kind total) =
     IsTrue (is_number number) × IfSome total (λ greatest. greatest < 2 ^ 64)
 IsLine (FixLine fixes) = AreFixes fixes
@@ -69,7 +72,7 @@ IsLine EndLine = Unit {0}
 
 -- what may stand behind the lines of a claim: another box of it, the next claim or the end
 abbrev pub goes_on : Line → Bool
-goes_on HeadingLine = false
+goes_on (HeadingLine version) = false
 goes_on (ClaimLine number kind total) = true
 goes_on (FixLine fixes) = false
 goes_on (BoxLine why spans) = true
@@ -79,9 +82,9 @@ goes_on EndLine = true
 -- the line of a claim with a total its fixes, and behind each other line of a claim a box, the next
 -- claim or the end; nothing behind the end.
 abbrev pub may_follow : Line → Line → Bool
-may_follow HeadingLine (ClaimLine number kind total) = true
-may_follow HeadingLine EndLine = true
-may_follow HeadingLine other = false
+may_follow (HeadingLine version) (ClaimLine number kind total) = true
+may_follow (HeadingLine version) EndLine = true
+may_follow (HeadingLine version) other = false
 may_follow (ClaimLine number kind None) next = goes_on next
 may_follow (ClaimLine number kind (Some total)) (FixLine fixes) = true
 may_follow (ClaimLine number kind (Some total)) other = false
@@ -89,12 +92,13 @@ may_follow (FixLine fixes) next = goes_on next
 may_follow (BoxLine why spans) next = goes_on next
 may_follow EndLine next = false
 
--- the lines of proofs, and how they follow each other
-abbrev pub proof_grammar : Grammar Line
-proof_grammar = record {
+-- the lines of the proofs of a version, and how they follow each other: the versions differ in their
+-- heading alone
+abbrev pub proof_grammar : Version → Grammar Line
+proof_grammar version = record {
   spelling = line_text;
   IsLine = IsLine;
   may_follow = may_follow;
-  heading = HeadingLine;
+  heading = HeadingLine version;
   last = EndLine;
 }

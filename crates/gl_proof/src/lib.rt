@@ -8,10 +8,12 @@ mod entrant;
 mod line;
 mod proof;
 mod read;
+mod version;
 mod write;
 
 pub use claim::{Claim, ClaimKind};
 pub use gl_lines::ProofError;
 pub use proof::Proof;
 pub use read::read_proof;
+pub use version::Version;
 pub use write::{write_boxes, write_claim, write_front};

@@ -1,21 +1,35 @@
 ghost use Rattle.std.specs.Prelude.{◌≡◌, ◌≢◌, ◌↔◌, ◌⊎◌, ◌++◌, ℕ, List, IfOk, IfErr, IsErrOf, IsTrue, MatchResult};
+ghost use Rattle.gl_lines.specs.Fronts.{Reads};
 ghost use Rattle.gl_lines.specs.declared.error.ProofError.{ProofError};
 ghost use Rattle.gl_lines.specs.declared.error.ProofError.TheVariants.{Memory};
 ghost use Rattle.gl_proof.specs.Claim.{Statement};
+ghost use Rattle.gl_proof.specs.Fronts.{IsHeadingAt};
 ghost use Rattle.gl_proof.specs.Line.{EndLine, ended};
 ghost use Rattle.gl_proof.specs.Refusal.{IsRefused};
 ghost use Rattle.gl_proof.specs.Text.{IsTextOf, statements_of};
+ghost use Rattle.gl_proof.specs.declared.version.Version.{Version};
 
 use crate::claim_lines::claim_at;
 use crate::proof::Proof;
+use crate::version::Version;
 use gl_lines::{ProofError, behind, later};
 use std::alloc::Global;
 
-/// The heading of a proof, which tells the version of the format.
-const HEADING: &[u8] = b"GLIDEPROOF 1\n";
-
 /// The line with which a proof ends.
 const END: &[u8] = b"END\n";
+
+/// The version that the heading at the front of a text tells, and what follows the heading.
+fn heading_at(text: &[u8]) -> Option<(Version, &[u8])>
+    ensures { Reads (λ version. version) (IsHeadingAt text.now) result }
+{
+    if let Some(rest) = behind(text, b"GLIDEPROOF 1\n") {
+        return Some((Version::One, rest));
+    }
+    if let Some(rest) = behind(text, b"GLIDEPROOF 2\n") {
+        return Some((Version::Two, rest));
+    }
+    None
+}
 
 /// Whether the line at the front of a text ends a proof.
 fn is_end(text: &[u8]) -> bool
@@ -26,10 +40,10 @@ fn is_end(text: &[u8]) -> bool
 
 /// The proof of a text, or why it is none.
 fn read_lines(alloc: Global, text: &[u8]) -> Result<Proof, ProofError>
-    ensures ok { IfOk result (λ proof. IsTextOf text.now (statements_of proof)) }
+    ensures ok { IfOk result (λ proof. IsTextOf proof.version text.now (statements_of proof)) }
     ensures refused { IfErr result (IsRefused text.now) }
 {
-    let Some(mut rest) = behind(text, HEADING) else {
+    let Some((version, mut rest)) = heading_at(text) else {
         return Err(ProofError::Heading);
     };
     let mut line = 2;
@@ -46,21 +60,24 @@ fn read_lines(alloc: Global, text: &[u8]) -> Result<Proof, ProofError>
     if rest.len() > END.len() {
         return Err(ProofError::Line(later(line, 1)));
     }
-    Ok(Proof { claims })
+    Ok(Proof { version, claims })
 }
 
-/// Reads a proof from its text, as docs/proof-file.md has it: the one proof with this text. So what
-/// was written is read again, and there is no second spelling of a proof.
+/// Reads a proof from its text, as docs/proof-file.md has it: the one proof, of the one version, with
+/// this text. So what was written is read again, and there is no second spelling of a proof.
 ///
-/// [`ProofError::Heading`] comes where the text doesn't begin with the heading and its LF,
+/// [`ProofError::Heading`] comes where the text doesn't begin with the heading of a version and its LF,
 /// [`ProofError::Line`] with the first line, ended by LF, that may not stand where it stands, or
 /// that begins behind the end, and [`ProofError::Cut`] where neither of these is so and the end is
 /// missing; [`ProofError::Memory`] only for want of memory.
 pub fn read_proof(alloc: Global, text: &[u8]) -> Result<Proof, ProofError>
     // What is read has this text, and what has this text is read.
-    ensures ok { IfOk result (λ proof. IsTextOf text.now (statements_of proof)) }
-    ensures only { (statements : List Statement) → IsTextOf text.now statements
-        → MatchResult result (λ proof. statements_of proof ≡ statements) (λ error. error ≡ Memory) }
+    ensures ok { IfOk result (λ proof. IsTextOf proof.version text.now (statements_of proof)) }
+    ensures only { (version : Version) (statements : List Statement)
+        → IsTextOf version text.now statements
+        → MatchResult result
+        (λ proof. (proof.version ≡ version) × (statements_of proof ≡ statements))
+        (λ error. error ≡ Memory) }
 
     // What is told is so, and what is so is told.
     ensures refused { IfErr result (IsRefused text.now) }

@@ -83,7 +83,7 @@ fn first_wrong_claim_is_told(rt: HostRuntime) -> Result<(), Fail> {
         ),
     ];
     for (front, back, expected) in cases {
-        let mut text = Vec::from_slice(rt.alloc(), b"GLIDEPROOF 1\n")?;
+        let mut text = Vec::from_slice(rt.alloc(), b"GLIDEPROOF 2\n")?;
         text.extend_from_slice(front.as_bytes())?;
         text.extend_from_slice(back.as_bytes())?;
         text.extend_from_slice(b"END\n")?;

@@ -23,7 +23,7 @@ fn fix_at(second: i32, lat: i32) -> Option<Fix> {
 
 /// What is said of the claim with these lines behind its first one, whose total is told.
 fn said(alloc: Global, goal: &FreeGoal, total: &str, lines: &str) -> Result<Verdict, Fail> {
-    let text = format!(in alloc; "GLIDEPROOF 1\nCLAIM EE FREE {total}\n{lines}END\n")?;
+    let text = format!(in alloc; "GLIDEPROOF 2\nCLAIM EE FREE {total}\n{lines}END\n")?;
     let proof = read_proof(alloc, text.as_bytes())?;
     let claim = proof.claims.first().ok_or("a claim")?;
     Ok(check_claim(alloc, goal, claim)?)

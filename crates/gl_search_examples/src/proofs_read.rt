@@ -5,7 +5,7 @@ use std::alloc::Global;
 use std::test::Fail;
 
 /// A proof of one claim.
-const PROOF: &[u8] = b"GLIDEPROOF 1\nCLAIM CC OUT 11119492\nFIX 2\nBOX B 0-0\nEND\n";
+const PROOF: &[u8] = b"GLIDEPROOF 2\nCLAIM CC OUT 11119492\nFIX 2\nBOX B 0-0\nEND\n";
 
 /// Bytes to put into the place of one.
 const BYTES: &[u8] = b"\n\r -019BDNz\xff";
@@ -35,7 +35,7 @@ fn claims_in(alloc: Global, text: &[u8]) -> Result<usize, ProofError> {
 
 /// The text of a proof with these lines between its heading and its end.
 fn proof_of(alloc: Global, lines: &[u8]) -> Result<Vec<u8>, Fail> {
-    let mut text = b"GLIDEPROOF 1\n".to_vec(alloc)?;
+    let mut text = b"GLIDEPROOF 2\n".to_vec(alloc)?;
     text.extend_from_slice(lines)?;
     text.extend_from_slice(b"END\n")?;
     Ok(text)
@@ -55,6 +55,31 @@ fn a_first_part_of_a_proof_is_none(rt: HostRuntime) {
             "at {length}"
         );
     }
+}
+
+#[test]
+fn versions_that_are_read(rt: HostRuntime) -> Result<(), Fail> {
+    let cases = [
+        (b"GLIDEPROOF 1\nEND\n".as_slice(), Ok(Version::One)),
+        (b"GLIDEPROOF 2\nEND\n", Ok(Version::Two)),
+        (b"GLIDEPROOF 3\nEND\n", Err(ProofError::Heading)),
+        (b"GLIDEPROOF 0\nEND\n", Err(ProofError::Heading)),
+        (b"GLIDEPROOF 12\nEND\n", Err(ProofError::Heading)),
+        (b"GLIDEPROOF 02\nEND\n", Err(ProofError::Heading)),
+        (b"GLIDEPROOF\nEND\n", Err(ProofError::Heading)),
+        (b"GLIDEPROOF 2\r\nEND\n", Err(ProofError::Heading)),
+        (b"GLIDEPROOF 2", Err(ProofError::Heading)),
+        (b"GLIDEPROOF 1\n", Err(ProofError::Cut)),
+        (b"GLIDEPROOF 1\nGLIDEPROOF 2\nEND\n", Err(ProofError::Line(2))),
+    ];
+    for (text, expected) in cases {
+        let answer = match read_proof(rt.alloc(), text) {
+            Ok(proof) => Ok(proof.version),
+            Err(error) => Err(error),
+        };
+        assert_eq!(rt; answer, expected);
+    }
+    Ok(())
 }
 
 #[test]
@@ -152,7 +177,7 @@ fn a_claim_is_written(rt: HostRuntime) -> Result<(), Fail> {
         }]
         .to_vec(rt.alloc())?,
     };
-    let mut text = b"GLIDEPROOF 1\n".to_vec(rt.alloc())?;
+    let mut text = b"GLIDEPROOF 2\n".to_vec(rt.alloc())?;
     write_claim(&mut text, &claim)?;
     text.extend_from_slice(b"END\n")?;
     assert_eq!(rt; text.as_slice(), PROOF);

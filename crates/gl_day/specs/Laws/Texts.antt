@@ -5,6 +5,7 @@ use Rattle.std.proofs.lemmas.List.Concat.{flat_map-append}
 use Rattle.gl_proof.specs.Claim.{Statement, claim_lines, claim_text}
 use Rattle.gl_proof.specs.Line.{EndLine, HeadingLine, Line, ended}
 use Rattle.gl_proof.specs.Text.{proof_text}
+use Rattle.gl_proof.specs.declared.version.Version.{Version}
 
 lines-text : (statements : List Statement) (rest : List Line) → flat_map ended (flat_map claim_lines statements ++ rest) ≡ flat_map claim_text statements ++ flat_map ended rest
 lines-text [] rest = refl
@@ -15,9 +16,9 @@ lines-text (s ∷ statements) rest =
     ∙ sym (append_assoc (claim_text s) (flat_map claim_text statements) (flat_map ended rest))
 
 -- the heading, the texts of the claims one after another, and the end
-pub proof_text-parts : (statements : List Statement) → proof_text statements ≡ ended HeadingLine ++ (flat_map claim_text statements ++ ended EndLine)
-proof_text-parts statements =
-    ap (λ (l : List ℕ). ended HeadingLine ++ l) (lines-text statements (EndLine ∷ []))
+pub proof_text-parts : (version : Version) (statements : List Statement) → proof_text version statements ≡ ended (HeadingLine version) ++ (flat_map claim_text statements ++ ended EndLine)
+proof_text-parts version statements =
+    ap (λ (l : List ℕ). ended (HeadingLine version) ++ l) (lines-text statements (EndLine ∷ []))
 
 -- claims that follow others add their texts
 pub claim_texts-append : (front back : List Statement) → flat_map claim_text (front ++ back) ≡ flat_map claim_text front ++ flat_map claim_text back

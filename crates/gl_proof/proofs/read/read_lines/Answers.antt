@@ -14,7 +14,7 @@ pub returns-in-Err-clause-refused : goal.returns-in-Err-clause-refused
 returns-in-Err-clause-refused c =
     let l = c.claims in
     let i = l.invariant in
-    refused_claim c.args.text.now (map statement_of l.claims.items) l.rest.now l.line c.in-Err.error i.each i.is i.counted i.last (λ more at. false≢true (sym c.claims-test.true ∙ c.is_end.ensures.1 (more, at))) c.in-Err.ensures.refused
+    refused_claim c.in-Some.version c.args.text.now (map statement_of l.claims.items) l.rest.now l.line c.in-Err.error i.each i.is i.counted i.last (λ more at. false≢true (sym c.claims-test.true ∙ c.is_end.ensures.1 (more, at))) c.in-Err.ensures.refused
 
 pub claims-preserved : goal.claims-preserved
 claims-preserved c =
@@ -29,7 +29,7 @@ claims-preserved c =
     told_on c.in-Ok.read.2 l.line (length lines + 2) (length (claim_lines s)) read.counted i.counted ∙ ap (λ (n : ℕ). min n 4_294_967_295) (omega (arith, length-claims_more said s)) in
     record {
       each = subst (All IsStatement) (sym grown) (All-push IsStatement said s i.each read.is_statement);
-      is = subst (λ (ss : List Statement). c.args.text.now ≡ spelled (HeadingLine ∷ flat_map claim_lines ss) ++ c.in-Ok.read.1.now) (sym grown) (claims_more c.args.text.now said l.rest.now s c.in-Ok.read.1.now i.is read.is);
+      is = subst (λ (ss : List Statement). c.args.text.now ≡ spelled (HeadingLine c.in-Some.version ∷ flat_map claim_lines ss) ++ c.in-Ok.read.1.now) (sym grown) (claims_more c.in-Some.version c.args.text.now said l.rest.now s c.in-Ok.read.1.now i.is read.is);
       counted = subst (λ (ss : List Statement). c.in-Ok.read.2 ≡ min (length (flat_map claim_lines ss) + 2) 4_294_967_295) (sym grown) counted;
       last = λ some. read.last;
     }
@@ -39,4 +39,4 @@ returns-then-rest-clause-refused c =
     let l = c.claims in
     let i = l.invariant in
     let end = c.is_end.ensures.0 c.claims-test.false in
-    refused_after c.args.text.now (map statement_of l.claims.items) l.rest.now l.line c.later.result end.0 i.each i.is i.counted end.1 (λ none. absurd (omega (arith, ap length end.1, ap length none, c.if-rest.true))) c.later.ensures
+    refused_after c.in-Some.version c.args.text.now (map statement_of l.claims.items) l.rest.now l.line c.later.result end.0 i.each i.is i.counted end.1 (λ none. absurd (omega (arith, ap length end.1, ap length none, c.if-rest.true))) c.later.ensures

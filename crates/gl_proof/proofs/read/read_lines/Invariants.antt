@@ -12,7 +12,7 @@ invariant-claims l =
     let said = map statement_of l.claims.items in
     record {
       each : All IsStatement said;
-      is : l.text ≡ spelled (HeadingLine ∷ flat_map claim_lines said) ++ l.rest;
+      is : l.text ≡ spelled (HeadingLine l.version ∷ flat_map claim_lines said) ++ l.rest;
       counted : l.line ≡ min (length (flat_map claim_lines said) + 2) 4_294_967_295;
       last : 0 < length said → NoBox l.rest;
     }
