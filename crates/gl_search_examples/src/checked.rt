@@ -177,7 +177,7 @@ fn no_box_shuts_a_large_triangle_out(rt: HostRuntime) -> Result<(), Fail> {
     ];
     let goal = TriangleGoal::new(rt.alloc(), &fixes, 0, 3, 100_000)?;
     let boxes = all_choices(rt.alloc())?;
-    let text = format!(in rt.alloc(); "GLIDEPROOF 1\nCLAIM EE TRIANGLE NONE\n{boxes}END\n")?;
+    let text = format!(in rt.alloc(); "GLIDEPROOF 2\nCLAIM EE TRIANGLE NONE\n{boxes}END\n")?;
     let proof = read_proof(rt.alloc(), text.as_bytes())?;
     let claim = proof.claims.first().ok_or("a claim")?;
     assert_eq!(rt; claim.cells.len(), 64);
