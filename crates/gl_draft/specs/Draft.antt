@@ -117,9 +117,10 @@ pub record HasDay (draft : Draft) (task : Task) : Type 0 where
   pub opens : IfSome draft.opens (λ known. task.start.opens ≡ pos known)
   pub kind_is : HasKind draft.kind task.kind
 
--- the task has the start, the zones and the finish that were taken
+-- the task has the start, which needn't be announced, the zones and the finish that were taken
 pub record HasCourse (draft : Draft) (task : Task) : Type 0 where
   pub start : HasStart draft.start task.start.line
+  pub unannounced : task.start.pilot ≡ None
   pub zones : Each HasZone draft.zones task.zones
   pub finish : HasFinish draft.finish task.finish
 

@@ -1,11 +1,11 @@
-ghost use Rattle.std.specs.Prelude.{◌≡◌, IsTrue, IfSome, pos};
+ghost use Rattle.std.specs.Prelude.{◌≡◌, IsTrue, IfSome, None, pos};
 ghost use Rattle.gl_draft.specs.Draft.{Each, HasCourse, HasDay, HasDraft, HasEntrant, HasFinish, HasKind, HasPart, HasParts, HasRadials, HasSector, HasStart, HasZone, IsAt, IsMetres};
 
 use crate::draft::{Draft, Finish, Kind, Part, Sector, Start, Zone};
 use crate::entrant::Entrant;
 use gl_desk::Name;
 use gl_sphere::{Grid, Vec3, vector};
-use gl_task::{Finish as TaskFinish, Kind as TaskKind, Task};
+use gl_task::{Finish as TaskFinish, Kind as TaskKind, PilotStart, Task};
 use gl_zone::{Line, Part as TaskPart, Sector as TaskSector, Zone as TaskZone};
 
 /// A metre, in centimetres.
@@ -33,6 +33,13 @@ fn has_start(start: Start, line: Line) -> bool
     is_at(line.centre, start.at)
         && is_at(line.towards, start.towards)
         && is_length(line.half, start.half)
+}
+
+/// Whether a start needn't be announced.
+fn is_unannounced(pilot: Option<PilotStart>) -> bool
+    ensures { IsTrue result → pilot ≡ None }
+{
+    pilot.is_none()
 }
 
 /// Whether a sector has the radials that are known.
@@ -233,7 +240,8 @@ fn has_day(draft: &Draft, task: &Task) -> bool
 fn has_course(draft: &Draft, task: &Task) -> bool
     ensures { IsTrue result → HasCourse draft.now task.now }
 {
-    has_start(draft.start, task.start.line)
+    is_unannounced(task.start.pilot)
+        && has_start(draft.start, task.start.line)
         && has_zones(draft.zones.as_slice(), task.zones.as_slice())
         && has_finish(draft.finish, task.finish)
 }

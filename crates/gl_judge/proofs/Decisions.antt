@@ -19,8 +19,9 @@ use Rattle.gl_judge.specs.Crossings.{Crosses}
 use Rattle.gl_judge.specs.Finishes.{IsAtFinish, IsInRing, lead_of}
 use Rattle.gl_judge.specs.JudgedFixes.{IsInRange}
 use Rattle.gl_judge.specs.Outcome.{Completes, IsCompleteStart}
-use Rattle.gl_judge.specs.Starts.{IsStart}
+use Rattle.gl_judge.specs.Starts.{IsAnnounced, IsStart}
 use Rattle.gl_judge.specs.Visits.{Finishes, HasVisit, IsInZone, VisitsFirst}
+use Rattle.gl_judge.proofs.Announcements.{decided-announced}
 use Rattle.gl_judge.proofs.Decided.{Decided, decided-both, decided-by, decided-int_le, decided-int_lt, decided-le, decided-lt, decided-some, decided-true}
 use Rattle.gl_judge.proofs.Lines.{crosses-forwards, crosses-is, crosses-once}
 use Rattle.gl_judge.proofs.Rings.{in_ring, not_in_ring}
@@ -74,12 +75,13 @@ decided-crosses line fixes judged i = elim (decided-both (judged.0 < i) (i < jud
 -- whether a fix is a legal start is decided
 pub decided-start : (start : Start) (recording : Recording) (judged : ℕ × ℕ) (b : ℕ) → Decided (IsStart start recording judged b)
 decided-start start recording judged b = elim (decided-crosses start.line recording.fixes judged b) as (λ _. Decided (IsStart start recording judged b)) [
-  | inl c ↦ decided-by ((start.opens ≤ℤ c.0) × (c.0 ≤ℤ start.close)) (IsStart start recording judged b)
-      (λ h. record { time = c.0; legal = record { crossed = c.1; opened = h.0; not_closed = h.1 } })
+  | inl c ↦ decided-by ((start.opens ≤ℤ c.0) × ((c.0 ≤ℤ start.close) × IsAnnounced start.pilot recording.events c.0)) (IsStart start recording judged b)
+      (λ h. record { time = c.0; legal = record { crossed = c.1; opened = h.0; not_closed = h.1.0; announced = h.1.1 } })
       (λ s.
       let same : s.time ≡ c.0 = crosses-once start.line recording.fixes judged b s.time c.0 s.legal.crossed c.1 in
-      (subst (λ (t : ℤ). start.opens ≤ℤ t) same s.legal.opened, subst (λ (t : ℤ). t ≤ℤ start.close) same s.legal.not_closed))
-      (decided-both (start.opens ≤ℤ c.0) (c.0 ≤ℤ start.close) (decided-int_le start.opens c.0) (decided-int_le c.0 start.close))
+      (subst (λ (t : ℤ). start.opens ≤ℤ t) same s.legal.opened, (subst (λ (t : ℤ). t ≤ℤ start.close) same s.legal.not_closed, subst (λ (t : ℤ). IsAnnounced start.pilot recording.events t) same s.legal.announced)))
+      (decided-both (start.opens ≤ℤ c.0) ((c.0 ≤ℤ start.close) × IsAnnounced start.pilot recording.events c.0) (decided-int_le start.opens c.0)
+      (decided-both (c.0 ≤ℤ start.close) (IsAnnounced start.pilot recording.events c.0) (decided-int_le c.0 start.close) (decided-announced start.pilot recording.events c.0)))
   | inr never ↦ inr (λ s. never (s.time, s.legal.crossed))
 ]
 

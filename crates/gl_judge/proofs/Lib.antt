@@ -1,3 +1,4 @@
+pub mod Announcements
 pub mod Bounds
 pub mod Courses
 pub mod Decided

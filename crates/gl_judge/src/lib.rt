@@ -2,6 +2,7 @@
 //! visited, whether it finished or landed out; and which distance and time count of it.
 #![tactic(auto)]
 
+mod announcement;
 mod choices;
 mod course;
 mod crossings;

@@ -3,6 +3,7 @@ ghost use Rattle.gl_judge.specs.Greatest.{IsLeast};
 ghost use Rattle.gl_judge.specs.Starts.{IsLegalStart, IsStart};
 ghost use Rattle.gl_judge.specs.Stretch.{range_of};
 
+use crate::announcement::is_announced;
 use crate::crossings::crossing_at;
 use crate::passing::Passing;
 use crate::stretch::Stretch;
@@ -17,9 +18,14 @@ fn start_at(start: &Start, rec: &Recording, judged: Stretch, b: usize) -> Option
     ensures none { IfNone result
         ((time : ℤ) → IsLegalStart start.now rec.now (range_of judged) b time → ⊥) }
 {
-    match crossing_at(&start.line, rec, judged, b) {
-        Some(time) if start.opens <= time && time <= start.close => Some(time),
-        _ => None,
+    let time = crossing_at(&start.line, rec, judged, b)?;
+    if time < start.opens || start.close < time {
+        return None;
+    }
+    if is_announced(start.pilot, rec.events.as_slice(), time) {
+        Some(time)
+    } else {
+        None
     }
 }
 

@@ -5,7 +5,7 @@ use Rattle.toml.specs.Data.{Data, Members}
 use Rattle.gl_task.specs.declared.error.Key.{Key}
 use Rattle.gl_task.specs.declared.error.TaskError.TheVariants.{Toml, Missing, Value, Twice, TooMany, Memory}
 use Rattle.gl_task.specs.Keys.{Test, at_most, each_item, first_failed, needed_value, optional_value, right_value, some_item, table_at, table_of}
-use Rattle.gl_task.specs.Tests.{day_tests, lists_tests, start_tests, zones_tests, finish_tests, rules_tests, entrants_tests, head_tests, way_tests, course_tests, plan_tests, numbered_tests, people_tests, tests, word_tests, zone_tests, part_tests, sector_tests, gate_tests, entrant_tests, minimum_test, has}
+use Rattle.gl_task.specs.Tests.{day_tests, lists_tests, pilot_tests, start_tests, zones_tests, finish_tests, rules_tests, entrants_tests, head_tests, way_tests, course_tests, plan_tests, numbered_tests, people_tests, tests, word_tests, zone_tests, part_tests, sector_tests, gate_tests, entrant_tests, minimum_test, has}
 use Rattle.gl_task.specs.Twice.{twice_at}
 use Rattle.gl_task.specs.Values.{KindWord, racing, area}
 
@@ -62,6 +62,10 @@ keyed_if : (b : Bool) (tests : List Test) → AreKeyed tests → AreKeyed (cond 
 keyed_if true tests keyed = tt
 keyed_if false tests keyed = keyed
 
+keyed_where : (b : Bool) (tests : List Test) → AreKeyed tests → AreKeyed (cond b tests [])
+keyed_where true tests keyed = keyed
+keyed_where false tests keyed = tt
+
 keyed_minimum : (o : Option KindWord) (file : Members) → IsKeyed (minimum_test o file)
 keyed_minimum None file = tt
 keyed_minimum (Some racing) file = tt
@@ -79,9 +83,13 @@ keyed_lists : (file : Members) → AreKeyed (lists_tests file)
 unfolding lists_tests
 keyed_lists file = (search keyed_optional, (search keyed_at_most, keyed_each word_tests keyed_word _ _))
 
+keyed_pilot : (start : Members) → AreKeyed (pilot_tests start)
+unfolding pilot_tests
+keyed_pilot start = (search keyed_optional, keyed_where (has (codes "wait") start) _ (search keyed_needed, tt))
+
 keyed_start : (file : Members) → AreKeyed (start_tests file)
 unfolding start_tests
-keyed_start file = (search keyed_needed, (search keyed_needed, (search keyed_needed, (search keyed_needed, (search keyed_needed, (search keyed_needed, tt))))))
+keyed_start file = (search keyed_needed, (search keyed_needed, (search keyed_needed, (search keyed_needed, (search keyed_needed, (search keyed_needed, keyed_pilot (table_at (codes "start") file)))))))
 
 keyed_sector : (zone part : ℕ) (table : Members) → AreKeyed (sector_tests zone part table)
 keyed_sector zone part table = (search keyed_optional, (search keyed_needed, (search keyed_needed, (search keyed_needed, tt))))

@@ -5,6 +5,14 @@ use Rattle.std.specs.Prelude.{ℕ}
 abbrev pub last_second : ℕ
 last_second = 100_000
 
+-- the longest wait between the announcement of a start and its window, and the widest window, in
+-- seconds
+abbrev pub longest_wait : ℕ
+longest_wait = 3_600
+
+abbrev pub widest_window : ℕ
+widest_window = 3_600
+
 -- the greatest altitude and the greatest loss of altitude, in metres
 abbrev pub greatest_altitude : ℕ
 greatest_altitude = 32_767

@@ -1,5 +1,5 @@
 -- What a task says of the day, by the keys of its file.
-use Rattle.std.specs.Prelude.{◌≡◌, ℕ, ◌*◌, max, codes, List, [], ◌∷◌, Option, Some, option_map, unwrap_or, Bool, true, false, pos}
+use Rattle.std.specs.Prelude.{◌≡◌, ℕ, ◌*◌, max, codes, List, [], ◌∷◌, Option, None, Some, option_map, unwrap_or, Bool, true, false, pos}
 use Rattle.std.specs.List.{list_any}
 use Rattle.gl_sphere.specs.Place.{written_vector, written_north, written_east}
 use Rattle.gl_sphere.specs.declared.place.Grid.{Grid}
@@ -15,6 +15,7 @@ use Rattle.gl_task.specs.declared.day_type.Finish as code_finish
 use Rattle.gl_task.specs.declared.day_type.Finish.TheVariants.{Ring, Gate}
 use Rattle.gl_task.specs.declared.task.Entrant.{Entrant}
 use Rattle.gl_task.specs.declared.task.LocalRules.{LocalRules}
+use Rattle.gl_task.specs.declared.task.PilotStart.{PilotStart}
 use Rattle.gl_task.specs.declared.task.Start.{Start}
 use Rattle.gl_task.specs.declared.task.Task.{Task}
 use Rattle.gl_task.specs.Keys.{said, list_at, table_at, table_of}
@@ -39,10 +40,19 @@ opens_by table = said (codes "open") (whole 0 100_000) table
 abbrev pub close_by : Members → Option ℕ
 close_by table = said (codes "close") (whole (unwrap_or (opens_by table) 0) 100_000) table
 
+-- how a start is announced by the keys of its table: not at all where it has no wait, else with the
+-- wait and the width
+abbrev pub IsPilotStart : Members → Option PilotStart → Type 0
+IsPilotStart table None = has (codes "wait") table ≡ false
+IsPilotStart table (Some pilot) =
+    (option_map pos (said (codes "wait") (whole 0 3_600) table) ≡ Some pilot.wait)
+    × (option_map pos (said (codes "width") (whole 1 3_600) table) ≡ Some pilot.width)
+
 pub record IsStart (file : Members) (start : Start) : Type 0 where
   pub line : IsLine (table_at (codes "start") file) start.line
   pub opens : option_map pos (opens_by (table_at (codes "start") file)) ≡ Some start.opens
   pub close : option_map pos (close_by (table_at (codes "start") file)) ≡ Some start.close
+  pub pilot : IsPilotStart (table_at (codes "start") file) start.pilot
 
 -- a finish by the keys of its table: a ring where it has one, else a gate
 abbrev pub IsFinishOf : Members → code_finish.Finish → Type 0

@@ -38,7 +38,14 @@ lists_tests file =
     ∷ at_most (key_of 6 0 0) 2 (list_at (codes "lists") file)
     ∷ each_item word_tests 1 (list_at (codes "lists") file)
 
--- the start: its line and its times; lengths in metres
+-- the announcement of a start, in seconds: the wait, and the width of the window where there is a
+-- wait
+unfoldable pub pilot_tests : Members → List Test
+pilot_tests start =
+    optional (key_of 37 0 0) (codes "wait") (whole 0 3_600) start
+    ∷ (if has (codes "wait") start then needed (key_of 38 0 0) (codes "width") (whole 1 3_600) start ∷ [] else [])
+
+-- the start: its line, its times and its announcement; lengths in metres
 unfoldable pub start_tests : Members → List Test
 start_tests file =
     let start = table_at (codes "start") file in
@@ -48,7 +55,7 @@ start_tests file =
     ∷ needed (key_of 10 0 0) (codes "half") (whole 1 500_000) start
     ∷ needed (key_of 11 0 0) (codes "open") (whole 0 100_000) start
     ∷ needed (key_of 12 0 0) (codes "close") (whole (unwrap_or (said (codes "open") (whole 0 100_000) start) 0) 100_000) start
-    ∷ []
+    ∷ pilot_tests start
 
 -- a sector: its two lengths and its two radials, in thousandths of a degree
 abbrev pub sector_tests : ℕ → ℕ → Members → List Test

@@ -29,4 +29,4 @@ mod zones;
 pub use day_type::{Finish, Kind};
 pub use error::{Key, TaskError};
 pub use reader::read_task;
-pub use task::{Entrant, LocalRules, Start, Task};
+pub use task::{Entrant, LocalRules, PilotStart, Start, Task};

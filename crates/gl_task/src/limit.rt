@@ -7,6 +7,11 @@ pub const METRE: u64 = 100;
 /// The last second that a task can name.
 pub const LAST_SECOND: u32 = 100_000;
 
+/// The longest wait after the announcement of a start, and the widest window behind it, in seconds.
+pub const LONGEST_WAIT: u32 = 3_600;
+
+pub const WIDEST_WINDOW: u32 = 3_600;
+
 /// The greatest altitude and the greatest loss of altitude, in metres.
 pub const GREATEST_ALTITUDE: u32 = 32_767;
 

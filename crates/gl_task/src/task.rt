@@ -1,7 +1,7 @@
 ghost use Rattle.std.specs.Prelude.{◌≡◌, ◌≤◌, ◌≤ℤ◌, pos, IsTrue, length, map};
 ghost use Rattle.std.specs.Option.{ForSome};
 ghost use Rattle.gl_task.specs.Forms.{is_file_name, is_number, is_name};
-ghost use Rattle.gl_task.specs.Limits.{greatest_altitude, greatest_handicap, greatest_noise, last_second, most_entrants, most_points, most_zones};
+ghost use Rattle.gl_task.specs.Limits.{greatest_altitude, greatest_handicap, greatest_noise, last_second, longest_wait, most_entrants, most_points, most_zones, widest_window};
 ghost use Rattle.gl_task.specs.Numbers.{all_differ};
 ghost use Rattle.gl_task.specs.Ranges.{has_minimum, has_radius};
 ghost use Rattle.gl_zone.specs.Limits.{greatest_length};
@@ -11,6 +11,20 @@ use gl_desk::Name;
 use gl_igc::Items;
 use gl_zone::{Line, Zone};
 
+/// A pilot event start: the pilot announces the start by an event, waits, and then has a window to
+/// start in. Both are in seconds.
+#[derive(Clone, Copy, Debug, PartialEq, Eq)]
+pub struct PilotStart {
+    /// From the event to the window.
+    pub wait: i32,
+    /// From the beginning of the window to its end.
+    pub width: i32,
+    pub ghost wait_at_least: { pos 0 ≤ℤ wait },
+    pub ghost wait_at_most: { wait ≤ℤ pos longest_wait },
+    pub ghost width_at_least: { pos 1 ≤ℤ width },
+    pub ghost width_at_most: { width ≤ℤ pos widest_window },
+}
+
 /// The start of a task: its line, and the first and the last second in which it is crossed. Seconds
 /// count from the beginning of the task's day.
 #[derive(Clone, Copy, Debug, PartialEq, Eq)]
@@ -18,6 +32,8 @@ pub struct Start {
     pub line: Line,
     pub opens: i32,
     pub close: i32,
+    /// How it is announced, if it has to be.
+    pub pilot: Option<PilotStart>,
     pub ghost opens_at_least: { pos 0 ≤ℤ opens },
     pub ghost ordered: { opens ≤ℤ close },
     pub ghost close_at_most: { close ≤ℤ pos last_second },
