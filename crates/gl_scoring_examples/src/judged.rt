@@ -1,5 +1,6 @@
 // The expected answers were computed by hand, or by a program in another language that is written
 // from the rules alone and tries every start, every visit and every finish.
+mod announced_starts;
 mod marks;
 mod small_flights;
 mod worked_flights;
@@ -43,16 +44,24 @@ fn place(letter: &str) -> &'static str {
     }
 }
 
+/// A line of a recording: an E line for a code of three letters, else the fix at the place of a
+/// letter.
+fn line(alloc: Global, time: &str, letter: &str) -> Result<String, AllocError> {
+    if letter.len() == 3 {
+        return format!(in alloc; "E{time}{letter}\n");
+    }
+    let at = place(letter);
+    format!(in alloc; "B{time}{at}A0100001000\n")
+}
+
 /// The recording of a flight: its day, DDMMYY, and for each fix its time and the letter of its
-/// place.
+/// place, for each event its time and its code.
 fn recording(alloc: Global, flight: &str) -> Result<Recording, Fail> {
     let (day, fixes) = flight.split_once(' ').ok_or("no day")?;
     let mut text = format!(in alloc; "AXXXABC\nHFDTE{day}\n")?;
     for fix in fixes.split_whitespace() {
         let (time, letter) = fix.split_once('-').ok_or("no place")?;
-        let at = place(letter);
-        let line = format!(in alloc; "B{time}{at}A0100001000\n")?;
-        text.push_str(line.as_str())?;
+        text.push_str(line(alloc, time, letter)?.as_str())?;
     }
     Ok(read_igc(alloc, text.as_bytes(), Some(DAY))?)
 }

@@ -10,7 +10,7 @@ const START: &str = "kind = \"racing\"\ncloses = 40000\n[start]\nat = \"0000000N
     towards = \"0000000N00010000E\"\nhalf = 5000\nopen = 36000\nclose = 38400\n";
 
 /// Three zones along the equator; each two neighbours share some places.
-const ZONES: &str = "[[zone]]\nat = \"0000000N00010000E\"\n[[zone.part]]\nradius = 2000\n\
+pub const ZONES: &str = "[[zone]]\nat = \"0000000N00010000E\"\n[[zone.part]]\nradius = 2000\n\
     [[zone]]\nat = \"0000000N00012000E\"\n[[zone.part]]\nradius = 3000\n\
     [[zone]]\nat = \"0000000N00014000E\"\n[[zone.part]]\nradius = 3000\n";
 
@@ -20,7 +20,7 @@ const WIDE: &str = "[[zone]]\nat = \"0000000N00010000E\"\n[[zone.part]]\nradius 
     [[zone]]\nat = \"0000000N00010000E\"\n[[zone.part]]\nradius = 500000\n";
 
 /// A finish ring.
-const RING: &str = "[finish]\nat = \"0000000N00016000E\"\nring = 4000\n";
+pub const RING: &str = "[finish]\nat = \"0000000N00016000E\"\nring = 4000\n";
 
 /// A finish ring of all places.
 const WIDE_RING: &str = "[finish]\nat = \"0000000N00016000E\"\nring = 500000\n";
@@ -101,7 +101,7 @@ const OVER_THE_GATE: &str = "\
     010724 100000-W 101000-f: outlanded 1 1 36035 3\n";
 
 /// A task with these zones and this finish.
-fn small_task(alloc: Global, zones: &str, finish: &str) -> Result<Task, Fail> {
+pub fn small_task(alloc: Global, zones: &str, finish: &str) -> Result<Task, Fail> {
     let text = format!(in alloc; "{START}{zones}{finish}")?;
     task(alloc, text.as_str())
 }
