@@ -57,6 +57,12 @@ push_proved expected statements proved (r ∷ rest) e s are each is holds =
       each = zip-push Proves expected proved e r each (subst (Proves e) same holds);
     }
 
+-- the next claim is proved too
+pub next_proved : (before : List Expected) (statements : List Statement) (at : ℕ) (e : Expected) → AreProved before statements → length before ≡ at → IsSomeAnd (slice_get statements at) (Proves e) → AreProved (before ++ e ∷ []) statements
+next_proved before statements at e proved long holds =
+    let found = some_and (slice_get statements at) (Proves e) holds in
+    push_proved before statements proved.proved proved.rest e found.0 proved.are proved.each (sym (there before statements at proved long) ∙ found.1) found.2
+
 -- one claim more is proved
 proved_next : (before more : List Expected) (statements : List Statement) (at : ℕ) (e : Expected) → AreProved (before ++ more) statements → length (before ++ more) ≡ at → IsSomeAnd (slice_get statements at) (Proves e) → AreProved (before ++ (more ++ e ∷ [])) statements
 proved_next before more statements at e proved long holds =

@@ -1,4 +1,4 @@
-ghost use Rattle.std.specs.Prelude.{◌≡◌, ◌+◌, ◌≤◌, ◌↔◌, ℕ, List, length, map, slice_get, IfOk, IfNone, IsNone, IsTrue};
+ghost use Rattle.std.specs.Prelude.{◌≡◌, ◌+◌, ◌≤◌, ◌↔◌, ℕ, List, [], ◌∷◌, length, map, slice_get, IfOk, IfNone, IsNone, IsTrue};
 ghost use Rattle.std.specs.List.{AllZip};
 ghost use Rattle.gl_goal.specs.AnyGoal.{any_rule};
 ghost use Rattle.gl_goal.specs.Rule.{Rule};
@@ -11,7 +11,7 @@ ghost use Rattle.gl_judge.specs.Claimed.{rules_of_claims};
 use crate::fault::{Checked, Fault, NotProved};
 use gl_check::{Verdict, check_claim};
 use gl_desk::Name;
-use gl_goal::AnyGoal;
+use gl_goal::{AnyGoal, Goal};
 use gl_proof::{Claim, ClaimKind};
 use std::alloc::{AllocError, Global};
 
@@ -39,15 +39,15 @@ fn is_named(number: &Name, kind: ClaimKind, claim: &Claim) -> bool
 }
 
 /// What is wrong with a claim where one for a goal is expected. The only error is want of memory.
-fn fault_of_claim(
+fn fault_of_claim<G: Goal>(
     alloc: Global,
     number: &Name,
     kind: ClaimKind,
-    goal: &AnyGoal,
+    goal: &G,
     claim: &Claim,
 ) -> Result<Option<Fault>, AllocError>
     ensures { IfOk result
-        (IsFoundAt (number.now, kind, any_rule goal.now) (Some (statement_of claim.now))) }
+        (IsFoundAt (number.now, kind, G.rule goal.now) (Some (statement_of claim.now))) }
 {
     if !is_named(number, kind, claim) {
         return Ok(Some(Fault::Name));
@@ -58,21 +58,45 @@ fn fault_of_claim(
 
 /// What is wrong at a place of a proof's claims, which count from 0 here, where one for a goal is
 /// expected. The only error is want of memory.
-fn fault_at(
+fn fault_at<G: Goal>(
     alloc: Global,
     number: &Name,
     kind: ClaimKind,
-    goal: &AnyGoal,
+    goal: &G,
     claims: &[Claim],
     at: usize,
 ) -> Result<Option<Fault>, AllocError>
-    ensures found { IfOk result (IsFoundAt (number.now, kind, any_rule goal.now)
+    ensures found { IfOk result (IsFoundAt (number.now, kind, G.rule goal.now)
         (slice_get (map statement_of claims.now) at)) }
     ensures within { IfOk result (λ fault. IfNone fault (at + 1 ≤ length claims.now)) }
 {
     match claims.get(at) {
         Some(claim) => fault_of_claim(alloc, number, kind, goal, claim),
         None => Ok(Some(Fault::Missing)),
+    }
+}
+
+/// Checks one claim, where `count` claims of the proof were found right before: the answer is what is
+/// wrong with the next one, as [`check_flight`] has it. The only error is want of memory.
+pub fn check_next<G: Goal>(
+    alloc: Global,
+    number: &Name,
+    kind: ClaimKind,
+    goal: &G,
+    claims: &[Claim],
+    count: usize,
+) -> Result<Option<NotProved>, AllocError>
+    requires { count ≤ length claims.now }
+    ensures goes_on { IfOk result (GoesOn count ((number.now, kind, G.rule goal.now) ∷ [])
+        (map statement_of claims.now)) }
+    ensures within { IfOk result (λ wrong. IfNone wrong (count + 1 ≤ length claims.now)) }
+{
+    match fault_at(alloc, number, kind, goal, claims, count)? {
+        Some(fault) => Ok(Some(NotProved {
+            claim: count + 1,
+            fault,
+        })),
+        None => Ok(None),
     }
 }
 

@@ -9,7 +9,7 @@ ghost use Rattle.gl_day.specs.Expected.{Proves};
 
 use crate::search::Search;
 use gl_desk::Name;
-use gl_goal::{AnyGoal, fix_numbers};
+use gl_goal::{AnyGoal, Goal, fix_numbers};
 use gl_plain::{Best, Found};
 use gl_proof::{Claim, ClaimKind};
 use std::alloc::{AllocError, Global};
@@ -26,9 +26,9 @@ fn total_of(best: &Option<Best>) -> Option<u64>
 
 /// The numbers of the fixes that were found, none where nothing was. The only error is want of
 /// memory.
-fn fixes_of(alloc: Global, goal: &AnyGoal, best: &Option<Best>) -> Result<Vec<u32>, AllocError>
-    requires { IsSound (any_rule goal.now) best.now }
-    ensures { IfOk result (λ fixes. fixes.items ≡ fixes_of (any_rule goal.now) best.now) }
+fn fixes_of<G: Goal>(alloc: Global, goal: &G, best: &Option<Best>) -> Result<Vec<u32>, AllocError>
+    requires { IsSound (G.rule goal.now) best.now }
+    ensures { IfOk result (λ fixes. fixes.items ≡ fixes_of (G.rule goal.now) best.now) }
 {
     match best {
         Some(best) => fix_numbers(alloc, goal, &best.tuple),
@@ -37,22 +37,22 @@ fn fixes_of(alloc: Global, goal: &AnyGoal, best: &Option<Best>) -> Result<Vec<u3
 }
 
 /// The claim of what was found; its boxes are moved. The only error is want of memory.
-fn claim_of_found(
+pub fn claim_of_found<G: Goal>(
     alloc: Global,
     number: &Name,
     kind: ClaimKind,
-    goal: &AnyGoal,
+    goal: &G,
     found: Found,
 ) -> Result<Claim, AllocError>
     requires number { IsTrue (is_number number.now) }
-    requires certified { IsCertified (any_rule goal.now) found }
-    requires sound { IsSound (any_rule goal.now) found.best }
-    requires optimum { IsOptimum (any_rule goal.now) (total_of found.best) }
+    requires certified { IsCertified (G.rule goal.now) found }
+    requires sound { IsSound (G.rule goal.now) found.best }
+    requires optimum { IsOptimum (G.rule goal.now) (total_of found.best) }
     ensures proves { IfOk result (λ claim.
-        Proves (number.now, kind, any_rule goal.now) (statement_of claim)) }
+        Proves (number.now, kind, G.rule goal.now) (statement_of claim)) }
     ensures writable { IfOk result IsWritable }
     ensures total { IfOk result (λ claim. (tuple : List ℕ)
-        → IsLegal (any_rule goal.now) tuple → IsSome claim.total) }
+        → IsLegal (G.rule goal.now) tuple → IsSome claim.total) }
 {
     let fixes = fixes_of(alloc, goal, &found.best)?;
     Ok(Claim {

@@ -12,8 +12,8 @@ mod frame;
 mod search;
 mod totals;
 
-pub use check::{check_end, check_flight};
-pub use claim::claim_of;
+pub use check::{check_end, check_flight, check_next};
+pub use claim::{claim_of, claim_of_found};
 pub use day::{day_rows, sheet_of};
 pub use fault::{Checked, Fault, NotProved};
 pub use finish::finish_flight;

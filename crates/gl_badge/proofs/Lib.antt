@@ -1,0 +1,7 @@
+pub mod Courses
+pub mod Flown
+pub mod Greatest
+pub mod Nearby
+pub mod Pairs
+pub mod Proving
+pub mod Totals

@@ -1,0 +1,7 @@
+use Rattle.gl_badge.specs.declared.gain.GainGoal.{GainGoal}
+use Rattle.gl_badge.specs.Gain.{gain_goal}
+use Rattle.gl_goal.specs.Rule.{Rule}
+
+-- the goal that the fields of a `GainGoal` stand for
+abbrev pub gain_rule : GainGoal → Rule
+gain_rule g = gain_goal g.hulls

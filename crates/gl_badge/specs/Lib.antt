@@ -1,0 +1,10 @@
+pub mod Claims
+pub mod Course
+pub mod Gain
+pub mod GainGoal
+pub mod Grades
+pub mod Laws
+pub mod Named
+pub mod Proved
+pub mod Text
+pub use Rattle.gl_goal.specs.Rule
