@@ -1,3 +1,5 @@
+ghost use Rattle.std.specs.Prelude.{◌≤◌};
+
 use gl_check::{Verdict, check_claim};
 use gl_goal::{FreeGoal, TriangleGoal};
 use gl_igc::Fix;
@@ -130,8 +132,7 @@ fn a_claim_over_two_fixes(rt: HostRuntime) -> Result<(), Fail> {
 }
 
 /// A fix on the grid, at 1,000 metres.
-fn fix_on(lat: i32, lon: i32) -> Fix {
-    let grid = Grid { lat, lon };
+fn fix_on(grid: Grid) -> Fix {
     Fix {
         second: 0,
         grid,
@@ -142,7 +143,9 @@ fn fix_on(lat: i32, lon: i32) -> Fix {
 }
 
 /// The place that a choice of four has on an axis: the axis of a bit of both halves of its number.
-fn place_of(number: u32, axis: u32) -> u32 {
+fn place_of(number: u32, axis: u32) -> u32
+    requires { axis ≤ 2 }
+{
     2 * (number >> (5 - axis) & 1) + (number >> (2 - axis) & 1)
 }
 
@@ -170,10 +173,16 @@ fn all_choices(alloc: Global) -> Result<String, AllocError> {
 #[test]
 fn no_box_shuts_a_large_triangle_out(rt: HostRuntime) -> Result<(), Fail> {
     let fixes = [
-        fix_on(0, 0),
-        fix_on(0, 12_000_000),
-        fix_on(16_200_000, 3_000_000),
-        fix_on(0, 0),
+        fix_on(Grid { lat: 0, lon: 0 }),
+        fix_on(Grid {
+            lat: 0,
+            lon: 12_000_000,
+        }),
+        fix_on(Grid {
+            lat: 16_200_000,
+            lon: 3_000_000,
+        }),
+        fix_on(Grid { lat: 0, lon: 0 }),
     ];
     let goal = TriangleGoal::new(rt.alloc(), &fixes, 0, 3, 100_000)?;
     let boxes = all_choices(rt.alloc())?;

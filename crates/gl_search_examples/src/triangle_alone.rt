@@ -139,12 +139,8 @@ fn next_draw(draw: u32) -> u32 {
     draw.wrapping_mul(1_664_525).wrapping_add(1_013_904_223)
 }
 
-/// A latitude or a longitude, of the thousand from 100 minutes below 0 on that are 12 seconds apart.
-fn drawn_angle(draw: u32) -> i32 {
-    (draw >> 8) as i32 % 1_000 * 20_000 - 10_000_000
-}
-
-/// Eight fixes that are drawn from a square of 370 km.
+/// Eight fixes that are drawn from a square of 370 km: of each angle a thousand values are 12 seconds
+/// apart, from 100 minutes below 0 on.
 fn drawn_flight(alloc: Global, seed: u32) -> Result<Vec<Fix>, AllocError> {
     let mut fixes = Vec::new(alloc);
     let mut draw = seed;
@@ -152,8 +148,8 @@ fn drawn_flight(alloc: Global, seed: u32) -> Result<Vec<Fix>, AllocError> {
         let north = next_draw(draw);
         draw = next_draw(north);
         fixes.push(fix_at(Grid {
-            lat: drawn_angle(north),
-            lon: drawn_angle(draw),
+            lat: (north >> 8) as i32 % 1_000 * 20_000 - 10_000_000,
+            lon: (draw >> 8) as i32 % 1_000 * 20_000 - 10_000_000,
         }))?;
     }
     Ok(fixes)
