@@ -13,7 +13,7 @@ use Rattle.gl_app.proofs.DayLines.{AreUnbroken, check_line}
 use Rattle.gl_app.proofs.DayPasses.{check_not_refused, ok_or_err}
 use Rattle.gl_app.proofs.Promises.{IsLawful, IsResult, done_no_refusal, refuses, some_result}
 
-checked_result : (said : Checked) (answer : Answer) → answer ≡ checked_answer said → (answer.status ≡ Done) ⊎ (answer.status ≡ NotProved)
+pub checked_result : (said : Checked) (answer : Answer) → answer ≡ checked_answer said → (answer.status ≡ Done) ⊎ (answer.status ≡ NotProved)
 checked_result (checked.Accepted claims) answer same = inl (ap (λ (a : Answer). a.status) same)
 checked_result (checked.Refused wrong) answer same = inr (ap (λ (a : Answer). a.status) same)
 

@@ -5,7 +5,8 @@ use Rattle.std.specs.Cmp.{first_so, second_so}
 use Rattle.std.specs.Str.Parse.{digits_value}
 use Rattle.std.specs.Option.{option_or}
 use Rattle.gl_sphere.specs.PlaceText.{place_of_text}
-use Rattle.gl_app.specs.Words.{Check, Command, DayNames, Demo, Free, Near, NearCheck, NearWords, Point, Replay, ReplayWords, Score, Series, SeriesWords, Triangle, check_form, command_of, day_names, demo_form, file_form, is_file_name, is_text, is_worker_count, near_form, near_words, number_within, point_form, replay_form, replay_words, score_form, series_form, series_words}
+use Rattle.gl_app.specs.Words.{Badge, BadgeCheck, BadgeWords, Check, Command, DayNames, Demo, Free, Near, NearCheck, NearWords, Point, Replay, ReplayWords, Score, Series, SeriesWords, Triangle, badge_form, check_form, command_of, day_names, demo_form, file_form, is_file_name, is_text, is_worker_count, near_form, near_words, number_within, point_form, replay_form, replay_words, score_form, series_form, series_words}
+use Rattle.gl_app.proofs.BadgeLaws.{HasUnbrokenBadge}
 use Rattle.gl_app.proofs.DayLines.{AreUnbroken}
 use Rattle.gl_app.proofs.NearLaws.{HasUnbrokenNear}
 use Rattle.gl_app.proofs.ReplayLaws.{HasUnbrokenFiles}
@@ -22,6 +23,8 @@ HasUnbrokenNames (Some (Replay words)) = HasUnbrokenFiles words
 HasUnbrokenNames (Some (Near words)) = HasUnbrokenNear words
 HasUnbrokenNames (Some (NearCheck words)) = HasUnbrokenNear words
 HasUnbrokenNames (Some (Point words)) = is_unbroken words.flight ≡ true
+HasUnbrokenNames (Some (Badge words)) = HasUnbrokenBadge words
+HasUnbrokenNames (Some (BadgeCheck words)) = HasUnbrokenBadge words
 HasUnbrokenNames (Some (Series words)) = is_unbroken words.list ≡ true
 HasUnbrokenNames (Some (Demo number)) = Unit {0}
 
@@ -166,6 +169,33 @@ point_names (word ∷ flight ∷ place ∷ []) =
     some_point (is_text word (codes "point")) (is_file_name flight) (is_some (place_of_text place)) flight place (is_unbroken-file flight)
 point_names (word ∷ flight ∷ place ∷ more ∷ words) = tt
 
+-- so have the two files of `badge`
+abbrev HaveUnbrokenBadge : Option BadgeWords → Type 0
+HaveUnbrokenBadge None = Unit {0}
+HaveUnbrokenBadge (Some words) = HasUnbrokenBadge words
+
+some_badge : (one other third : Bool) (flight proof : List ℕ) → (other ≡ true → is_unbroken flight ≡ true) → (third ≡ true → is_unbroken proof ≡ true) → HaveUnbrokenBadge (if one && other && third then Some (record { flight = flight; proof = proof }) else None)
+some_badge true true true flight proof named also = record { flight = named refl; proof = also refl }
+some_badge true true false flight proof named also = tt
+some_badge true false third flight proof named also = tt
+some_badge false other third flight proof named also = tt
+
+badge_names : (first : List ℕ) (words : List (List ℕ)) → HaveUnbrokenBadge (badge_form first words)
+badge_names first [] = tt
+badge_names first (word ∷ []) = tt
+badge_names first (word ∷ flight ∷ []) = tt
+badge_names first (word ∷ flight ∷ proof ∷ []) =
+    some_badge (is_text word first) (is_file_name flight) (is_file_name proof) flight proof (is_unbroken-file flight) (is_unbroken-file proof)
+badge_names first (word ∷ flight ∷ proof ∷ more ∷ words) = tt
+
+as_badge : (words : Option BadgeWords) → HaveUnbrokenBadge words → HasUnbrokenNames (option_map Badge words)
+as_badge None named = tt
+as_badge (Some words) named = named
+
+as_badge_check : (words : Option BadgeWords) → HaveUnbrokenBadge words → HasUnbrokenNames (option_map BadgeCheck words)
+as_badge_check None named = tt
+as_badge_check (Some words) named = named
+
 -- so has the list of `series`
 some_list : (is : Bool) (words : SeriesWords) → (is ≡ true → is_unbroken words.list ≡ true) → HasUnbrokenNames (option_map Series (if is then Some words else None))
 some_list true words named = named refl
@@ -219,13 +249,19 @@ command_names words =
     let nearest = option_or near (option_or near_check point) in
     let series = option_map Series (series_form words) in
     let numbered = option_or series demo in
-    let last = option_or nearest numbered in
+    let badge = option_map Badge (badge_form (codes "badge") words) in
+    let badge_check = option_map BadgeCheck (badge_form (codes "badgecheck") words) in
+    let badges = option_or badge badge_check in
+    let flights = option_or nearest badges in
+    let last = option_or flights numbered in
     or_names (option_or (option_map Free free) (option_map Triangle triangle)) (option_or pair last)
     (or_names (option_map Free free) (option_map Triangle triangle) (as_free free (file_names (codes "free") words)) (as_triangle triangle (file_names (codes "triangle") words)))
     (or_names pair last
     (or_names score (option_or check replay) (as_score (score_form words) (score_names words))
     (or_names check replay (as_check (check_form words) (check_names words)) (as_replay (replay_form words) (replay_names words))))
-    (or_names nearest numbered
+    (or_names flights numbered
+    (or_names nearest badges
     (or_names near (option_or near_check point) (as_near (near_form (codes "near") words) (near_names (codes "near") words))
     (or_names near_check point (as_near_check (near_form (codes "nearcheck") words) (near_names (codes "nearcheck") words)) (point_names words)))
+    (or_names badge badge_check (as_badge (badge_form (codes "badge") words) (badge_names (codes "badge") words)) (as_badge_check (badge_form (codes "badgecheck") words) (badge_names (codes "badgecheck") words))))
     (or_names series demo (series_names words) (as_demo (demo_form words)))))

@@ -145,7 +145,7 @@ word_unbroken Surplus = refl
 not_proved_is_line : (wrong : NotProved) → IsLine (not_proved_line wrong)
 not_proved_is_line wrong = wrong_is_line wrong.claim (word_of wrong.fault) (box_of_fault wrong.fault) (word_unbroken wrong.fault)
 
-checked_line : (said : Checked) (answer : Answer) → answer ≡ checked_answer said → answer.status ≢ Done → IsLine answer.said
+pub checked_line : (said : Checked) (answer : Answer) → answer ≡ checked_answer said → answer.status ≢ Done → IsLine answer.said
 checked_line (checked.Accepted claims) answer same unless = absurd (unless (ap (λ (a : Answer). a.status) same))
 checked_line (checked.Refused wrong) answer same unless = subst (λ (a : Answer). IsLine a.said) (sym same) (not_proved_is_line wrong)
 

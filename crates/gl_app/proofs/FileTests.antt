@@ -8,6 +8,7 @@ use Rattle.gl_igc.specs.declared.error.IgcError.{IgcError}
 use Rattle.gl_igc.specs.declared.error.IgcError.TheVariants as igc
 use Rattle.gl_near.proofs.Reading.{text_refused}
 use Rattle.gl_plain.proofs.StepLines.{schedule_told}
+use Rattle.gl_proof.proofs.Unique as proof
 use Rattle.gl_series.proofs.Lines.{list_told}
 use Rattle.gl_series.proofs.Sheets.{sheet_told}
 use Rattle.gl_app.specs.declared.halt.Halt.{Halt}
@@ -16,7 +17,7 @@ use Rattle.gl_app.specs.declared.refusal.Cause.{Cause}
 use Rattle.gl_app.specs.declared.refusal.Refusal.{Refusal}
 use Rattle.gl_app.specs.declared.status.Status.TheVariants as status
 use Rattle.gl_app.specs.Answer.{Answer, refused}
-use Rattle.gl_app.specs.FileTests.{AllPass, Fails, NearProofText, SeriesListText, SheetText, list_cause, near_proof_cause, sheet_cause, FileTest, FirstFails, HasRead, HasReadFile, IsByTests, IsNoText, IsText, Kind, Listed, PassByTests, Passes, Reads, RecordingText, ScheduleText, Small, Unlisted, file_of, recording_cause, schedule_cause, text_tests}
+use Rattle.gl_app.specs.FileTests.{AllPass, Fails, NearProofText, ProofText, SeriesListText, SheetText, list_cause, near_proof_cause, proof_cause, sheet_cause, FileTest, FirstFails, HasRead, HasReadFile, IsByTests, IsNoText, IsText, Kind, Listed, PassByTests, Passes, Reads, RecordingText, ScheduleText, Small, Unlisted, file_of, recording_cause, schedule_cause, text_tests}
 use Rattle.gl_app.specs.Halts.{AreBytes, RefusesFor}
 use Rattle.gl_app.specs.Texts.{IsLine}
 use Rattle.gl_app.proofs.LineTexts.{is_unbroken, said_by}
@@ -28,6 +29,8 @@ text_or_not (RecordingText day) text cause (reading, reads) (error, told, why) =
     let e : ◌≡◌ {A = Result Reading IgcError} (Ok reading) (Err error) = sym reads ∙ told in cc
 text_or_not ScheduleText text cause (steps, is) (error, told, why) =
     let e : ◌≡◌ {A = Option Cause} None (Some cause) = sym (ap schedule_cause (schedule_told text steps error is told)) ∙ why in cc
+text_or_not ProofText text cause (version, statements, is) (error, told, why) =
+    let e : ◌≡◌ {A = Option Cause} None (Some cause) = sym (ap proof_cause (proof.text_refused text statements error is told)) ∙ why in cc
 text_or_not NearProofText text cause (best, boxes, is) (error, told, why) =
     let e : ◌≡◌ {A = Option Cause} None (Some cause) = sym (ap near_proof_cause (text_refused text best boxes error is told)) ∙ why in cc
 text_or_not SeriesListText text cause (series, is) (error, told, why) =

@@ -1,4 +1,7 @@
 pub mod Accepting
+pub mod BadgeLaws
+pub mod BadgeTests
+pub mod Badges
 pub mod CheckLaws
 pub mod CommandNames
 pub mod DemoLaws

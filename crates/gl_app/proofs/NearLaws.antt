@@ -112,7 +112,7 @@ found_of before words answer (seen, is, inr (refusal, fails, same)) done =
     absurd (cc)
 
 -- a file that was seen is another than one that wasn't, and is as it was
-still : (before files : FilesByName) (file proof : List ℕ) (seen unseen : Option (List ℕ)) → before file ≡ seen → before proof ≡ unseen → IsSome seen → IsNone unseen → ((other : List ℕ) → other ≢ proof → files other ≡ before other) → files file ≡ seen
+pub still : (before files : FilesByName) (file proof : List ℕ) (seen unseen : Option (List ℕ)) → before file ≡ seen → before proof ≡ unseen → IsSome seen → IsNone unseen → ((other : List ℕ) → other ≢ proof → files other ≡ before other) → files file ≡ seen
 still before files file proof seen unseen is not some none others =
     others file (λ same. let e : seen ≡ unseen = sym is ∙ ap before same ∙ not in cc) ∙ is
 
@@ -140,7 +140,7 @@ all_pass words seen text best boxes passes small is =
     (passes.0, (passes.1.0, (refl, (rest.0, (rest.1.0, (rest.1.1.0, (rest.1.1.1.0, (small, ((best, boxes, is), tt)))))))))
 
 -- a text has one recording
-one_recording : (seen : Option (List ℕ)) (day : _) (a b : Recording) → IsSomeAnd seen (λ text. IsRecordingOf day text a) → IsSomeAnd seen (λ text. IsRecordingOf day text b) → a ≡ b
+pub one_recording : (seen : Option (List ℕ)) (day : _) (a b : Recording) → IsSomeAnd seen (λ text. IsRecordingOf day text a) → IsSomeAnd seen (λ text. IsRecordingOf day text b) → a ≡ b
 one_recording None day a b is_a is_b = absurd is_a
 one_recording (Some text) day a b is_a is_b =
     let e : ◌≡◌ {A = Result Reading IgcError} (Ok (reading_of a)) (Ok (reading_of b)) = sym is_a ∙ is_b in

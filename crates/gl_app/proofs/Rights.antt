@@ -15,7 +15,8 @@ use Rattle.gl_app.specs.Run.{Ends, Gives, GivesBegun, IsStopped, SaidLine, Stops
 use Rattle.gl_app.specs.Statuses.{stop_at}
 use Rattle.gl_app.specs.Texts.{IsLine, usage_line}
 use Rattle.gl_app.specs.Triangle.{IsTriangleText}
-use Rattle.gl_app.specs.Words.{Check, Command, Demo, Free, Near, NearCheck, Point, Replay, Score, Series, Triangle}
+use Rattle.gl_app.specs.Words.{Badge, BadgeCheck, Check, Command, Demo, Free, Near, NearCheck, Point, Replay, Score, Series, Triangle}
+use Rattle.gl_app.proofs.BadgeLaws.{badge_check_lawful, badge_lawful}
 use Rattle.gl_app.proofs.CheckLaws.{check_lawful}
 use Rattle.gl_app.proofs.CommandNames.{HasUnbrokenNames}
 use Rattle.gl_app.proofs.DemoLaws.{demo_lawful}
@@ -37,6 +38,8 @@ lawful_of folder stewards (Replay words) named = replay_lawful folder words name
 lawful_of folder stewards (Near words) named = near_lawful folder words named
 lawful_of folder stewards (NearCheck words) named = near_check_lawful folder words named
 lawful_of folder stewards (Point words) named = of_file_lawful (IsPointText words.place) folder words.flight named
+lawful_of folder stewards (Badge words) named = badge_lawful folder words named
+lawful_of folder stewards (BadgeCheck words) named = badge_check_lawful folder words named
 lawful_of folder stewards (Series words) named = series_lawful folder words named
 lawful_of folder stewards (Demo number) named = demo_lawful folder stewards number
 

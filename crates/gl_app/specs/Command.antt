@@ -1,5 +1,6 @@
 use Rattle.gl_app.specs.declared.command.Command.{Command}
 use Rattle.gl_app.specs.declared.command.Command.TheVariants as code
+use Rattle.gl_app.specs.BadgeWords.{badge_seen}
 use Rattle.gl_app.specs.DayNames.{names_seen}
 use Rattle.gl_app.specs.NearWords.{near_seen, point_seen}
 use Rattle.gl_app.specs.ReplayWords.{replay_seen}
@@ -16,5 +17,7 @@ seen (code.Replay given) = words.Replay (replay_seen given)
 seen (code.Near given) = words.Near (near_seen given)
 seen (code.NearCheck given) = words.NearCheck (near_seen given)
 seen (code.Point given) = words.Point (point_seen given)
+seen (code.Badge given) = words.Badge (badge_seen given)
+seen (code.BadgeCheck given) = words.BadgeCheck (badge_seen given)
 seen (code.Series given) = words.Series (series_seen given)
 seen (code.Demo day) = words.Demo day.number

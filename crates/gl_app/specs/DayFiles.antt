@@ -10,7 +10,6 @@ use Rattle.gl_airspace.specs.declared.volume.Airspace.{Airspace}
 use Rattle.gl_proof.specs.Refusal.{IsRefused}
 use Rattle.gl_proof.specs.Text.{IsTextOf, statements_of}
 use Rattle.gl_lines.specs.declared.error.ProofError.{ProofError}
-use Rattle.gl_lines.specs.declared.error.ProofError.TheVariants as proof
 use Rattle.gl_proof.specs.declared.proof.Proof.{Proof}
 use Rattle.gl_task.specs.Reading.{IsReadFrom, IsRefusalOf}
 use Rattle.gl_task.specs.declared.error.TaskError.{TaskError}
@@ -18,9 +17,10 @@ use Rattle.gl_task.specs.declared.error.TaskError.TheVariants as task
 use Rattle.gl_task.specs.declared.task.Task.{Task}
 use Rattle.gl_app.specs.declared.day_files.DayFiles.{DayFiles}
 use Rattle.gl_app.specs.declared.refusal.Cause.{Cause}
-use Rattle.gl_app.specs.declared.refusal.Cause.TheVariants.{NotListed, Listed, TooLarge, NotToml, NoKey, WrongValue, NumberTwice, TooManyItems, WrongAirspace, TooMuchAirspace, NoHeading, WrongProof, ProofCut}
+use Rattle.gl_app.specs.declared.refusal.Cause.TheVariants.{NotListed, Listed, TooLarge, NotToml, NoKey, WrongValue, NumberTwice, TooManyItems, WrongAirspace, TooMuchAirspace}
 use Rattle.gl_app.specs.declared.refusal.Refusal.{Refusal}
 use Rattle.gl_app.specs.FileTests.{most_proof_bytes}
+pub use Rattle.gl_app.specs.FileTests.{proof_cause}
 use Rattle.gl_day.specs.Flight.{most_bytes}
 use Rattle.gl_app.specs.Refusals.{file_refusal}
 use Rattle.gl_app.specs.Words.{DayNames}
@@ -73,13 +73,6 @@ abbrev pub airspace_cause : AirError → Option Cause
 airspace_cause (air.Line line) = Some (WrongAirspace line)
 airspace_cause (air.TooMany line) = Some (TooMuchAirspace line)
 airspace_cause air.Memory = None
-
--- why a text is no proof
-abbrev pub proof_cause : ProofError → Option Cause
-proof_cause proof.Heading = Some NoHeading
-proof_cause (proof.Line line) = Some (WrongProof line)
-proof_cause proof.Cut = Some ProofCut
-proof_cause proof.Memory = None
 
 -- what the text of a task reads as, or why it gives none
 abbrev pub IsTaskOfText : List ℕ → Result Task TaskError → Tested Task → Type 0

@@ -16,6 +16,10 @@ use Rattle.gl_plain.specs.Schedule.{IsRefused, IsSchedule}
 use Rattle.gl_plain.specs.declared.error.StepError.{StepError}
 use Rattle.gl_plain.specs.declared.error.StepError.TheVariants as step
 use Rattle.gl_plain.specs.declared.schedule.Step.{Step}
+use Rattle.gl_proof.specs.Claim.{Statement}
+use Rattle.gl_proof.specs.Refusal as proof_refusal
+use Rattle.gl_proof.specs.Text as proof_text
+use Rattle.gl_proof.specs.declared.version.Version.{Version}
 use Rattle.gl_series.specs.SeriesList as series_list
 use Rattle.gl_series.specs.SheetText as sheet_text
 use Rattle.gl_series.specs.declared.day.DaySheet.{DaySheet}
@@ -27,7 +31,7 @@ use Rattle.gl_series.specs.declared.series.Series.{Series}
 use Rattle.gl_app.specs.declared.halt.Halt.{Halt}
 use Rattle.gl_app.specs.declared.halt.Halt.TheVariants.{Refused, Stopped}
 use Rattle.gl_app.specs.declared.refusal.Cause.{Cause}
-use Rattle.gl_app.specs.declared.refusal.Cause.TheVariants.{NearProofCut, NoDate, NoFix, NoNearHeading, NotIgc, NotListed, TooLarge, TooManyFixes, TooManySteps, WrongDay, WrongNearProof, WrongStep}
+use Rattle.gl_app.specs.declared.refusal.Cause.TheVariants.{NearProofCut, NoDate, NoFix, NoHeading, NoNearHeading, NotIgc, NotListed, ProofCut, TooLarge, TooManyFixes, TooManySteps, WrongDay, WrongNearProof, WrongProof, WrongStep}
 use Rattle.gl_app.specs.declared.refusal.Cause.TheVariants.{NoListHeading, NoSheetHeading, WrongListLine, WrongRecord}
 use Rattle.gl_app.specs.declared.refusal.Cause.TheVariants as cause
 use Rattle.gl_app.specs.declared.refusal.Refusal.{Refusal}
@@ -35,12 +39,13 @@ use Rattle.gl_app.specs.Answer.{Answer, refused}
 use Rattle.gl_app.specs.Promise.{IsTold}
 use Rattle.gl_app.specs.Refusals.{file_refusal}
 
--- What a text is to be: a recording, by the day of a task if there is one; a schedule; the proof of a
--- closest approach; the list of a championship; the sheet of one of its days. A further kind has its
--- line here, and in the two rules below.
+-- What a text is to be: a recording, by the day of a task if there is one; a schedule; the proof of
+-- badge claims; that of a closest approach; the list of a championship; the sheet of one of its days. A
+-- further kind has its line here, and in the two rules below.
 pub data Kind : Type 0 where
   RecordingText : Option ℤ → Kind
   ScheduleText : Kind
+  ProofText : Kind
   NearProofText : Kind
   SeriesListText : Kind
   SheetText : Kind
@@ -59,6 +64,13 @@ abbrev pub schedule_cause : StepError → Option Cause
 schedule_cause (step.Line line) = Some (WrongStep line)
 schedule_cause step.TooMany = Some TooManySteps
 schedule_cause step.Memory = None
+
+-- why a text is no proof
+abbrev pub proof_cause : ProofError → Option Cause
+proof_cause proof.Heading = Some NoHeading
+proof_cause (proof.Line line) = Some (WrongProof line)
+proof_cause proof.Cut = Some ProofCut
+proof_cause proof.Memory = None
 
 -- why a text is no proof of a closest approach
 abbrev pub near_proof_cause : ProofError → Option Cause
@@ -83,6 +95,9 @@ sheet_cause sheet.Memory = None
 abbrev pub IsText : Kind → List ℕ → Type 0
 IsText (RecordingText day) text = (reading : Reading) × (recording_of text day ≡ Ok reading)
 IsText ScheduleText text = (steps : List Step) × IsSchedule text steps
+IsText ProofText text =
+    (version : Version) × (statements : List Statement)
+    × proof_text.IsTextOf version text statements
 IsText NearProofText text =
     (best : Option NearBest) × (boxes : List (List (ℕ × ℕ) × NearWhy)) × IsTextOf text best boxes
 IsText SeriesListText text = (series : Series) × series_list.IsList text series
@@ -95,6 +110,9 @@ IsNoText (RecordingText day) text cause =
     × (recording_cause error ≡ Some cause)
 IsNoText ScheduleText text cause =
     (error : StepError) × IsRefused text error × (schedule_cause error ≡ Some cause)
+IsNoText ProofText text cause =
+    (error : ProofError) × proof_refusal.IsRefused text error
+    × (proof_cause error ≡ Some cause)
 IsNoText NearProofText text cause =
     (error : ProofError) × IsRefusal near_grammar text error
     × (near_proof_cause error ≡ Some cause)

@@ -14,6 +14,9 @@ pub mod Triangle
 pub mod Course
 pub mod Run
 pub mod Command
+pub mod BadgeWords
+pub mod BadgeFiles
+pub mod Badge
 pub mod NearWords
 pub mod NearFiles
 pub mod Near

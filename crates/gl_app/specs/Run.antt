@@ -9,6 +9,7 @@ use Rattle.gl_app.specs.declared.status.Status.{Status}
 use Rattle.gl_app.specs.declared.status.Status.TheVariants.{Done, Refused, Words}
 use Rattle.gl_app.specs.Answer.{Answer, answer_with}
 use Rattle.gl_app.specs.Appending.{HasGiven, IsAppended}
+use Rattle.gl_app.specs.Badge.{badge_check_promise, badge_promise}
 use Rattle.gl_app.specs.Check.{check_promise}
 use Rattle.gl_app.specs.Demo.{demo_promise}
 use Rattle.gl_app.specs.Free.{free_promise}
@@ -20,7 +21,7 @@ use Rattle.gl_app.specs.Series.{series_promise}
 use Rattle.gl_app.specs.Statuses.{stop_at}
 use Rattle.gl_app.specs.Texts.{IsLine}
 use Rattle.gl_app.specs.Triangle.{triangle_promise}
-use Rattle.gl_app.specs.Words.{Check, Command, Demo, Free, Near, NearCheck, Point, Replay, Score, Series, Triangle, command_of}
+use Rattle.gl_app.specs.Words.{Badge, BadgeCheck, Check, Command, Demo, Free, Near, NearCheck, Point, Replay, Score, Series, Triangle, command_of}
 
 -- The promise of a command, or of words of no form. A further command has its line here.
 abbrev pub promise_of : Option FilesByName → List StewardRules → Option Command → Promise
@@ -33,6 +34,8 @@ promise_of folder stewards (Some (Replay words)) = replay_promise folder words
 promise_of folder stewards (Some (Near words)) = near_promise folder words
 promise_of folder stewards (Some (NearCheck words)) = near_check_promise folder words
 promise_of folder stewards (Some (Point words)) = point_promise folder words
+promise_of folder stewards (Some (Badge words)) = badge_promise folder words
+promise_of folder stewards (Some (BadgeCheck words)) = badge_check_promise folder words
 promise_of folder stewards (Some (Series words)) = series_promise folder words
 promise_of folder stewards (Some (Demo number)) = demo_promise folder stewards number
 
@@ -104,7 +107,7 @@ pub record IsRun (given : List (List ℕ)) (stewards left : List StewardRules) (
   -- In a folder whose files pass every test, a run that isn't stopped has a result.
   pub complete : (promise_of before.folder stewards (command_of given)).Passes
       → (status ≢ Words) × (status ≢ Refused)
-  -- The proof that `score` wrote is accepted in the folder of its day.
+  -- The proof that `score`, `near` or `badge` wrote is accepted in the folder where it was made.
   pub accepted : (promise_of before.folder stewards (command_of given)).ChecksOwn
       → IfNone (stop_at status) (status ≡ Done)
   -- Unless stopped, a run ends with `Words` exactly where the words are of no form, and says one

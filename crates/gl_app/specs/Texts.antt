@@ -15,8 +15,8 @@ abbrev pub usage_line : List ℕ
 usage_line =
     codes "usage: free FILE | triangle FILE | score TASK PROOF WORKERS | check TASK PROOF | "
     ++ codes "replay FILE SCHEDULE WORKERS | near FILE OTHER SECONDS PROOF | "
-    ++ codes "nearcheck FILE OTHER SECONDS PROOF | point FILE PLACE | series LIST DROP | "
-    ++ codes "demo NUMBER"
+    ++ codes "nearcheck FILE OTHER SECONDS PROOF | point FILE PLACE | badge FILE PROOF | "
+    ++ codes "badgecheck FILE PROOF | series LIST DROP | demo NUMBER"
     ++ 10 ∷ []
 
 -- numbers, each with a space before it

@@ -25,6 +25,11 @@ pub record NearWords : Type 0 where
   pub seconds : ℕ
   pub proof : List ℕ
 
+-- the names of a recording and of a proof
+pub record BadgeWords : Type 0 where
+  pub flight : List ℕ
+  pub proof : List ℕ
+
 -- the name of a recording, and the text of a place
 pub record PointWords : Type 0 where
   pub flight : List ℕ
@@ -45,6 +50,8 @@ pub data Command : Type 0 where
   Near : NearWords → Command
   NearCheck : NearWords → Command
   Point : PointWords → Command
+  Badge : BadgeWords → Command
+  BadgeCheck : BadgeWords → Command
   Series : SeriesWords → Command
   Demo : ℕ → Command
 
@@ -161,6 +168,16 @@ point_form (word ∷ flight ∷ place ∷ []) =
     then Some (record { flight = flight; place = place }) else None
 point_form (word ∷ flight ∷ place ∷ more ∷ words) = None
 
+-- `badge FILE PROOF`, or behind another first word
+abbrev pub badge_form : List ℕ → List (List ℕ) → Option BadgeWords
+badge_form first [] = None
+badge_form first (word ∷ []) = None
+badge_form first (word ∷ flight ∷ []) = None
+badge_form first (word ∷ flight ∷ proof ∷ []) =
+    if is_text word first && is_file_name flight && is_file_name proof
+    then Some (record { flight = flight; proof = proof }) else None
+badge_form first (word ∷ flight ∷ proof ∷ more ∷ words) = None
+
 -- what `series` is given, where the name is that of a file
 abbrev pub series_words : List ℕ → Option ℕ → Option SeriesWords
 series_words list None = None
@@ -206,6 +223,16 @@ near_command words =
     (option_or (option_map NearCheck (near_form (codes "nearcheck") words))
     (option_map Point (point_form words)))
 
+-- the command that is about badges, if the words are a form of one
+abbrev pub badge_command : List (List ℕ) → Option Command
+badge_command words =
+    option_or (option_map Badge (badge_form (codes "badge") words))
+    (option_map BadgeCheck (badge_form (codes "badgecheck") words))
+
+-- the command that is about flights without a task, if the words are a form of one
+abbrev pub flights_command : List (List ℕ) → Option Command
+flights_command words = option_or (near_command words) (badge_command words)
+
 -- the command that is given a number at its end, if the words are a form of one
 abbrev pub numbered_command : List (List ℕ) → Option Command
 numbered_command words =
@@ -217,7 +244,7 @@ unfoldable pub command_of : List (List ℕ) → Option Command
 command_of words =
     option_or (file_command words)
     (option_or (pair_command words)
-    (option_or (near_command words) (numbered_command words)))
+    (option_or (flights_command words) (numbered_command words)))
 
 -- how many workers the words of `score` name
 abbrev pub named_workers : Option DayNames → List (List ℕ) → ℕ

@@ -1,8 +1,9 @@
-ghost use Rattle.std.specs.Prelude.{◌≡◌, option_map};
+ghost use Rattle.std.specs.Prelude.{◌≡◌, codes, option_map};
 ghost use Rattle.std.specs.List.{list_all};
-ghost use Rattle.gl_app.specs.Words.{Demo, Series, command_of, demo_form, file_command, file_form, is_dots, is_file_name, is_name_byte, near_command, numbered_command, pair_command, series_form};
+ghost use Rattle.gl_app.specs.Words.{Badge, BadgeCheck, Check, Demo, Free, Near, NearCheck, Point, Replay, Score, Series, Triangle, badge_command, badge_form, check_form, command_of, demo_form, file_command, file_form, flights_command, is_dots, is_file_name, is_name_byte, near_command, near_form, numbered_command, pair_command, point_form, replay_form, score_form, series_form};
 ghost use Rattle.gl_app.specs.Command.{seen};
 
+use crate::badge_words::{BadgeWords, read_badge_words};
 use crate::day_names::{DayNames, read_check, read_score};
 use crate::day_number::{DayNumber, read_demo};
 use crate::near_words::{NearWords, PointWords, read_near_words, read_point};
@@ -32,6 +33,10 @@ pub enum Command<'a> {
     NearCheck(NearWords<'a>),
     /// `point FILE PLACE`: how near a flight came to a place.
     Point(PointWords<'a>),
+    /// `badge FILE PROOF`: which badge limits a flight met, and its proof.
+    Badge(BadgeWords<'a>),
+    /// `badgecheck FILE PROOF`: whether a proof is that of a flight's badge claims.
+    BadgeCheck(BadgeWords<'a>),
     /// `series LIST DROP`: the standing of a championship.
     Series(SeriesWords<'a>),
     /// `demo NUMBER`: the sheet of a generated day.
@@ -73,33 +78,123 @@ fn read_file<'a>(first: &str, words: &'a [Name]) -> Option<&'a Name>
     }
 }
 
+/// `free FILE`.
+fn read_free_command(words: &[Name]) -> Option<Command<'_>>
+    ensures { option_map seen result ≡ option_map Free (file_form (codes "free") words.now) }
+{
+    let file = read_file("free", words)?;
+    Some(Command::Free(file))
+}
+
+/// `triangle FILE`.
+fn read_triangle_command(words: &[Name]) -> Option<Command<'_>>
+    ensures { option_map seen result ≡ option_map Triangle (file_form (codes "triangle") words.now) }
+{
+    let file = read_file("triangle", words)?;
+    Some(Command::Triangle(file))
+}
+
 /// A command that says something of one recording.
 fn read_course(words: &[Name]) -> Option<Command<'_>>
     ensures { option_map seen result ≡ file_command words.now }
 {
-    read_file("free", words)
-        .map(Command::Free)
-        .or_else(|| read_file("triangle", words).map(Command::Triangle))
+    read_free_command(words).or_else(|| read_triangle_command(words))
+}
+
+/// `score TASK PROOF WORKERS`.
+fn read_score_command(words: &[Name]) -> Option<Command<'_>>
+    ensures { option_map seen result ≡ option_map Score (score_form words.now) }
+{
+    let day = read_score(words)?;
+    Some(Command::Score(day))
+}
+
+/// `check TASK PROOF`.
+fn read_check_command(words: &[Name]) -> Option<Command<'_>>
+    ensures { option_map seen result ≡ option_map Check (check_form words.now) }
+{
+    let day = read_check(words)?;
+    Some(Command::Check(day))
+}
+
+/// `replay FILE SCHEDULE WORKERS`.
+fn read_replay_command(words: &[Name]) -> Option<Command<'_>>
+    ensures { option_map seen result ≡ option_map Replay (replay_form words.now) }
+{
+    let replay = read_replay(words)?;
+    Some(Command::Replay(replay))
 }
 
 /// A command that is given the names of two files.
 fn read_pair(words: &[Name]) -> Option<Command<'_>>
     ensures { option_map seen result ≡ pair_command words.now }
 {
-    read_score(words)
-        .map(Command::Score)
-        .or_else(|| read_check(words).map(Command::Check))
-        .or_else(|| read_replay(words).map(Command::Replay))
+    read_score_command(words)
+        .or_else(|| read_check_command(words))
+        .or_else(|| read_replay_command(words))
+}
+
+/// `near FILE OTHER SECONDS PROOF`.
+fn read_near_command(words: &[Name]) -> Option<Command<'_>>
+    ensures { option_map seen result ≡ option_map Near (near_form (codes "near") words.now) }
+{
+    let near = read_near_words("near", words)?;
+    Some(Command::Near(near))
+}
+
+/// `nearcheck FILE OTHER SECONDS PROOF`.
+fn read_near_check_command(words: &[Name]) -> Option<Command<'_>>
+    ensures { option_map seen result ≡ option_map NearCheck (near_form (codes "nearcheck") words.now) }
+{
+    let near = read_near_words("nearcheck", words)?;
+    Some(Command::NearCheck(near))
+}
+
+/// `point FILE PLACE`.
+fn read_point_command(words: &[Name]) -> Option<Command<'_>>
+    ensures { option_map seen result ≡ option_map Point (point_form words.now) }
+{
+    let point = read_point(words)?;
+    Some(Command::Point(point))
 }
 
 /// A command about how near flights came.
 fn read_near(words: &[Name]) -> Option<Command<'_>>
     ensures { option_map seen result ≡ near_command words.now }
 {
-    read_near_words("near", words)
-        .map(Command::Near)
-        .or_else(|| read_near_words("nearcheck", words).map(Command::NearCheck))
-        .or_else(|| read_point(words).map(Command::Point))
+    read_near_command(words)
+        .or_else(|| read_near_check_command(words))
+        .or_else(|| read_point_command(words))
+}
+
+/// `badge FILE PROOF`.
+fn read_badge_command(words: &[Name]) -> Option<Command<'_>>
+    ensures { option_map seen result ≡ option_map Badge (badge_form (codes "badge") words.now) }
+{
+    let badge = read_badge_words("badge", words)?;
+    Some(Command::Badge(badge))
+}
+
+/// `badgecheck FILE PROOF`.
+fn read_badge_check_command(words: &[Name]) -> Option<Command<'_>>
+    ensures { option_map seen result ≡ option_map BadgeCheck (badge_form (codes "badgecheck") words.now) }
+{
+    let badge = read_badge_words("badgecheck", words)?;
+    Some(Command::BadgeCheck(badge))
+}
+
+/// A command about badges.
+fn read_badge(words: &[Name]) -> Option<Command<'_>>
+    ensures { option_map seen result ≡ badge_command words.now }
+{
+    read_badge_command(words).or_else(|| read_badge_check_command(words))
+}
+
+/// A command about flights without a task.
+fn read_flights(words: &[Name]) -> Option<Command<'_>>
+    ensures { option_map seen result ≡ flights_command words.now }
+{
+    read_near(words).or_else(|| read_badge(words))
 }
 
 /// `series LIST DROP`.
@@ -133,6 +228,6 @@ pub fn read_words(words: &[Name]) -> Option<Command<'_>>
 {
     read_course(words)
         .or_else(|| read_pair(words))
-        .or_else(|| read_near(words))
+        .or_else(|| read_flights(words))
         .or_else(|| read_numbered(words))
 }

@@ -150,7 +150,7 @@ fn read_day<D: Desk>(
 }
 
 /// Why a text is no proof; `None` for want of memory.
-fn proof_cause(error: ProofError) -> Option<Cause>
+pub fn proof_cause(error: ProofError) -> Option<Cause>
     ensures { result ≡ proof_cause error }
 {
     match error {

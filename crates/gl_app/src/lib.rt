@@ -5,6 +5,10 @@
 mod answer;
 mod apart;
 mod appending;
+mod badge;
+mod badge_check;
+mod badge_files;
+mod badge_words;
 mod best;
 mod check;
 mod checking;

@@ -10,6 +10,8 @@ ghost use Rattle.gl_app.specs.Statuses.{stop_at};
 ghost use Rattle.gl_app.specs.Words.{command_of, workers_of};
 
 use crate::answer::Answer;
+use crate::badge::badge;
+use crate::badge_check::badge_check;
 use crate::check::check;
 use crate::command::{Command, read_words};
 use crate::day_names::read_workers_of;
@@ -62,6 +64,8 @@ fn answer_to_command<D: Desk, S: Search>(
         Command::Point(words) => {
             answer_of_file(alloc, desk, Course::Point(words.place.place), words.flight)
         }
+        Command::Badge(words) => badge(alloc, desk, words),
+        Command::BadgeCheck(words) => badge_check(alloc, desk, words),
         Command::Series(words) => series(alloc, desk, words),
         Command::Demo(day) => demo(alloc, day, stewards),
     }

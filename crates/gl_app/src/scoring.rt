@@ -74,7 +74,7 @@ fn append_front<D: Desk>(
 }
 
 /// Appends the lines of a claim to the proof. After an error a first part of them was appended.
-fn append_claim<D: Desk>(
+pub fn append_claim<D: Desk>(
     alloc: Global,
     desk: &mut D,
     proof: &Name,

@@ -20,6 +20,7 @@ fn obey(rt: &HostRuntime, desk: &mut MemDesk, word: &str, rest: &str) -> Result<
         "times" => folder::times(rt, desk, rest),
         "seconds" => folder::seconds(rt, desk, rest),
         "show" => folder::show(rt, desk, rest),
+        "behind" => folder::behind(rt, desk, rest),
         _ => bail!("no line begins with {word}"),
     }
 }

@@ -1,7 +1,9 @@
-//! Worked examples of cells, hulls, goals, proofs, the checker and the closest approach.
+//! Worked examples of cells, hulls, goals, proofs, the checker, badge claims and the closest approach.
 //! They are tests alone.
 #![tactic(auto)]
 
+#[cfg(test)]
+mod badges;
 #[cfg(test)]
 mod both_searches;
 #[cfg(test)]

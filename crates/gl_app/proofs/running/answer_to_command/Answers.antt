@@ -1,3 +1,4 @@
+use Rattle.gl_app.specs.BadgeWords.{badge_seen}
 use Rattle.gl_app.specs.DayNames.{names_seen}
 use Rattle.gl_app.specs.Demo.{demo_promise}
 use Rattle.gl_app.specs.Free.{free_promise}
@@ -7,6 +8,7 @@ use Rattle.gl_app.specs.ReplayWords.{replay_seen}
 use Rattle.gl_app.specs.Series.{series_promise}
 use Rattle.gl_app.specs.SeriesWords.{series_seen}
 use Rattle.gl_app.specs.Triangle.{triangle_promise}
+use Rattle.gl_app.proofs.Badges.{badge_checked}
 use Rattle.gl_app.proofs.Commanded.{check_right, reads_right, unread_right}
 use Rattle.gl_app.proofs.Nears.{near_checked, pointed}
 use Rattle.gl_app.proofs.running.answer_to_command.Goals as goal
@@ -48,6 +50,10 @@ returns-in-Point-clause-right g c =
     let before = g.D.Desk.told c.args.desk.now in
     let words = c.in-Point.words in
     rw c.in-Point.is (pointed (point_seen words) words.place.place words.place.reads before (g.D.Desk.told c.answer_of_file-in-Point.new.desk) c.answer_of_file-in-Point.result c.answer_of_file-in-Point.ensures.right c.answer_of_file-in-Point.ensures.reads)
+
+pub returns-in-BadgeCheck-clause-right : goal.returns-in-BadgeCheck-clause-right
+returns-in-BadgeCheck-clause-right g c =
+    rw c.in-BadgeCheck.is (badge_checked (badge_seen c.in-BadgeCheck.words) (g.D.Desk.told c.args.desk.now) (g.D.Desk.told c.badge_check.new.desk) c.badge_check.result c.badge_check.ensures.right c.badge_check.ensures.reads)
 
 pub returns-in-Series-clause-right : goal.returns-in-Series-clause-right
 returns-in-Series-clause-right g c =

@@ -1,0 +1,34 @@
+ghost use Rattle.std.specs.Prelude.{IfOk};
+ghost use Rattle.gl_desk.specs.Answers.{OnlyReads, stop_of};
+ghost use Rattle.gl_app.specs.Answer.{answer_of};
+ghost use Rattle.gl_app.specs.Badge.{IsBadgeCheck};
+ghost use Rattle.gl_app.specs.BadgeWords.{badge_seen};
+
+use crate::answer::Answer;
+use crate::badge_files::test_badge_check_files;
+use crate::badge_words::BadgeWords;
+use crate::checking::checked_answer;
+use crate::line::answer_halt;
+use gl_badge::check_badges;
+use gl_desk::{Desk, DeskError};
+use std::alloc::Global;
+
+/// The answer of `badgecheck FILE PROOF`: whether the proof is that of the flight's badge claims.
+pub fn badge_check<D: Desk>(
+    alloc: Global,
+    desk: &mut D,
+    words: BadgeWords<'_>,
+) -> Result<Answer, DeskError>
+    ensures right { IfOk result (λ answer.
+        IsBadgeCheck (D.told desk.old).folder (badge_seen words.entry) (answer_of answer)) }
+    ensures reads { OnlyReads (stop_of result) (D.told desk.old) (D.told desk.new) }
+{
+    let names = desk.names(alloc)?;
+    match test_badge_check_files(alloc, desk, &names, words) {
+        Ok((recording, proof)) => {
+            let said = check_badges(alloc, &recording, proof.claims.as_slice())?;
+            Ok(checked_answer(alloc, said)?)
+        }
+        Err(halt) => answer_halt(alloc, halt),
+    }
+}
