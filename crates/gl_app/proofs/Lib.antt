@@ -9,6 +9,7 @@ pub mod NearLaws
 pub mod NearTests
 pub mod Nears
 pub mod OfFileLaws
+pub mod Pourings
 pub mod Promises
 pub mod ReplayLaws
 pub mod ScoreLaws

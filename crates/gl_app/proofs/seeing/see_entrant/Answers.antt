@@ -1,5 +1,4 @@
 use Rattle.std.proofs.Common.{◌≡◌, ◌∙◌, true, Err, List, None, Some, ap, rules, subst, ℕ}
-use Rattle.gl_day.specs.Flight.{IsSeen}
 use Rattle.gl_app.proofs.DayTests.{is_named}
 use Rattle.gl_app.proofs.Flights.{entrant_seen}
 use Rattle.gl_app.proofs.seeing.see_entrant.Goals as goal
@@ -12,12 +11,13 @@ pub returns-in_ok-read_flight-in-Ok-clause-seen : goal.returns-in_ok-read_flight
 returns-in_ok-read_flight-in-Ok-clause-seen g c =
     let has : c.contains.result ≡ true = search rules in
     let listed = is_named c.args.names.now c.args.entrant.now.file c.contains.result c.contains.ensures.value has in
-    let seen = subst (λ (bytes : List ℕ). IsSeen c.args.task.now c.args.entrant.now bytes c.in_ok-read_flight-in-Ok.field-0) c.deref.ensures.value c.in_ok-read_flight-in-Ok.ensures in
-    (Some c.in-Ok.bytes.items, (listed, c.in-Ok.ensures.bytes), entrant_seen c.args.task.now c.args.entrant.now c.in-Ok.bytes.items c.in_ok-read_flight-in-Ok.field-0 seen)
+    let read = c.in-Ok.ensures.read in
+    let seen = c.in_ok-read_flight-in-Ok.ensures read.bytes read.small read.says in
+    (Some read.bytes, (listed, read.seen), entrant_seen c.args.task.now c.args.entrant.now read.bytes c.in_ok-read_flight-in-Ok.field-0 seen)
 
 pub returns-in-Err-TooLarge-clause-seen : goal.returns-in-Err-TooLarge-clause-seen
 returns-in-Err-TooLarge-clause-seen g c =
     let has : c.contains.result ≡ true = search rules in
     let listed = is_named c.args.names.now c.args.entrant.now.file c.contains.result c.contains.ensures.value has in
-    let large = c.read_all.ensures.too_large (c.in-Err-TooLarge.is ∙ ap Err c.in-Err-TooLarge.field-0-is) in
+    let large = c.read_recording_file.ensures.too_large (c.in-Err-TooLarge.is ∙ ap Err c.in-Err-TooLarge.field-0-is) in
     (Some large.0, (listed, large.2), λ air stewards. c.large_flight.ensures air stewards large.0 large.1)
