@@ -116,7 +116,10 @@ fn a_file_is_handed_over_in_short_pieces(rt: HostRuntime) -> Result<(), Fail> {
     let name = Name::from_text(alloc, "FIVE.TXT")?;
     for (most, pieces) in [(1, 5), (2, 3), (u64::MAX, 1)] {
         let mut files = Vec::new(alloc);
-        files.push((Name::from_text(alloc, "FIVE.TXT")?, Vec::from_slice(alloc, b"abcde")?))?;
+        files.push((
+            Name::from_text(alloc, "FIVE.TXT")?,
+            Vec::from_slice(alloc, b"abcde")?,
+        ))?;
         let mut desk = MemDesk::short(alloc, files, Vec::new(alloc), most)?;
         assert!(rt; desk.file(&name).is_some());
         let mut counted = Counted {

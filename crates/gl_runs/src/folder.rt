@@ -94,7 +94,9 @@ pub fn seconds(rt: &HostRuntime, desk: &mut MemDesk, rest: &str) -> Result<()> {
 /// `behind NAME TEXT` says what the file has from the first place on where the text stands.
 pub fn behind(rt: &HostRuntime, desk: &MemDesk, rest: &str) -> Result<()> {
     let (name, part) = rest.split_once(' ').context("a name and a text")?;
-    let bytes = desk.file(&Name::from_text(rt.alloc(), name)?).unwrap_or(b"");
+    let bytes = desk
+        .file(&Name::from_text(rt.alloc(), name)?)
+        .unwrap_or(b"");
     let text = str::from_utf8(bytes)?;
     let (_, after) = text.split_once(part).context("no such part")?;
     println!(rt; "{name} from {part}: {after:?}")?;

@@ -1,4 +1,4 @@
-ghost use Rattle.std.specs.Prelude.{◌≡◌, map};
+ghost use Rattle.std.specs.Prelude.{◌≡◌, [], ◌∷◌, map};
 ghost use Rattle.gl_box.specs.Cell.{ends, spans_of};
 ghost use Rattle.gl_box.specs.Tuple.{places_of};
 
@@ -31,7 +31,7 @@ fn fix_at(second: i32, hundreds: u8) -> Fix {
 }
 
 fn pair_of(from: u32, to: u32) -> Tuple
-    ensures { places_of result ≡ [from, to] }
+    ensures { places_of result ≡ from ∷ to ∷ [] }
 {
     Tuple {
         axes: 2,

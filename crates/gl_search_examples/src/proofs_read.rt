@@ -70,7 +70,10 @@ fn versions_that_are_read(rt: HostRuntime) -> Result<(), Fail> {
         (b"GLIDEPROOF 2\r\nEND\n", Err(ProofError::Heading)),
         (b"GLIDEPROOF 2", Err(ProofError::Heading)),
         (b"GLIDEPROOF 1\n", Err(ProofError::Cut)),
-        (b"GLIDEPROOF 1\nGLIDEPROOF 2\nEND\n", Err(ProofError::Line(2))),
+        (
+            b"GLIDEPROOF 1\nGLIDEPROOF 2\nEND\n",
+            Err(ProofError::Line(2)),
+        ),
     ];
     for (text, expected) in cases {
         let answer = match read_proof(rt.alloc(), text) {

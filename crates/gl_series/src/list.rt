@@ -120,9 +120,7 @@ fn fits(days: &[Name], teams: &[Member], numbers: &Numbers, entry: &Entry) -> bo
 {
     match entry {
         Entry::Day(name) => days.len() < MOST_DAYS && is_new_day(days, name),
-        Entry::Team(member) => {
-            teams.len() < MOST_MEMBERS && numbers.is_new(&member.number)
-        }
+        Entry::Team(member) => { teams.len() < MOST_MEMBERS && numbers.is_new(&member.number) }
     }
 }
 

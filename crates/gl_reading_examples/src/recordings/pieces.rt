@@ -29,8 +29,16 @@ fn a_night_in_pieces_of_every_size(rt: HostRuntime) -> Result<(), Fail> {
     for size in 1..=night.len() {
         let recording = read_by(alloc, &night, size)?;
         let fixes = recording.fixes.as_slice();
-        assert_eq!(rt; (fixes.len(), recording.skipped), (2, 2), "pieces of {size}");
-        assert_eq!(rt; (fixes[0].second, fixes[1].second), (86_399, 86_400), "pieces of {size}");
+        assert_eq!(rt;
+            (fixes.len(), recording.skipped),
+            (2, 2),
+            "pieces of {size}"
+        );
+        assert_eq!(rt;
+            (fixes[0].second, fixes[1].second),
+            (86_399, 86_400),
+            "pieces of {size}"
+        );
     }
     Ok(())
 }
@@ -61,10 +69,25 @@ fn a_text_cut_in_two_at_each_place(rt: HostRuntime) -> Result<(), Fail> {
         reader.feed(&whole[cut..])?;
         let recording = reader.finish()?;
         let fixes = recording.fixes.as_slice();
-        assert_eq!(rt; (recording.date, fixes.len(), recording.skipped), (19_905, 2, 0));
-        let last = (fixes[1].second, fixes[1].grid.lon, fixes[1].alt, fixes[1].enl);
-        assert_eq!(rt; (fixes[0].enl, last), (Some(17), (36_002, 6_000_000, 1_020, Some(400))));
-        assert_eq!(rt; recording.events.as_slice(), [36_001].as_slice(), "cut at {cut}");
+        assert_eq!(rt;
+            (recording.date, fixes.len(), recording.skipped),
+            (19_905, 2, 0)
+        );
+        let last = (
+            fixes[1].second,
+            fixes[1].grid.lon,
+            fixes[1].alt,
+            fixes[1].enl,
+        );
+        assert_eq!(rt;
+            (fixes[0].enl, last),
+            (Some(17), (36_002, 6_000_000, 1_020, Some(400)))
+        );
+        assert_eq!(rt;
+            recording.events.as_slice(),
+            [36_001].as_slice(),
+            "cut at {cut}"
+        );
         let declared = recording.declared.as_ref().ok_or("no declaration")?;
         assert_eq!(rt; declared.points.len(), 5, "cut at {cut}");
     }
@@ -80,6 +103,9 @@ fn no_piece_and_empty_pieces(rt: HostRuntime) -> Result<(), Fail> {
     empty.feed(b"")?;
     empty.feed(HEAD)?;
     empty.feed(b"")?;
-    assert_eq!(rt; empty.finish().err(), Some(IgcError::WrongDay { day: 19_905 }));
+    assert_eq!(rt;
+        empty.finish().err(),
+        Some(IgcError::WrongDay { day: 19_905 })
+    );
     Ok(())
 }
