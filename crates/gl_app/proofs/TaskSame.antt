@@ -19,12 +19,13 @@ use Rattle.gl_task.specs.declared.day_type.Finish as code_finish
 use Rattle.gl_task.specs.declared.day_type.Finish.TheVariants.{Ring, Gate}
 use Rattle.gl_task.specs.declared.task.Entrant.{Entrant}
 use Rattle.gl_task.specs.declared.task.LocalRules.{LocalRules}
+use Rattle.gl_task.specs.declared.task.PilotStart.{PilotStart}
 use Rattle.gl_task.specs.declared.task.Start.{Start}
 use Rattle.gl_task.specs.declared.task.Task.{Task}
 use Rattle.gl_task.specs.Forms.{is_file_name, is_number, is_name}
 use Rattle.gl_task.specs.Keys.{table_at, table_of}
-use Rattle.gl_task.specs.Limits.{greatest_altitude, greatest_handicap, greatest_noise, last_second, most_entrants, most_points, most_zones}
-use Rattle.gl_task.specs.Meaning.{Each, IsEntrant, IsFinishOf, IsKind, IsLine, IsPart, IsRulesOf, IsSector, IsStart, IsTask, IsZone}
+use Rattle.gl_task.specs.Limits.{greatest_altitude, greatest_handicap, greatest_noise, last_second, longest_wait, most_entrants, most_points, most_zones, widest_window}
+use Rattle.gl_task.specs.Meaning.{Each, IsEntrant, IsFinishOf, IsKind, IsLine, IsPart, IsPilotStart, IsRulesOf, IsSector, IsStart, IsTask, IsZone}
 use Rattle.gl_task.specs.Numbers.{all_differ}
 use Rattle.gl_task.specs.Ranges.{has_minimum, has_radius}
 use Rattle.gl_task.specs.Reading.{IsReadFrom}
@@ -61,6 +62,23 @@ line_one table v w is_v is_w =
       half_at_most = is_prop→PathP (λ j. half j ≤ greatest_length) (λ j. hlevel props) v.half_at_most w.half_at_most i;
     }
 
+pilot_start_one : (v w : PilotStart) → v.wait ≡ w.wait → v.width ≡ w.width → v ≡ w
+pilot_start_one v w wait width = λ i. record {
+  wait = wait i;
+  width = width i;
+  wait_at_least = is_prop→PathP (λ j. pos 0 ≤ℤ wait j) (λ j. hlevel props) v.wait_at_least w.wait_at_least i;
+  wait_at_most = is_prop→PathP (λ j. wait j ≤ℤ pos longest_wait) (λ j. hlevel props) v.wait_at_most w.wait_at_most i;
+  width_at_least = is_prop→PathP (λ j. pos 1 ≤ℤ width j) (λ j. hlevel props) v.width_at_least w.width_at_least i;
+  width_at_most = is_prop→PathP (λ j. width j ≤ℤ pos widest_window) (λ j. hlevel props) v.width_at_most w.width_at_most i;
+}
+
+pilot_one : (table : Members) (v w : Option PilotStart) → IsPilotStart table v → IsPilotStart table w → v ≡ w
+pilot_one table None None is_v is_w = refl
+pilot_one table None (Some w) is_v is_w = absurd (lacks _ _ pos w.wait is_v is_w.0)
+pilot_one table (Some v) None is_v is_w = absurd (lacks _ _ pos v.wait is_w is_v.0)
+pilot_one table (Some v) (Some w) is_v is_w =
+    ap Some (pilot_start_one v w (one _ v.wait w.wait is_v.0 is_w.0) (one _ v.width w.width is_v.1 is_w.1))
+
 start_one : (file : Members) (v w : Start) → IsStart file v → IsStart file w → v ≡ w
 start_one file v w is_v is_w =
     let opens = one _ v.opens w.opens is_v.opens is_w.opens in
@@ -69,6 +87,7 @@ start_one file v w is_v is_w =
       line = line_one (table_at (codes "start") file) v.line w.line is_v.line is_w.line i;
       opens = opens i;
       close = close i;
+      pilot = pilot_one (table_at (codes "start") file) v.pilot w.pilot is_v.pilot is_w.pilot i;
       opens_at_least = is_prop→PathP (λ j. pos 0 ≤ℤ opens j) (λ j. hlevel props) v.opens_at_least w.opens_at_least i;
       ordered = is_prop→PathP (λ j. opens j ≤ℤ close j) (λ j. hlevel props) v.ordered w.ordered i;
       close_at_most = is_prop→PathP (λ j. close j ≤ℤ pos last_second) (λ j. hlevel props) v.close_at_most w.close_at_most i;

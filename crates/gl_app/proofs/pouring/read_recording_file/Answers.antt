@@ -8,7 +8,7 @@ returns-clause-read g c =
     let poured = c.in_ok-pour.ensures.poured in
     let stands = poured.stands [] c.new.ensures.text in
     let reader = c.pour.new.to.reader in
-    let day : reader.task_day ≡ c.args.day = day_of_tag reader.task_day c.args.day ? in
+    let day : reader.task_day ≡ c.args.day = day_of_tag reader.task_day c.new.result.task_day c.pour.ensures.tag ∙ c.new.ensures.task_day in
     record {
       bytes = poured.file;
       seen = poured.seen;

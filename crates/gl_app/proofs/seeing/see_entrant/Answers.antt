@@ -1,4 +1,6 @@
-use Rattle.std.proofs.Common.{◌≡◌, ◌∙◌, true, Err, List, None, Some, ap, rules, subst, ℕ}
+use Rattle.std.proofs.Common.{◌≡◌, ◌∙◌, true, Err, None, Some, ap, rules, subst, w32, to_z, of_z, ℤ}
+use Rattle.std.proofs.lemmas.Int.{to_z-of_z}
+use Rattle.gl_igc.specs.Recording.{IsReadAs}
 use Rattle.gl_app.proofs.DayTests.{is_named}
 use Rattle.gl_app.proofs.Flights.{entrant_seen}
 use Rattle.gl_app.proofs.seeing.see_entrant.Goals as goal
@@ -12,7 +14,10 @@ returns-in_ok-read_flight-in-Ok-clause-seen g c =
     let has : c.contains.result ≡ true = search rules in
     let listed = is_named c.args.names.now c.args.entrant.now.file c.contains.result c.contains.ensures.value has in
     let read = c.in-Ok.ensures.read in
-    let seen = c.in_ok-read_flight-in-Ok.ensures read.bytes read.small read.says in
+    let date : ℤ = to_z w32 (of_z w32 c.args.task.now.date) in
+    let same : date ≡ c.args.task.now.date = to_z-of_z w32 c.args.task.now.date (search rules) in
+    let says = subst (λ (day : ℤ). IsReadAs read.bytes (Some day) c.in-Ok.read) same read.says in
+    let seen = c.in_ok-read_flight-in-Ok.ensures read.bytes read.small says in
     (Some read.bytes, (listed, read.seen), entrant_seen c.args.task.now c.args.entrant.now read.bytes c.in_ok-read_flight-in-Ok.field-0 seen)
 
 pub returns-in-Err-TooLarge-clause-seen : goal.returns-in-Err-TooLarge-clause-seen
