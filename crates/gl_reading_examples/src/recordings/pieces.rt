@@ -4,10 +4,10 @@ use gl_igc::{IgcError, IgcReader, Recording};
 use std::alloc::Global;
 use std::test::Fail;
 
-/// Reads a text in pieces of so many bytes.
+/// Reads a text in pieces of so many bytes, at least one.
 fn read_by(alloc: Global, text: &[u8], size: usize) -> Result<Recording, IgcError> {
     let mut reader = IgcReader::new(alloc, None);
-    for piece in text.chunks(size) {
+    for piece in text.chunks(size.max(1)) {
         reader.feed(piece)?;
     }
     reader.finish()
