@@ -63,7 +63,7 @@ impl Goal for GainGoal {
 
     fn len(&self, axis: u8) -> u32 {
         let _ = axis;
-        self.hulls.len() as u32
+        self.hulls.len()
     }
 
     fn fix(&self, axis: u8, place: u32) -> u32 {

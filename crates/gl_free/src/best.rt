@@ -34,7 +34,7 @@ fn all_altitudes(hulls: &Hulls) -> Altitudes
 {
     let whole = hulls.hull(Span {
         lo: 0,
-        hi: (hulls.len() - 1) as u32,
+        hi: hulls.len() - 1,
     });
     Altitudes {
         lowest: whole.alt_lo,
@@ -54,8 +54,8 @@ pub fn best_free_after(alloc: Global, goal: &FreeGoal, looks: usize) -> Result<B
 {
     let hulls = goal.hulls();
     let mut search = Search {
-        before: Flank::new(alloc, hulls.len())?,
-        after: Flank::new(alloc, hulls.len())?,
+        before: Flank::new(alloc, hulls.len() as usize)?,
+        after: Flank::new(alloc, hulls.len() as usize)?,
         best: warm_start(alloc, goal)?,
         looks,
         looks_of_a_run: looks / RUNS,

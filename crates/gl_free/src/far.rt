@@ -93,7 +93,7 @@ fn guessed(hulls: &Hulls, allowed: &Ends, of: &Node, guess: u32) -> Far
         result }
     ensures bound { result.value ≤ GREATEST_SQUARE + 1 }
 {
-    if guess as usize >= hulls.len() {
+    if guess >= hulls.len() {
         return Far { value: 0, place: 0 };
     }
     let span = Span::point(guess);
@@ -113,7 +113,7 @@ pub(crate) fn farthest(hulls: &Hulls, allowed: &Ends, span: Span, guess: u32) ->
     let of = Node::new(hulls, span);
     let whole = Span {
         lo: 0,
-        hi: (hulls.len() - 1) as u32,
+        hi: hulls.len() - 1,
     };
     let mut found = guessed(hulls, allowed, &of, guess);
     let most = reach(hulls, allowed, whole, &of);

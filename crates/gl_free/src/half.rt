@@ -60,8 +60,8 @@ fn ways_of_ends(alloc: Global, hulls: &Hulls, allowed: &Ends) -> Result<Vec<u64>
     ensures long { IfOk result (λ ways. length ways.items ≡ length hulls.now) }
     ensures ends { IfOk result (λ ways. AreEnds hulls.now allowed.now ways.items) }
 {
-    let mut ways = Vec::with_capacity(alloc, hulls.len())?;
-    for number in 0..hulls.len() as u32 {
+    let mut ways = Vec::with_capacity(alloc, hulls.len() as usize)?;
+    for number in 0..hulls.len() {
         ways.push(way_of_end(allowed, hulls.fix(number)))?;
     }
     Ok(ways)
@@ -80,9 +80,9 @@ fn farthest_ends(
     ensures long { IfOk result (λ ends. length ends.items ≡ length hulls.now) }
     ensures farthest { IfOk result (λ ends. AreFarthest hulls.now allowed.now ends.items) }
 {
-    let mut ends = Vec::with_capacity(alloc, hulls.len())?;
+    let mut ends = Vec::with_capacity(alloc, hulls.len() as usize)?;
     let mut guess = 0;
-    for number in 0..hulls.len() as u32 {
+    for number in 0..hulls.len() {
         let target = target_at(hulls, number, allowed.side);
         let found = tree.longest(hulls, by_place, &target, 0, guess);
         guess = found.from;

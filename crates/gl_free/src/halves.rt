@@ -115,7 +115,7 @@ impl Halves {
             before: nothing,
             after: nothing,
         };
-        for middle in 0..goal.hulls().len() as u32 {
+        for middle in 0..goal.hulls().len() {
             let low = self.choose_at(goal, by_place, sides, middle, best, &mut guess);
             if let Some(pair) = low {
                 return Some(pair);

@@ -65,7 +65,7 @@ impl Search {
         let sides = sides_of(range, goal.loss());
         let whole = Span {
             lo: 0,
-            hi: (hulls.len() - 1) as u32,
+            hi: hulls.len() - 1,
         };
         let before = self.before.start(hulls, &sides.before, whole)?;
         let after = self.after.start(hulls, &sides.after, whole)?;

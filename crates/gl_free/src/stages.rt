@@ -32,7 +32,7 @@ pub(crate) struct Way {
 /// One more than the leg from a place to another, 0 where it is earlier.
 #[inline]
 fn leg_between(hulls: &Hulls, from: u32, to: u32) -> u64 {
-    if to < from || to as usize >= hulls.len() {
+    if to < from || to >= hulls.len() {
         return 0;
     }
     dist(sq(hulls.fix(from).at, hulls.fix(to).at)) + 1
@@ -40,7 +40,7 @@ fn leg_between(hulls: &Hulls, from: u32, to: u32) -> u64 {
 
 /// A place as the only one of a way, if its fix isn't below an altitude.
 fn last_of(hulls: &Hulls, place: u32, lowest: i32) -> Way {
-    let is_allowed = (place as usize) < hulls.len() && hulls.fix(place).alt >= lowest;
+    let is_allowed = place < hulls.len() && hulls.fix(place).alt >= lowest;
     Way {
         length: u64::from(is_allowed),
         places: [place; 5],

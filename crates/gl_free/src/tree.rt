@@ -283,7 +283,7 @@ impl Tree {
         self.consider(hulls, target, guess, &mut found);
         let whole = Span {
             lo: 0,
-            hi: (hulls.len() - 1) as u32,
+            hi: hulls.len() - 1,
         };
         let most = self.most_of(hulls, by_place, target, whole);
         self.search(hulls, by_place, target, whole, most, &mut found);
@@ -299,7 +299,7 @@ impl Tree {
     {
         let whole = Span {
             lo: 0,
-            hi: (hulls.len() - 1) as u32,
+            hi: hulls.len() - 1,
         };
         let most = self.most_of(hulls, by_place, target, whole);
         if most.way == 0 {

@@ -32,7 +32,7 @@ fn consider(goal: &FreeGoal, way: &Way, best: &mut Best) -> bool
     ensures { IsValid (rule_of goal.now) best.new }
 {
     let [a, b, c, d, e] = way.places;
-    if a.max(b).max(c).max(d).max(e) as usize >= goal.hulls().len() {
+    if a.max(b).max(c).max(d).max(e) >= goal.hulls().len() {
         return false;
     }
     keep(goal, &tuple_of([a, b, c, d, e]), best)
@@ -46,7 +46,7 @@ fn raise_from(goal: &FreeGoal, stages: &Stages, index: usize, way: &Way, best: &
 {
     let hulls = goal.hulls();
     let [first, ..] = way.places;
-    if way.length <= best.total || consider(goal, way, best) || first as usize >= hulls.len() {
+    if way.length <= best.total || consider(goal, way, best) || first >= hulls.len() {
         return;
     }
     let lowest = hulls.fix(first).alt.saturating_sub(goal.loss());
@@ -71,7 +71,7 @@ pub(crate) fn warm_start(alloc: Global, goal: &FreeGoal) -> Result<Best, AllocEr
     ensures { IfOk result (IsValid (rule_of goal.now)) }
 {
     let hulls = goal.hulls();
-    let last = (hulls.len() - 1) as u32;
+    let last = hulls.len() - 1;
     let mut best = stay(goal);
     let mut step = last / MOST_PLACES as u32 + 1;
     let mut stages = Stages::spaced(alloc, step, last)?;

@@ -16,15 +16,15 @@ pub(crate) fn reaches(alloc: Global, hulls: &Hulls, closing: u64) -> Result<Vec<
     requires most { length hulls.now ≤ 90_000 }
     ensures { IfOk result (λ reaches. AreReaches hulls.now closing reaches.items) }
 {
-    let mut reaches = Vec::with_capacity(alloc, hulls.len())?;
+    let mut reaches = Vec::with_capacity(alloc, hulls.len() as usize)?;
     let mut before = None;
     let mut next = 0;
     let mut end = 0;
-    for place in 0..hulls.len() as u32 {
+    for place in 0..hulls.len() {
         if place == next {
             let stretch = Span {
                 lo: place,
-                hi: (hulls.len() as u32 - 1).min(place + (STRETCH - 1)),
+                hi: (hulls.len() - 1).min(place + (STRETCH - 1)),
             };
             end = end_of_near(hulls, closing, stretch);
             next = stretch.hi + 1;
@@ -45,7 +45,7 @@ fn end_of_near(hulls: &Hulls, closing: u64, stretch: Span) -> u32
     ensures none { (place : ℕ) → stretch.lo ≤ place → place ≤ stretch.hi
         → IsNoneBehind hulls.now closing result place }
 {
-    let last = hulls.len() as u32 - 1;
+    let last = hulls.len() - 1;
     if stretch.hi == last {
         return last;
     }

@@ -55,11 +55,11 @@ impl Hulls {
         })
     }
 
-    /// How many fixes there are.
-    pub fn len(&self) -> usize
+    /// How many fixes there are, at most 90,000.
+    pub fn len(&self) -> u32
         ensures { result ≡ length self.now }
     {
-        self.fixes.len()
+        self.fixes.len() as u32
     }
 
     /// The fix at a place.

@@ -91,7 +91,7 @@ impl TwoFlights {
             → ⊥)
             (λ total. AreFixesAt self.now.one self.now.other self.now.apart total first second) }
     {
-        if first as usize >= self.one.len() || second as usize >= self.other.len() {
+        if first >= self.one.len() || second >= self.other.len() {
             return None;
         }
         if self.is_one_after(first, second) || self.is_other_after(second, first) {
@@ -109,7 +109,7 @@ impl FlightAndPlace {
             ((total : ℕ) → IsFixAt self.now.flight self.now.point total first second → ⊥)
             (λ total. IsFixAt self.now.flight self.now.point total first second) }
     {
-        if first as usize >= self.flight.len() || second != 0 {
+        if first >= self.flight.len() || second != 0 {
             return None;
         }
         Some(distance_of(self.flight.fix(first).at, self.point))

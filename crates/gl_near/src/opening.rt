@@ -45,7 +45,7 @@ fn all_of(hulls: &Hulls) -> Span
 {
     Span {
         lo: 0,
-        hi: (hulls.len() - 1) as u32,
+        hi: hulls.len() - 1,
     }
 }
 

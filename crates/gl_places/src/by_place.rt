@@ -115,20 +115,20 @@ fn fixes_in_time(alloc: Global, hulls: &Hulls) -> Result<Vec<Fix>, AllocError>
     requires { length hulls.now ≤ 90_000 }
     ensures { IfOk result (λ fixes. fixes.items ≡ hulls.now) }
 {
-    let mut fixes = Vec::with_capacity(alloc, hulls.len())?;
-    for number in 0..hulls.len() as u32 {
+    let mut fixes = Vec::with_capacity(alloc, hulls.len() as usize)?;
+    for number in 0..hulls.len() {
         fixes.push(*hulls.fix(number))?;
     }
     Ok(fixes)
 }
 
 /// The numbers of so many fixes, in time order. The only error is want of memory.
-fn numbers_below(alloc: Global, count: usize) -> Result<Vec<u32>, AllocError>
+fn numbers_below(alloc: Global, count: u32) -> Result<Vec<u32>, AllocError>
     requires { count ≤ 90_000 }
     ensures { IfOk result (λ numbers. numbers.items ≡ numbers_from 0 count) }
 {
-    let mut numbers = Vec::with_capacity(alloc, count)?;
-    for number in 0..count as u32 {
+    let mut numbers = Vec::with_capacity(alloc, count as usize)?;
+    for number in 0..count {
         numbers.push(number)?;
     }
     Ok(numbers)

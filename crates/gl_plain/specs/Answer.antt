@@ -2,13 +2,15 @@
 use Rattle.std.specs.Prelude.{◌↔◌, IsNone}
 use Rattle.gl_goal.specs.Rule.{Rule, HasNoLegal, IsOptimum}
 use Rattle.gl_plain.specs.declared.found.Found.{Found}
-use Rattle.gl_plain.specs.Found.{AreNeeded, IsCertified}
+use Rattle.gl_plain.specs.Found.{AreNeeded, HoldsEachOnce, IsCertified}
 use Rattle.gl_plain.specs.Search.{IsSound, total_of}
 
 -- Its boxes certify what was found: a legal tuple and its value, the optimum, or nothing exactly
--- where no tuple is legal. Each box is the whole cell, or a half of a node that had to be cut.
+-- where no tuple is legal. Each tuple lies in exactly one of the boxes, and each box is the whole
+-- cell, or a half of a node that had to be cut.
 pub record IsAnswer (rule : Rule) (found : Found) : Type 0 where
   pub certificate : IsCertified rule found
+  pub once : HoldsEachOnce rule found
   pub reached : IsSound rule found.best
   pub optimum : IsOptimum rule (total_of found.best)
   pub none : IsNone found.best ↔ HasNoLegal rule

@@ -1,8 +1,9 @@
 -- What a search answers.
-use Rattle.std.specs.Prelude.{All, map}
-use Rattle.gl_box.specs.Cell.{spans_of}
+use Rattle.std.specs.Prelude.{◌≡◌, ℕ, List, All, map}
+use Rattle.gl_box.specs.Cell.{Holds, spans_of}
 use Rattle.gl_box.specs.Closed.{box_of}
-use Rattle.gl_goal.specs.Rule.{Rule}
+use Rattle.gl_box.specs.Frontier.{mult}
+use Rattle.gl_goal.specs.Rule.{Rule, whole_cell}
 use Rattle.gl_goal.specs.Certificate.{IsCertificate}
 use Rattle.gl_plain.specs.declared.found.Found.{Found}
 use Rattle.gl_plain.specs.Search.{IsNeeded, fixes_of, total_of}
@@ -16,3 +17,8 @@ IsCertified rule found =
 -- each box is the whole cell, or a half of a node that had to be cut
 abbrev pub AreNeeded : Rule → Found → Type 0
 AreNeeded rule found = All (λ closed. IsNeeded rule (spans_of closed.cell)) found.closed.items
+
+-- each tuple of the whole cell lies in exactly one of its boxes
+abbrev pub HoldsEachOnce : Rule → Found → Type 0
+HoldsEachOnce rule found = (tuple : List ℕ) → Holds (whole_cell rule.axes) tuple
+    → mult (map (λ box. box.0) (map box_of found.closed.items)) tuple ≡ 1

@@ -3,7 +3,7 @@ ghost use Rattle.std.specs.List.{flat_map};
 ghost use Rattle.gl_box.specs.Cell.{spans_of};
 ghost use Rattle.gl_box.specs.Closed.{box_of};
 ghost use Rattle.gl_goal.specs.Rule.{HasNoLegal, IsOptimum};
-ghost use Rattle.gl_plain.specs.Found.{IsCertified};
+ghost use Rattle.gl_plain.specs.Found.{HoldsEachOnce, IsCertified};
 ghost use Rattle.gl_plain.specs.Machine.{open_cells};
 ghost use Rattle.gl_plain.specs.Replayed.{IsLeft, IsReplay};
 ghost use Rattle.gl_plain.specs.Search.{IsNoLess, IsSound, total_of};
@@ -120,6 +120,7 @@ pub fn replay<G: Goal>(
     requires most { workers ≤ 16 }
     requires few { length steps.now ≤ 1_000_000 }
     ensures certificate { IfOk result (λ replayed. IsCertified (G.rule goal.now) replayed.found) }
+    ensures once { IfOk result (λ replayed. HoldsEachOnce (G.rule goal.now) replayed.found) }
     ensures reached { IfOk result (λ replayed. IsSound (G.rule goal.now) replayed.found.best) }
     ensures optimum { IfOk result
         (λ replayed. IsOptimum (G.rule goal.now) (total_of replayed.found.best)) }

@@ -5,7 +5,7 @@ ghost use Rattle.gl_goal.specs.Rule.{HasNoLegal, IsOptimum, whole_cell};
 ghost use Rattle.gl_plain.specs.Search.{IsNoLess, IsSound, total_of};
 ghost use Rattle.gl_plain.specs.Steps.{Advances, Closes, IsUnderWay};
 ghost use Rattle.gl_plain.specs.Finished.{IsFinished};
-ghost use Rattle.gl_plain.specs.Found.{AreNeeded, IsCertified};
+ghost use Rattle.gl_plain.specs.Found.{AreNeeded, HoldsEachOnce, IsCertified};
 
 use crate::found::{Best, Found, better};
 use crate::verdict::{Verdict, test};
@@ -119,11 +119,12 @@ pub(crate) fn finish<G: Goal>(
 }
 
 /// The optimum of a goal, and boxes that certify it: in the order of the split tree they are a
-/// frontier of the whole cell, and each is closed for the total by its reason. `best` is `None`
-/// exactly where no tuple is legal. No cell is cut that is disordered or shut. The only error is
-/// want of memory.
+/// frontier of the whole cell, so that each tuple lies in exactly one of them, and each is closed
+/// for the total by its reason. `best` is `None` exactly where no tuple is legal. No cell is cut
+/// that is disordered or shut. The only error is want of memory.
 pub fn search_one<G: Goal>(alloc: Global, goal: &G) -> Result<Found, AllocError>
     ensures certificate { IfOk result (IsCertified (G.rule goal.now)) }
+    ensures once { IfOk result (HoldsEachOnce (G.rule goal.now)) }
     ensures reached { IfOk result (λ found. IsSound (G.rule goal.now) found.best) }
     ensures optimum { IfOk result (λ found. IsOptimum (G.rule goal.now) (total_of found.best)) }
     ensures none { IfOk result (λ found. IsNone found.best ↔ HasNoLegal (G.rule goal.now)) }

@@ -1,12 +1,14 @@
 -- What is answered once all cells are closed.
-use Rattle.std.proofs.Common.{◌≡◌, sym, ap, refl, subst, ℕ, zero, suc, ◌<◌, ◌≤◌, List, get_or, Option, None, Some, add-one, arith}
+use Rattle.std.proofs.Common.{◌≡◌, sym, ap, refl, subst, map, ℕ, zero, suc, ◌<◌, ◌≤◌, List, get_or, Option, None, Some, add-one, arith}
 use Rattle.std.specs.Prelude.{All}
 use Rattle.std.specs.List.Sorted.{IsPermutation}
 use Rattle.std.proofs.lemmas.List.Sorted.{All-permutation}
 use Rattle.gl_box.specs.declared.cell.Cell.{Cell}
 use Rattle.gl_box.specs.declared.closed.Closed.{Closed}
 use Rattle.gl_box.specs.Cell.{spans_of}
+use Rattle.gl_box.specs.Closed.{box_of}
 use Rattle.gl_box.specs.Frontier.{IsFrontier}
+use Rattle.gl_box.specs.Laws.Parts.{mult-held}
 use Rattle.gl_goal.specs.Rule.{Rule, IsGoal, whole_cell}
 use Rattle.gl_goal.specs.Certificate.{IsClosedFor}
 use Rattle.gl_goal.specs.Laws.Optimum.{certificate_optimum}
@@ -48,6 +50,7 @@ answered rule word all tally_after found goal is is_tally comes seen best fronti
     let needed = All-permutation (λ (b : Closed). IsNeeded rule (spans_of b.cell)) (boxes_in tally_after.closed) found.closed.items same (closed_needed rule comes.first comes.taken comes.put (boxes_in tally_after.closed) comes.strange comes.all) in
     subst (λ (b : Option Best). IsAnswer rule (record { best = b; closed = found.closed })) (sym best) (record {
       certificate = certificate;
+      once = λ tuple held. mult-held (whole_cell rule.axes) (map (λ box. box.0) (map box_of found.closed.items)) tuple certificate.frontier held;
       reached = is_tally.sound;
       optimum = optimum;
       none = none_exactly rule tally_after.best optimum;

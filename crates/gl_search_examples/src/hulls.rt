@@ -126,7 +126,7 @@ const NORTH: Grid = Grid {
 
 /// Asserts the last fix from the first to this one that is near a place.
 fn last_near(rt: &impl Abort, hulls: &Hulls, hi: u32, from: Grid, limit: u64, last: Option<u32>) {
-    assert!(rt; (hi as usize) < hulls.len());
+    assert!(rt; hi < hulls.len());
     let near = hulls.last_near(Span { lo: 0, hi }, vector(from), limit);
     assert_eq!(rt; near, last);
 }
@@ -156,9 +156,25 @@ fn last_fixes_near_a_point(rt: HostRuntime) -> Result<(), Fail> {
     Ok(())
 }
 
+#[test]
+fn last_fixes_at_a_point_that_is_met_twice(rt: HostRuntime) -> Result<(), Fail> {
+    let fixes = [
+        fix_at(0, ORIGIN, 1_000),
+        fix_at(10, NORTH, 1_000),
+        fix_at(20, ORIGIN, 1_000),
+        fix_at(30, NORTH, 1_000),
+        fix_at(40, ORIGIN, 1_000),
+    ];
+    let hulls = Hulls::new(rt.alloc(), &fixes, &[0, 1, 2, 3, 4])?;
+    for (hi, last) in [(4, Some(3)), (2, Some(1)), (0, None)] {
+        last_near(&rt, &hulls, hi, NORTH, 0, last);
+    }
+    Ok(())
+}
+
 /// Asserts the last fix from the first to this one that is near the hull of two others.
 fn last_near_two(rt: &impl Abort, hulls: &Hulls, hi: u32, limit: u64, last: Option<u32>) {
-    assert!(rt; (hi as usize) < hulls.len());
+    assert!(rt; hi < hulls.len());
     let of_two = hulls.hull(Span {
         lo: 0,
         hi: hi.min(1),

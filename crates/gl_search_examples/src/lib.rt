@@ -27,6 +27,8 @@ mod reaches;
 #[cfg(test)]
 mod replays;
 #[cfg(test)]
+mod shared;
+#[cfg(test)]
 mod triangle_alone;
 #[cfg(test)]
 mod workers;

@@ -36,7 +36,7 @@ impl Spans {
     {
         let all = Span {
             lo: 0,
-            hi: (hulls.len() - 1) as u32,
+            hi: hulls.len() - 1,
         };
         Spans {
             first: all,

@@ -26,7 +26,7 @@ fn count(goal: &TriangleGoal) -> u32
     ensures some { 0 < result }
     ensures most { result ≤ 90_000 }
 {
-    goal.hulls().len() as u32
+    goal.hulls().len()
 }
 
 /// One of some evenly spaced places of a list, the first and the last place among them.

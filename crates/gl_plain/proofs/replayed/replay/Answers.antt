@@ -1,6 +1,9 @@
-use Rattle.std.proofs.Common.{◌≡◌, ◌∙◌, refl, sym, ap, subst, ℕ, List, ◌++◌, length, arith}
+use Rattle.std.proofs.Common.{◌≡◌, ◌∙◌, refl, sym, ap, subst, ℕ, List, ◌++◌, length, map, arith}
 use Rattle.gl_box.specs.declared.closed.Closed.{Closed}
+use Rattle.gl_box.specs.Closed.{box_of}
 use Rattle.gl_box.specs.Frontier.{IsFrontier}
+use Rattle.gl_box.specs.Laws.Parts.{mult-held}
+use Rattle.gl_goal.specs.Rule.{whole_cell}
 use Rattle.gl_goal.specs.Laws.Optimum.{certificate_optimum}
 use Rattle.gl_plain.specs.declared.found.Found.{Found}
 use Rattle.gl_plain.specs.declared.replayed.Replayed.{Replayed}
@@ -37,6 +40,18 @@ returns-clause-certificate g c =
     let frontier = subst (λ (cell : List (ℕ × ℕ)). IsFrontier cell (cells_of answer.closed.items)) c.whole.ensures c.in_ok-closed.ensures.frontier in
     let certificate = certified rule c.args.workers c.args.steps.now left found answer boxes c.in_ok-left.ensures c.in_ok-best.ensures are refl frontier c.in_ok-closed.ensures.permutation in
     certificate
+
+pub returns-clause-once : goal.returns-clause-once
+returns-clause-once g c tuple held =
+    let rule = g.G.Goal.rule c.args.goal.now in
+    let left = c.in_ok-left.left in
+    let found = c.in_ok-best.field-0 in
+    let boxes = c.extend_from_slice.new.self.items in
+    let are : boxes ≡ found.closed.items ++ left.closed.items = c.in_ok-extend_from_slice.ensures.items ∙ ap (λ (more : List Closed). found.closed.items ++ more) c.as_slice.ensures.value in
+    let answer : Found = record { best = found.best; closed = c.in_ok-closed.closed } in
+    let frontier = subst (λ (cell : List (ℕ × ℕ)). IsFrontier cell (cells_of answer.closed.items)) c.whole.ensures c.in_ok-closed.ensures.frontier in
+    let certificate = certified rule c.args.workers c.args.steps.now left found answer boxes c.in_ok-left.ensures c.in_ok-best.ensures are refl frontier c.in_ok-closed.ensures.permutation in
+    mult-held (whole_cell rule.axes) (map (λ box. box.0) (map box_of answer.closed.items)) tuple certificate.frontier held
 
 pub returns-clause-optimum : goal.returns-clause-optimum
 returns-clause-optimum g c =

@@ -1,6 +1,9 @@
-use Rattle.std.proofs.Common.{◌≡◌, ◌∙◌, ap, List, [], ◌∷◌, ◌++◌}
+use Rattle.std.proofs.Common.{◌≡◌, ◌∙◌, ap, List, [], ◌∷◌, ◌++◌, map}
 use Rattle.std.proofs.lemmas.Result.{IfOk-weaker}
+use Rattle.gl_box.specs.Closed.{box_of}
+use Rattle.gl_box.specs.Laws.Parts.{mult-held}
 use Rattle.gl_box.specs.declared.cell.Cell.{Cell}
+use Rattle.gl_goal.specs.Rule.{whole_cell}
 use Rattle.gl_goal.specs.Laws.Optimum.{certificate_optimum}
 use Rattle.gl_plain.proofs.Stack.{none_exactly, whole_certificate, whole_needed, whole_node}
 use Rattle.gl_plain.proofs.search.search_one.Goals as goal
@@ -14,6 +17,12 @@ returns-clause-certificate g c =
     let rule = g.G.Goal.rule c.args.goal.now in
     let one : c.push.new.self.items ≡ c.whole.result ∷ [] = c.in_ok-push.ensures.items ∙ ap (λ (cells : List Cell). cells ++ c.whole.result ∷ []) c.in_ok-cells.ensures.items in
     IfOk-weaker c.finish.result _ _ (λ found end. whole_certificate rule c.push.new.self.items c.whole.result _ found one c.whole.ensures end) c.finish.ensures
+
+pub returns-clause-once : goal.returns-clause-once
+returns-clause-once g c =
+    let rule = g.G.Goal.rule c.args.goal.now in
+    let one : c.push.new.self.items ≡ c.whole.result ∷ [] = c.in_ok-push.ensures.items ∙ ap (λ (cells : List Cell). cells ++ c.whole.result ∷ []) c.in_ok-cells.ensures.items in
+    IfOk-weaker c.finish.result _ _ (λ found end tuple held. mult-held (whole_cell rule.axes) (map (λ box. box.0) (map box_of found.closed.items)) tuple (whole_certificate rule c.push.new.self.items c.whole.result _ found one c.whole.ensures end).frontier held) c.finish.ensures
 
 pub returns-clause-optimum : goal.returns-clause-optimum
 returns-clause-optimum g c =

@@ -1,12 +1,6 @@
-use Rattle.std.proofs.Common.{◌<◌, ◌^◌, ap, length, arith, rules}
+use Rattle.std.proofs.Common.{ap, length, arith}
 use Rattle.gl_triangle.proofs.Rounds.{length-fixes_of}
 use Rattle.gl_triangle.proofs.warm.count.Goals as goal
-
-pub overflow_cast-result : goal.overflow_cast-result
-overflow_cast-result c =
-    let g = c.args.goal.now in
-    let most : c.len.result < 2 ^ 32 = omega (arith, ap length c.hulls.ensures, length-fixes_of g, g.within, g.at_most_90000) in
-    search (rules, most)
 
 pub returns-clause-some : goal.returns-clause-some
 returns-clause-some c = omega (arith, ap length c.hulls.ensures, length-fixes_of c.args.goal.now)
