@@ -1,7 +1,7 @@
 ghost use Rattle.std.specs.Prelude.{◌≡◌, ◌+◌, ◌≤◌, ◌↔◌, ℕ, List, [], ◌∷◌, length, map, slice_get, IfOk, IfNone, IsNone, IsTrue};
 ghost use Rattle.std.specs.List.{AllZip};
 ghost use Rattle.gl_goal.specs.AnyGoal.{any_rule};
-ghost use Rattle.gl_goal.specs.Rule.{Rule};
+ghost use Rattle.gl_goal.specs.Rule.{IsOptimum, Rule};
 ghost use Rattle.gl_proof.specs.declared.claim.ClaimKind.{ClaimKind};
 ghost use Rattle.gl_proof.specs.Claim.{Statement, statement_of};
 ghost use Rattle.gl_day.specs.Checked.{Ends, GoesOn, IsFoundAt, IsNamed, IsSaid, Proceeds};
@@ -18,7 +18,9 @@ use std::alloc::{AllocError, Global};
 /// The fault that a verdict tells, if it tells one.
 fn fault_of_verdict(verdict: Verdict) -> Option<Fault>
     ensures { (expected : List ℕ × ClaimKind × Rule) (statement : Statement)
-        → IsSaid expected statement verdict → IsFoundAt expected (Some statement) result }
+        → IsSaid expected statement verdict
+        → (verdict ≡ Verdict.Yes → IsOptimum expected.2 statement.total)
+        → IsFoundAt expected (Some statement) result }
 {
     match verdict {
         Verdict::Yes => None,

@@ -52,6 +52,7 @@ fn penalty(
         rec.now.fixes judged.now }
     ensures kept { map (λ s. steward_rules (opening s) (fed s) (owed s)) stewards.new.items
         ≡ map (λ s. steward_rules (opening s) (fed s) (owed s)) stewards.old.items }
+    ensures untouched { judged.now ≡ Judged.NoStart → stewards.new ≡ stewards.old }
 {
     match judged {
         Judged::Finished { window, .. } => penalty_in(task, rec, *window, stewards),
@@ -72,7 +73,7 @@ fn outcome_of(judged: &Judged) -> Outcome
 }
 
 /// The flight of an entrant with a recording, once it is judged and all its claims are proved: `totals`
-/// are theirs. The stewards keep their rules.
+/// are theirs. The stewards keep their rules; a flight without a window leaves them as they are.
 pub fn finish_flight(
     task: &Task,
     entrant: &Entrant,
@@ -92,6 +93,7 @@ pub fn finish_flight(
         entrant.now (Some bytes) statements result }
     ensures kept { map (λ s. steward_rules (opening s) (fed s) (owed s)) stewards.new.items
         ≡ map (λ s. steward_rules (opening s) (fed s) (owed s)) stewards.old.items }
+    ensures untouched { judged.now ≡ Judged.NoStart → stewards.new ≡ stewards.old }
 {
     Flight {
         outcome: outcome_of(judged),

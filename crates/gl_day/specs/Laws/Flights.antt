@@ -7,6 +7,7 @@ use Rattle.std.proofs.lemmas.Bool.Decides.{nat_tests}
 use Rattle.std.proofs.lemmas.List.Elements.{All-cons, All-nil, All-tail}
 use Rattle.gl_airspace.specs.declared.volume.Airspace.{Airspace}
 use Rattle.gl_goal.specs.Laws.Existence.{some_certificate}
+use Rattle.gl_goal.specs.Laws.Optimum.{certificate_optimum}
 use Rattle.gl_goal.specs.Rule.{IsGoal, Rule}
 use Rattle.gl_igc.specs.declared.recording.Recording.{Recording}
 use Rattle.gl_judge.proofs.Times.{seconds-bound}
@@ -42,7 +43,12 @@ some_statement number kind rule goal =
         fixes = found.1;
         boxes = found.2;
       },
-      record { number = refl; kind = refl; certificate = found.3 },
+      record {
+        number = refl;
+        kind = refl;
+        certificate = found.3;
+        optimum = certificate_optimum rule found.0 found.1 found.2 goal found.3;
+      },
     )
 
 -- claims of goals have statements that prove them
