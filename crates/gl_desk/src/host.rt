@@ -1,27 +1,31 @@
-ghost use Rattle.std.specs.Prelude.{◌≡◌, ◌≤◌, ◌↔◌, length, IsTrue, IfOk, OnOk, OnErr};
-ghost use Rattle.std.specs.Io.KnownBytes.{Appends};
-ghost use Rattle.std.specs.IoError.{error_kind};
+ghost use Rattle.std.specs.Prelude.{◌≡◌, ◌≤◌, ◌↔◌, length, IsTrue, IfOk};
 ghost use Rattle.gl_desk.specs.Answers.{CountsFaults, stop_of};
-ghost use Rattle.gl_desk.specs.Desk.{TakesPrefix};
 ghost use Rattle.gl_desk.specs.Outcome.{IsWantOfMemory, Settles};
 
 use crate::desk::Desk;
 use crate::error::DeskError;
 use crate::listing::plain_names;
+use crate::made_file::{MadeFile, make};
 use crate::name::Name;
-use crate::system::{SystemError, open, open_to_append, read, seek, write};
+use crate::system::{SystemError, open, read, seek, write_whole};
 use std::alloc::Global;
 use std::io;
-use std::io::{ErrorKind, Write};
+use std::io::ErrorKind;
 use std::rt::Files;
 
 /// The current folder and the standard output. It tells nothing of what they hold.
 ///
 /// It counts each error of the system, and each write that takes nothing of a piece that isn't
 /// empty; the call is then answered [`DeskError::Failed`].
+///
+/// It appends to no file that it didn't make: the first piece for a name makes the file, and where
+/// anything stands under that name already, as a file, a link, a pipe, a device or a folder, it is
+/// left as it is, and the call fails. It keeps one file that it made, so after a piece for another
+/// name a further one for the first fails, too.
 #[derive(Drop)]
-pub struct HostDesk<Rt> {
+pub struct HostDesk<Rt: Files> {
     rt: Rt,
+    made: Option<MadeFile<Rt::File>>,
     faults: u64,
 }
 
@@ -30,11 +34,15 @@ impl<Rt: Files + Print> HostDesk<Rt> {
     pub fn new(rt: Rt) -> HostDesk<Rt>
         ensures { (⟦<HostDesk<Rt> as Desk>⟧.told result).faults ≡ 0 }
     {
-        HostDesk { rt, faults: 0 }
+        HostDesk {
+            rt,
+            made: None,
+            faults: 0,
+        }
     }
 }
 
-impl<Rt> HostDesk<Rt> {
+impl<Rt: Files> HostDesk<Rt> {
     /// Counts an error of the system, and turns it into the answer of a desk.
     fn settle<T>(&mut self, outcome: Result<T, SystemError>) -> Result<T, DeskError>
         ensures settled { Settles outcome result self.old.faults self.new.faults }
@@ -67,35 +75,18 @@ fn read_file<Rt: Files>(rt: &Rt, name: &str, at: u64, into: &mut [u8]) -> Result
     read(&mut file, into)
 }
 
-/// What a write is answered with that takes nothing of a piece that isn't empty.
-fn nothing_taken() -> SystemError
-    ensures { error_kind result.error ≡ ErrorKind.WriteZero }
-{
-    SystemError::from(io::Error::from(ErrorKind::WriteZero))
-}
-
-/// Writes all of `piece`, by as many writes as it takes. A write that takes nothing of what is left
-/// is an error. After an error a prefix of `piece` was written, perhaps an empty one.
-fn write_whole<W: Write>(to: &mut W, piece: &[u8]) -> Result<(), SystemError>
-    ensures whole { OnOk result (Appends (W.contents to.old) (W.contents to.new) piece.now) }
-    ensures prefix { OnErr result
-        (TakesPrefix piece.now (Appends (W.contents to.old) (W.contents to.new))) }
-{
-    let mut at = 0;
-    'parts: while at < piece.len() {
-        let taken = write(to, &piece[at..])?;
-        if taken == 0 {
-            return Err(nothing_taken());
-        }
-        at += taken;
+/// Adds `piece` to the file that was made under this name, which is made first where it wasn't.
+fn append_file<Rt: Files>(
+    rt: &Rt,
+    alloc: Global,
+    made: &mut Option<MadeFile<Rt::File>>,
+    name: &Name,
+    piece: &[u8],
+) -> Result<(), SystemError> {
+    match made {
+        Some(file) if file.is_called(name) => file.append(piece),
+        _ => made.insert(make(rt, alloc, name)?).append(piece),
     }
-    Ok(())
-}
-
-/// Adds `piece` to a file, which is made where it isn't there.
-fn append_file<Rt: Files>(rt: &Rt, name: &str, piece: &[u8]) -> Result<(), SystemError> {
-    let mut file = open_to_append(rt, name)?;
-    write_whole(&mut file, piece)
 }
 
 impl<Rt: Files + Print> Desk for HostDesk<Rt> {
@@ -119,8 +110,8 @@ impl<Rt: Files + Print> Desk for HostDesk<Rt> {
         self.settle(read)
     }
 
-    fn append(&mut self, _alloc: Global, name: &Name, piece: &[u8]) -> Result<(), DeskError> {
-        let written = append_file(&self.rt, name.as_str(), piece);
+    fn append(&mut self, alloc: Global, name: &Name, piece: &[u8]) -> Result<(), DeskError> {
+        let written = append_file(&self.rt, alloc, &mut self.made, name, piece);
         self.settle(written)
     }
 

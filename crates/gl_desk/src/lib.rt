@@ -6,6 +6,7 @@ pub mod desk;
 pub mod error;
 pub mod host;
 mod listing;
+mod made_file;
 pub mod mem;
 mod mem_file;
 pub mod name;

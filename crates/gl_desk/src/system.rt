@@ -1,9 +1,11 @@
-ghost use Rattle.std.specs.Prelude.{◌≡◌, ◌≤◌, length, take, IfOk, OnErr};
+ghost use Rattle.std.specs.Prelude.{◌≡◌, ◌≤◌, length, take, IfOk, OnOk, OnErr};
 ghost use Rattle.std.specs.Io.KnownBytes.{Appends};
+ghost use Rattle.std.specs.IoError.{error_kind};
+ghost use Rattle.gl_desk.specs.Desk.{TakesPrefix};
 
 use std::fs::{File, OpenOptions};
 use std::io;
-use std::io::{Read, Seek, SeekFrom, Write};
+use std::io::{ErrorKind, Read, Seek, SeekFrom, Write};
 use std::rt::Files;
 
 /// An error of the system on its way to the desk's count of faults.
@@ -27,9 +29,15 @@ pub fn open<Rt: Files>(rt: &Rt, name: &str) -> Result<Rt::File, SystemError> {
     Ok(File::open(rt, name)?)
 }
 
-/// Opens a file to append to it. It is made where it isn't there.
-pub fn open_to_append<Rt: Files>(rt: &Rt, name: &str) -> Result<Rt::File, SystemError> {
-    Ok(OpenOptions::new().append(true).create(true).open(rt, name)?)
+/// Makes a file to append to it. Where something stands under the name already, be it a link that
+/// leads nowhere, it is an error.
+pub fn open_new<Rt: Files>(rt: &Rt, name: &str) -> Result<Rt::File, SystemError> {
+    Ok(
+        OpenOptions::new()
+            .append(true)
+            .create_new(true)
+            .open(rt, name)?,
+    )
 }
 
 /// Goes to a place of a file.
@@ -46,7 +54,7 @@ pub fn read<F: Read>(file: &mut F, into: &mut [u8]) -> Result<usize, SystemError
 }
 
 /// Writes a first part of the piece, and answers how many bytes. An error wrote nothing.
-pub fn write<W: Write>(to: &mut W, piece: &[u8]) -> Result<usize, SystemError>
+fn write<W: Write>(to: &mut W, piece: &[u8]) -> Result<usize, SystemError>
     ensures bound { IfOk result (λ n. n ≤ length piece.now) }
     ensures bytes { IfOk result (λ n.
         Appends (W.contents to.old) (W.contents to.new) (take n piece.now)) }
@@ -54,4 +62,29 @@ pub fn write<W: Write>(to: &mut W, piece: &[u8]) -> Result<usize, SystemError>
         (Appends (W.contents to.old) (W.contents to.new) (take 0 piece.now)) }
 {
     Ok(to.write(piece)?)
+}
+
+/// What a write is answered with that takes nothing of a piece that isn't empty.
+fn nothing_taken() -> SystemError
+    ensures { error_kind result.error ≡ ErrorKind.WriteZero }
+{
+    SystemError::from(io::Error::from(ErrorKind::WriteZero))
+}
+
+/// Writes all of `piece`, by as many writes as it takes. A write that takes nothing of what is left
+/// is an error. After an error a prefix of `piece` was written, perhaps an empty one.
+pub fn write_whole<W: Write>(to: &mut W, piece: &[u8]) -> Result<(), SystemError>
+    ensures whole { OnOk result (Appends (W.contents to.old) (W.contents to.new) piece.now) }
+    ensures prefix { OnErr result
+        (TakesPrefix piece.now (Appends (W.contents to.old) (W.contents to.new))) }
+{
+    let mut at = 0;
+    'parts: while at < piece.len() {
+        let taken = write(to, &piece[at..])?;
+        if taken == 0 {
+            return Err(nothing_taken());
+        }
+        at += taken;
+    }
+    Ok(())
 }

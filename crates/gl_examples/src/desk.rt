@@ -220,15 +220,22 @@ struct Refusals {
     say: Option<DeskError>,
 }
 
-/// Makes each call of a desk over a system that is broken in this way.
-fn try_each_call<R: Files + Drop>(real: R, alloc: Global, broken: Broken, name: &Name) -> Refusals {
+/// Makes each call of a desk over a system that is broken in this way. It reads one file and makes
+/// the other.
+fn try_each_call<R: Files + Drop>(
+    real: R,
+    alloc: Global,
+    broken: Broken,
+    name: &Name,
+    other: &Name,
+) -> Refusals {
     let mut system = OddSystem::new(real);
     system.broken = broken;
     let mut desk = HostDesk::new(system);
     Refusals {
         names: desk.names(alloc).err(),
         read: read_all(alloc, &mut desk, name, 99).err(),
-        append: desk.append(alloc, name, b"x").err(),
+        append: desk.append(alloc, other, b"x").err(),
         say: desk.say(alloc, b"x").err(),
     }
 }
@@ -237,6 +244,7 @@ fn try_each_call<R: Files + Drop>(real: R, alloc: Global, broken: Broken, name: 
 fn each_error_of_the_system_is_a_fault(rt: HostRuntime) -> Result<(), Fail> {
     let alloc = rt.alloc();
     let name = Name::from_text(alloc, "FAULTY.BIN")?;
+    let other = Name::from_text(alloc, "FRESH.BIN")?;
     HostDesk::new(&rt).append(alloc, &name, b"x")?;
     let failed = Some(DeskError::Failed);
     let fault = Some(ReadError::Fault);
@@ -256,7 +264,8 @@ fn each_error_of_the_system_is_a_fault(rt: HostRuntime) -> Result<(), Fail> {
             append,
             say,
         };
-        let found = try_each_call(&rt, alloc, broken, &name);
+        let found = try_each_call(&rt, alloc, broken, &name, &other);
+        fs::remove_file(&rt, "FRESH.BIN")?;
         assert_eq!(rt; found, expected, "with a broken {broken:?}");
     }
     fs::remove_file(&rt, "FAULTY.BIN")?;
@@ -336,5 +345,63 @@ fn a_file_is_read_from_a_place_on(rt: HostRuntime) -> Result<(), Fail> {
         assert!(rt; found == expected, "from {at} on");
     }
     fs::remove_file(&rt, "PLACES.BIN")?;
+    Ok(())
+}
+
+/// The text of a small file.
+fn text_of<R: Files>(rt: &R, alloc: Global, name: &str) -> Result<String, Fail> {
+    Ok(fs::read_to_string(&(rt, alloc), name)?)
+}
+
+/// A file, a link to one, a link that leads nowhere, a folder and a device stand under a name.
+#[test]
+fn what_stands_under_a_name_already_is_never_written_to(rt: HostRuntime) -> Result<(), Fail> {
+    let alloc = rt.alloc();
+    let there = Name::from_text(alloc, "THERE.TXT")?;
+    HostDesk::new(&rt).append(alloc, &there, b"old")?;
+    symlink(&rt, "THERE.TXT", "LINK.TXT")?;
+    symlink(&rt, "NOWHERE.TXT", "LOOSE.TXT")?;
+    fs::create_dir(&rt, "FOLDER.TXT")?;
+    for name in [
+        "THERE.TXT",
+        "LINK.TXT",
+        "LOOSE.TXT",
+        "FOLDER.TXT",
+        "/dev/null",
+    ] {
+        let name = Name::from_text(alloc, name)?;
+        let mut desk = HostDesk::new(&rt);
+        for _ in 0..2 {
+            let appended = desk.append(alloc, &name, b"new");
+            assert_eq!(rt; appended, Err(DeskError::Failed), "{}", name.as_str());
+        }
+    }
+    assert_eq!(rt; text_of(&rt, alloc, "THERE.TXT")?.as_str(), "old");
+    assert!(rt; fs::symlink_metadata(&rt, "NOWHERE.TXT").is_err());
+    fs::remove_file(&rt, "LINK.TXT")?;
+    fs::remove_file(&rt, "LOOSE.TXT")?;
+    fs::remove_dir(&rt, "FOLDER.TXT")?;
+    fs::remove_file(&rt, "THERE.TXT")?;
+    Ok(())
+}
+
+/// Between two pieces another file takes the name of the one that was made.
+#[test]
+fn all_pieces_go_to_the_file_that_was_made(rt: HostRuntime) -> Result<(), Fail> {
+    let alloc = rt.alloc();
+    let name = Name::from_text(alloc, "GROWS.TXT")?;
+    let mut desk = HostDesk::new(&rt);
+    desk.append(alloc, &name, b"one ")?;
+    fs::rename(&rt, "GROWS.TXT", "MOVED.TXT")?;
+    HostDesk::new(&rt).append(alloc, &name, b"other")?;
+    desk.append(alloc, &name, b"two")?;
+    let texts = [
+        text_of(&rt, alloc, "MOVED.TXT")?,
+        text_of(&rt, alloc, "GROWS.TXT")?,
+    ];
+    fs::remove_file(&rt, "MOVED.TXT")?;
+    fs::remove_file(&rt, "GROWS.TXT")?;
+    assert_eq!(rt; texts[0].as_str(), "one two");
+    assert_eq!(rt; texts[1].as_str(), "other");
     Ok(())
 }

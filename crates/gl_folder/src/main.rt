@@ -77,9 +77,10 @@ fn main(rt: HostRuntime) -> Result<(), DeskError> {
         let name = Name::from_text(alloc, name)?;
         show(alloc, &mut desk, &name, LONGEST)?;
     }
-    // The one can't be opened to append; of the other, a full device, each write fails.
+    // Something stands under each of these names already, and is left as it is.
     append(alloc, &mut desk, "SUB.DIR", b"x")?;
-    append(alloc, &mut desk, "/dev/full", b"x")?;
+    append(alloc, &mut desk, "ONE.BIN", b"x")?;
+    append(alloc, &mut desk, "/dev/null", b"x")?;
     append(alloc, &mut desk, "NEW.BIN", b"")?;
     append(alloc, &mut desk, "PARTS.BIN", b"one")?;
     append(alloc, &mut desk, "PARTS.BIN", b"two")?;

@@ -1,6 +1,6 @@
 use Rattle.std.proofs.Common.{◌-◌, ◌≤◌, length, take}
 use Rattle.std.specs.Io.KnownBytes.{Appends}
-use Rattle.gl_desk.proofs.host.write_whole.Given as goal
+use Rattle.gl_desk.proofs.system.write_whole.Given as goal
 
 -- what was taken so far was written, and nothing else
 abbrev pub invariant-parts : goal.invariant-parts

@@ -1,7 +1,7 @@
 use Rattle.std.proofs.Common.{arith, length-drop}
 use Rattle.std.proofs.lemmas.List.{take_rest}
 use Rattle.gl_desk.proofs.Pieces.{written_part_grows}
-use Rattle.gl_desk.proofs.host.write_whole.Goals as goal
+use Rattle.gl_desk.proofs.system.write_whole.Goals as goal
 
 pub parts-preserved : goal.parts-preserved
 parts-preserved g c = record {
