@@ -1,6 +1,7 @@
 -- A text has one task.
 use Rattle.std.proofs.Common.{◌≡◌, ◌∙◌, refl, sym, ap, subst, ℕ, ◌≤◌, ◌<◌, false, List, [], ◌∷◌, length, map, Option, None, Some, codes, pos}
 use Rattle.std.specs.Prelude.{IsTrue, is_some, option_map, option_and_then, ◌≤ℤ◌}
+use Rattle.std.specs.List.{list_all}
 use Rattle.std.specs.Option.{ForSome}
 use Rattle.std.proofs.Props.{props}
 use mathlib.Core.HLevel.{is_prop→PathP}
@@ -24,10 +25,10 @@ use Rattle.gl_task.specs.declared.task.Start.{Start}
 use Rattle.gl_task.specs.declared.task.Task.{Task}
 use Rattle.gl_task.specs.Forms.{is_file_name, is_number, is_name}
 use Rattle.gl_task.specs.Keys.{table_at, table_of}
-use Rattle.gl_task.specs.Limits.{greatest_altitude, greatest_handicap, greatest_noise, last_second, longest_wait, most_entrants, most_points, most_zones, widest_window}
+use Rattle.gl_task.specs.Limits.{first_day, greatest_altitude, greatest_handicap, greatest_noise, last_day, last_second, longest_wait, most_entrants, most_points, most_zones, widest_window}
 use Rattle.gl_task.specs.Meaning.{Each, IsEntrant, IsFinishOf, IsKind, IsLine, IsPart, IsPilotStart, IsRulesOf, IsSector, IsStart, IsTask, IsZone}
 use Rattle.gl_task.specs.Numbers.{all_differ}
-use Rattle.gl_task.specs.Ranges.{has_minimum, has_radius}
+use Rattle.gl_task.specs.Ranges.{has_minimum, has_width_and_way, is_in_range, is_round_its_centre}
 use Rattle.gl_task.specs.Reading.{IsReadFrom}
 use Rattle.gl_app.proofs.Readings.{document_same}
 
@@ -81,13 +82,15 @@ pilot_one table (Some v) (Some w) is_v is_w =
 
 start_one : (file : Members) (v w : Start) → IsStart file v → IsStart file w → v ≡ w
 start_one file v w is_v is_w =
+    let line = line_one (table_at (codes "start") file) v.line w.line is_v.line is_w.line in
     let opens = one _ v.opens w.opens is_v.opens is_w.opens in
     let close = one _ v.close w.close is_v.close is_w.close in
     λ i. record {
-      line = line_one (table_at (codes "start") file) v.line w.line is_v.line is_w.line i;
+      line = line i;
       opens = opens i;
       close = close i;
       pilot = pilot_one (table_at (codes "start") file) v.pilot w.pilot is_v.pilot is_w.pilot i;
+      line_in_range = is_prop→PathP (λ j. IsTrue (has_width_and_way (line j))) (λ j. hlevel props) v.line_in_range w.line_in_range i;
       opens_at_least = is_prop→PathP (λ j. pos 0 ≤ℤ opens j) (λ j. hlevel props) v.opens_at_least w.opens_at_least i;
       ordered = is_prop→PathP (λ j. opens j ≤ℤ close j) (λ j. hlevel props) v.ordered w.ordered i;
       close_at_most = is_prop→PathP (λ j. close j ≤ℤ pos last_second) (λ j. hlevel props) v.close_at_most w.close_at_most i;
@@ -196,6 +199,7 @@ entrant_one value v w is_v is_w =
 
 pub task_one : (file : Members) (v w : Task) → IsTask file v → IsTask file w → v ≡ w
 task_one file v w is_v is_w =
+    let date = one _ v.date w.date is_v.date is_w.date in
     let kind = kind_one file v.kind w.kind is_v.kind_is is_w.kind_is in
     let closes = one _ v.closes w.closes is_v.closes is_w.closes in
     let airspace = sym is_v.airspace ∙ is_w.airspace in
@@ -203,7 +207,7 @@ task_one file v w is_v is_w =
     let finish = finish_one (table_at (codes "finish") file) v.finish w.finish is_v.finish is_w.finish in
     let entrants = each_one IsEntrant entrant_one _ v.entrants w.entrants is_v.entrants is_w.entrants in
     λ i. record {
-      date = one _ v.date w.date is_v.date is_w.date i;
+      date = date i;
       kind = kind i;
       closes = closes i;
       airspace = airspace i;
@@ -214,13 +218,16 @@ task_one file v w is_v is_w =
       finish = finish i;
       rules = rules_one (table_at (codes "rules") file) v.rules w.rules is_v.rules is_w.rules i;
       entrants = entrants i;
+      date_at_least = is_prop→PathP (λ j. pos first_day ≤ℤ date j) (λ j. hlevel props) v.date_at_least w.date_at_least i;
+      date_at_most = is_prop→PathP (λ j. date j ≤ℤ pos last_day) (λ j. hlevel props) v.date_at_most w.date_at_most i;
       minimum_in_range = is_prop→PathP (λ j. IsTrue (has_minimum (kind j))) (λ j. hlevel props) v.minimum_in_range w.minimum_in_range i;
       closes_at_least = is_prop→PathP (λ j. pos 1 ≤ℤ closes j) (λ j. hlevel props) v.closes_at_least w.closes_at_least i;
       closes_at_most = is_prop→PathP (λ j. closes j ≤ℤ pos last_second) (λ j. hlevel props) v.closes_at_most w.closes_at_most i;
       airspace_form = is_prop→PathP (λ j. ForSome (airspace j) (λ file. IsTrue (is_file_name file))) (λ j. hlevel props) v.airspace_form w.airspace_form i;
       some_zone = is_prop→PathP (λ j. 1 ≤ length (zones j)) (λ j. hlevel props) v.some_zone w.some_zone i;
       at_most_eight_zones = is_prop→PathP (λ j. length (zones j) ≤ most_zones) (λ j. hlevel props) v.at_most_eight_zones w.at_most_eight_zones i;
-      radius_in_range = is_prop→PathP (λ j. IsTrue (has_radius (finish j))) (λ j. hlevel props) v.radius_in_range w.radius_in_range i;
+      zones_round = is_prop→PathP (λ j. IsTrue (list_all is_round_its_centre (zones j))) (λ j. hlevel props) v.zones_round w.zones_round i;
+      finish_in_range = is_prop→PathP (λ j. IsTrue (is_in_range (finish j))) (λ j. hlevel props) v.finish_in_range w.finish_in_range i;
       some_entrant = is_prop→PathP (λ j. 1 ≤ length (entrants j)) (λ j. hlevel props) v.some_entrant w.some_entrant i;
       at_most_200_entrants = is_prop→PathP (λ j. length (entrants j) ≤ most_entrants) (λ j. hlevel props) v.at_most_200_entrants w.at_most_200_entrants i;
       numbers_differ = is_prop→PathP (λ j. IsTrue (all_differ (map (λ (entrant : Entrant). entrant.number) (entrants j)))) (λ j. hlevel props) v.numbers_differ w.numbers_differ i;

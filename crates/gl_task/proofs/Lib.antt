@@ -1,8 +1,10 @@
 pub mod CleanLemmas
+pub mod DayLemmas
 pub mod EachLemmas
 pub mod ListLemmas
 pub mod NumberLemmas
 pub mod PlaceLemmas
 pub mod Refusals
+pub mod RoundLemmas
 pub mod TestLemmas
 pub mod TwiceLemmas

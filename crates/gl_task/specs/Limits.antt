@@ -1,6 +1,14 @@
 -- The limits of a task, as its types keep them. Lengths are in centimetres.
 use Rattle.std.specs.Prelude.{ℕ}
 
+-- the first and the last day of a task, 2000-01-01 and 2099-12-31, as the number of days from
+-- 1970-01-01
+abbrev pub first_day : ℕ
+first_day = 10_957
+
+abbrev pub last_day : ℕ
+last_day = 47_481
+
 -- the last second that a task can name
 abbrev pub last_second : ℕ
 last_second = 100_000

@@ -1,6 +1,7 @@
 ghost use Rattle.std.specs.Prelude.{◌≤◌, IsTrue, length};
+ghost use Rattle.std.specs.List.{list_all};
 ghost use Rattle.gl_task.specs.Limits.{most_zones};
-ghost use Rattle.gl_task.specs.Ranges.{has_radius};
+ghost use Rattle.gl_task.specs.Ranges.{is_in_range, is_round_its_centre};
 
 use crate::day_type::Finish;
 use crate::task::Start;
@@ -15,5 +16,6 @@ pub struct Course {
     pub finish: Finish,
     pub ghost some_zone: { 1 ≤ length zones },
     pub ghost at_most_eight_zones: { length zones ≤ most_zones },
-    pub ghost radius_in_range: { IsTrue (has_radius finish) },
+    pub ghost zones_round: { IsTrue (list_all is_round_its_centre zones) },
+    pub ghost finish_in_range: { IsTrue (is_in_range finish) },
 }

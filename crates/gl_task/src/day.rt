@@ -1,5 +1,6 @@
-ghost use Rattle.std.specs.Prelude.{◌≡◌, ◌<◌};
+ghost use Rattle.std.specs.Prelude.{◌≡◌, ◌<◌, ◌≤ℤ◌, pos, IfSome};
 ghost use Rattle.toml.specs.View.{view};
+ghost use Rattle.gl_task.specs.Limits.{first_day, last_day};
 ghost use Rattle.gl_task.specs.Values.{day, day_of, recent_day};
 
 use gl_igc::day_number;
@@ -15,11 +16,13 @@ const FIRST_YEAR: u32 = 2_000;
 const LAST_YEAR: u32 = 2_099;
 
 /// The day number of a day in the years 2000 to 2099.
-#[tactic(auto, unfolding(crate::specs::Values::recent_day))]
+#[tactic(auto, unfolding(crate::specs::Values::recent_day), using(crate::proofs::DayLemmas::recent_range))]
 fn recent_day(year: u32, month: u32, day: u32) -> Option<i32>
     requires month { month < 100 }
     requires day { day < 100 }
-    ensures { result ≡ recent_day year month day }
+    ensures day { result ≡ recent_day year month day }
+    ensures range { IfSome result
+        (λ number. (pos first_day ≤ℤ number) × (number ≤ℤ pos last_day)) }
 {
     if FIRST_YEAR <= year && year <= LAST_YEAR {
         day_number(year, month, day)
@@ -32,7 +35,9 @@ fn recent_day(year: u32, month: u32, day: u32) -> Option<i32>
 /// `None` where the text hasn't that form or the calendar hasn't the day.
 #[tactic(auto, unfolding(crate::specs::Values::day_of))]
 fn day_of(text: &[u8]) -> Option<i32>
-    ensures { result ≡ day_of text.now }
+    ensures day { result ≡ day_of text.now }
+    ensures range { IfSome result
+        (λ number. (pos first_day ≤ℤ number) × (number ≤ℤ pos last_day)) }
 {
     if text.len() != DAY_LENGTH || text[4] != b'-' || text[7] != b'-' {
         return None;
@@ -45,7 +50,9 @@ fn day_of(text: &[u8]) -> Option<i32>
 
 /// The day of a value.
 pub fn day(value: &Value) -> Option<i32>
-    ensures { result ≡ day (view value.now) }
+    ensures day { result ≡ day (view value.now) }
+    ensures range { IfSome result
+        (λ number. (pos first_day ≤ℤ number) × (number ≤ℤ pos last_day)) }
 {
     day_of(value.as_str()?.as_bytes())
 }

@@ -7,7 +7,7 @@ ghost use Rattle.toml.specs.View.{table_view};
 ghost use Rattle.gl_task.specs.Keys.{first_failed, said};
 ghost use Rattle.gl_task.specs.Meaning.{IsFinish, IsLine};
 ghost use Rattle.gl_task.specs.Places.{place};
-ghost use Rattle.gl_task.specs.Ranges.{has_radius};
+ghost use Rattle.gl_task.specs.Ranges.{has_width_and_way, is_in_range};
 ghost use Rattle.gl_task.specs.Tests.{finish_tests, gate_tests};
 ghost use Rattle.std.specs.Prelude.{codes};
 
@@ -25,6 +25,7 @@ use toml::Table;
 fn read_gate(table: &Table, at: Grid) -> Result<Line, TaskError>
     requires { said (codes "at") place (table_view table.now) ≡ Some at }
     ensures ok { IfOk result (IsLine (table_view table.now)) }
+    ensures range { IfOk result (λ line. IsTrue (has_width_and_way line)) }
     ensures passes { IfOk result (λ line. first_failed (gate_tests (table_view table.now)) ≡ None) }
     ensures refused { IfErr result
         (λ e. first_failed (gate_tests (table_view table.now)) ≡ Some e) }
@@ -42,7 +43,7 @@ fn read_gate(table: &Table, at: Grid) -> Result<Line, TaskError>
 #[tactic(auto, unfolding(crate::specs::Tests::finish_tests))]
 pub fn read_finish(file: &Table) -> Result<Finish, TaskError>
     ensures ok { IfOk result (IsFinish (table_view file.now)) }
-    ensures range { IfOk result (λ finish. IsTrue (has_radius finish)) }
+    ensures range { IfOk result (λ finish. IsTrue (is_in_range finish)) }
     ensures passes { IfOk result
         (λ finish. first_failed (finish_tests (table_view file.now)) ≡ None) }
     ensures refused { IfErr result

@@ -1,11 +1,12 @@
-ghost use Rattle.std.specs.Prelude.{◌≡◌, ◌≤◌, None, Some, option_map, IfOk, IfErr, IfSome, IsTrue, OnOk, is_some, length, map};
+ghost use Rattle.std.specs.Prelude.{◌≡◌, ◌≤◌, ◌≤ℤ◌, pos, not, None, Some, option_map, IfOk, IfErr, IfSome, IsTrue, OnOk, is_some, length, map};
 ghost use Rattle.std.specs.Option.{ForSome};
 ghost use Rattle.toml.specs.Data.{get_member, as_table};
 ghost use Rattle.toml.specs.View.{view, table_view};
 ghost use Rattle.gl_task.specs.declared.error.TaskError.TheVariants.{Missing};
 ghost use Rattle.gl_task.specs.Forms.{is_file_name, is_name, is_number};
 ghost use Rattle.gl_task.specs.Keys.{needed, optional, right_value, said, list_of, key_of, some_item, at_most};
-ghost use Rattle.gl_task.specs.Places.{place, place_away_from};
+ghost use Rattle.gl_task.specs.Limits.{first_day, last_day};
+ghost use Rattle.gl_task.specs.Places.{is_same_point, place, place_away_from};
 ghost use Rattle.gl_task.specs.Values.{day as date, file_name, kind, name as name_of, number, whole};
 ghost use Rattle.gl_task.specs.Words.{kind_word};
 
@@ -116,6 +117,7 @@ pub fn needed_place_away_from(
         (λ x. needed key name.now (place_away_from (Some from)) (table_view table.now) ≡ None) }
     ensures refused { IfErr result
         (λ e. needed key name.now (place_away_from (Some from)) (table_view table.now) ≡ Some e) }
+    ensures apart { IfOk result (λ x. IsTrue (not (is_same_point from x))) }
 {
     let value = needed(table, name, key)?;
     value::place_away_from(from, value).ok_or(TaskError::Value(key))
@@ -194,6 +196,7 @@ pub fn needed_day(table: &Table, name: &str, key: Key) -> Result<i32, TaskError>
         (λ x. needed key name.now date (table_view table.now) ≡ None) }
     ensures refused { IfErr result
         (λ e. needed key name.now date (table_view table.now) ≡ Some e) }
+    ensures range { IfOk result (λ x. (pos first_day ≤ℤ x) × (x ≤ℤ pos last_day)) }
 {
     let value = needed(table, name, key)?;
     day(value).ok_or(TaskError::Value(key))

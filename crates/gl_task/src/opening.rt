@@ -1,7 +1,7 @@
 ghost use Rattle.std.specs.Prelude.{◌≤ℤ◌, pos, IsTrue};
 ghost use Rattle.std.specs.Option.{ForSome};
 ghost use Rattle.gl_task.specs.Forms.{is_file_name};
-ghost use Rattle.gl_task.specs.Limits.{last_second};
+ghost use Rattle.gl_task.specs.Limits.{first_day, last_day, last_second};
 ghost use Rattle.gl_task.specs.Ranges.{has_minimum};
 
 use crate::day_type::Kind;
@@ -14,6 +14,8 @@ pub struct Day {
     pub kind: Kind,
     pub closes: i32,
     pub airspace: Option<Name>,
+    pub ghost date_at_least: { pos first_day ≤ℤ date },
+    pub ghost date_at_most: { date ≤ℤ pos last_day },
     pub ghost minimum_in_range: { IsTrue (has_minimum kind) },
     pub ghost closes_at_least: { pos 1 ≤ℤ closes },
     pub ghost closes_at_most: { closes ≤ℤ pos last_second },

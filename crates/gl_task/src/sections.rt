@@ -1,10 +1,11 @@
 ghost use Rattle.std.specs.Prelude.{◌≡◌, ◌≢◌, ◌≤◌, None, Some, IfOk, IfErr, IsTrue, codes, length, map, vec_len};
+ghost use Rattle.std.specs.List.{list_all};
 ghost use Rattle.toml.specs.View.{table_view};
 ghost use Rattle.gl_task.specs.declared.error.TaskError.TheVariants.{Memory};
 ghost use Rattle.gl_task.specs.Keys.{first_failed, list_at};
 ghost use Rattle.gl_task.specs.Meaning.{Each, IsEntrant, IsFinish, IsRules, IsZone};
 ghost use Rattle.gl_task.specs.Numbers.{all_differ};
-ghost use Rattle.gl_task.specs.Ranges.{has_radius};
+ghost use Rattle.gl_task.specs.Ranges.{is_in_range, is_round_its_centre};
 ghost use Rattle.gl_task.specs.Sections.{IsCourse, IsDay, IsHead};
 ghost use Rattle.gl_task.specs.Tests.{course_tests, day_tests, head_tests, numbered_tests, people_tests, plan_tests, way_tests};
 
@@ -69,8 +70,9 @@ fn read_way(alloc: Global, file: &Table) -> Result<(Vec<Zone>, Finish), TaskErro
         (λ way. Each IsZone (list_at (codes "zone") (table_view file.now)) way.0.items) }
     ensures some { IfOk result (λ way. 1 ≤ vec_len way.0) }
     ensures few { IfOk result (λ way. vec_len way.0 ≤ 8) }
+    ensures round { IfOk result (λ way. IsTrue (list_all is_round_its_centre way.0.items)) }
     ensures finish { IfOk result (λ way. IsFinish (table_view file.now) way.1) }
-    ensures range { IfOk result (λ way. IsTrue (has_radius way.1)) }
+    ensures range { IfOk result (λ way. IsTrue (is_in_range way.1)) }
     ensures passes { IfOk result (λ way. first_failed (way_tests (table_view file.now)) ≡ None) }
     ensures refused { IfErr result (λ e. e ≢ Memory
         → first_failed (way_tests (table_view file.now)) ≡ Some e) }

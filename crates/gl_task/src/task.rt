@@ -1,9 +1,10 @@
 ghost use Rattle.std.specs.Prelude.{◌≡◌, ◌≤◌, ◌≤ℤ◌, pos, IsTrue, length, map};
+ghost use Rattle.std.specs.List.{list_all};
 ghost use Rattle.std.specs.Option.{ForSome};
 ghost use Rattle.gl_task.specs.Forms.{is_file_name, is_number, is_name};
-ghost use Rattle.gl_task.specs.Limits.{greatest_altitude, greatest_handicap, greatest_noise, last_second, longest_wait, most_entrants, most_points, most_zones, widest_window};
+ghost use Rattle.gl_task.specs.Limits.{first_day, greatest_altitude, greatest_handicap, greatest_noise, last_day, last_second, longest_wait, most_entrants, most_points, most_zones, widest_window};
 ghost use Rattle.gl_task.specs.Numbers.{all_differ};
-ghost use Rattle.gl_task.specs.Ranges.{has_minimum, has_radius};
+ghost use Rattle.gl_task.specs.Ranges.{has_minimum, has_width_and_way, is_in_range, is_round_its_centre};
 ghost use Rattle.gl_zone.specs.Limits.{greatest_length};
 
 use crate::day_type::{Finish, Kind};
@@ -34,6 +35,7 @@ pub struct Start {
     pub close: i32,
     /// How it is announced, if it has to be.
     pub pilot: Option<PilotStart>,
+    pub ghost line_in_range: { IsTrue (has_width_and_way line) },
     pub ghost opens_at_least: { pos 0 ≤ℤ opens },
     pub ghost ordered: { opens ≤ℤ close },
     pub ghost close_at_most: { close ≤ℤ pos last_second },
@@ -82,7 +84,7 @@ pub struct Entrant {
 /// The task of a day.
 #[derive(Debug, Drop)]
 pub struct Task {
-    /// The day, as the number of days from 1970-01-01.
+    /// The day, as the number of days from 1970-01-01: one of the years 2000 to 2099.
     pub date: i32,
     pub kind: Kind,
     /// The last second of the day that counts.
@@ -98,13 +100,16 @@ pub struct Task {
     pub finish: Finish,
     pub rules: LocalRules,
     pub entrants: Items<Entrant>,
+    pub ghost date_at_least: { pos first_day ≤ℤ date },
+    pub ghost date_at_most: { date ≤ℤ pos last_day },
     pub ghost minimum_in_range: { IsTrue (has_minimum kind) },
     pub ghost closes_at_least: { pos 1 ≤ℤ closes },
     pub ghost closes_at_most: { closes ≤ℤ pos last_second },
     pub ghost airspace_form: { ForSome airspace (λ file. IsTrue (is_file_name file)) },
     pub ghost some_zone: { 1 ≤ length zones },
     pub ghost at_most_eight_zones: { length zones ≤ most_zones },
-    pub ghost radius_in_range: { IsTrue (has_radius finish) },
+    pub ghost zones_round: { IsTrue (list_all is_round_its_centre zones) },
+    pub ghost finish_in_range: { IsTrue (is_in_range finish) },
     pub ghost some_entrant: { 1 ≤ length entrants },
     pub ghost at_most_200_entrants: { length entrants ≤ most_entrants },
     pub ghost numbers_differ: { IsTrue (all_differ (map (λ entrant. entrant.number) entrants)) },

@@ -1,4 +1,4 @@
-ghost use Rattle.std.specs.Prelude.{◌≡◌, ◌<◌, option_map, option_and_then, map, Some, IfSome, IsTrue};
+ghost use Rattle.std.specs.Prelude.{◌≡◌, ◌<◌, option_map, option_and_then, map, Some, IfSome, IsTrue, not};
 ghost use Rattle.gl_sphere.specs.declared.place.Grid.{Grid};
 ghost use Rattle.std.specs.Ordering.{int_eq};
 ghost use Rattle.toml.specs.Data.{as_table};
@@ -111,7 +111,8 @@ fn is_same_point(a: Grid, b: Grid) -> bool
 /// A place, where it is another point than the first.
 #[tactic(auto, unfolding(crate::specs::Places::other_point))]
 fn other_point(from: Grid, to: Grid) -> Option<Grid>
-    ensures { result ≡ other_point from to }
+    ensures point { result ≡ other_point from to }
+    ensures apart { IfSome result (λ other. IsTrue (not (is_same_point from other))) }
 {
     if is_same_point(from, to) {
         None
@@ -122,7 +123,8 @@ fn other_point(from: Grid, to: Grid) -> Option<Grid>
 
 /// The place of a value, where it is another point than `from`.
 pub fn place_away_from(from: Grid, value: &Value) -> Option<Grid>
-    ensures { result ≡ place_away_from (Some from) (view value.now) }
+    ensures point { result ≡ place_away_from (Some from) (view value.now) }
+    ensures apart { IfSome result (λ other. IsTrue (not (is_same_point from other))) }
 {
     other_point(from, place(value)?)
 }

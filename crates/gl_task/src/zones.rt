@@ -1,9 +1,11 @@
-ghost use Rattle.std.specs.Prelude.{◌≡◌, ◌≢◌, ◌≤◌, None, Some, IfOk, IfErr, length, map, vec_len, codes};
+ghost use Rattle.std.specs.Prelude.{◌≡◌, ◌≢◌, ◌≤◌, None, Some, IfOk, IfErr, IsTrue, length, map, vec_len, codes};
+ghost use Rattle.std.specs.List.{list_all};
 ghost use Rattle.gl_sphere.specs.declared.place.Grid.{Grid};
 ghost use Rattle.toml.specs.View.{table_view, view};
 ghost use Rattle.gl_task.specs.declared.error.TaskError.TheVariants.{Memory};
 ghost use Rattle.gl_task.specs.Keys.{each_item, first_failed, list_at};
 ghost use Rattle.gl_task.specs.Meaning.{Each, IsPart, IsZone};
+ghost use Rattle.gl_task.specs.Ranges.{is_round_its_centre};
 ghost use Rattle.gl_task.specs.Tests.{part_tests, zone_tests, zones_tests};
 
 use crate::error::TaskError;
@@ -63,12 +65,13 @@ impl ReadItem for ZoneReader {
 }
 
 /// The zones of a task.
-#[tactic(auto, unfolding(crate::specs::Tests::zones_tests))]
+#[tactic(auto, unfolding(crate::specs::Tests::zones_tests), using(crate::proofs::RoundLemmas::zones_are_round))]
 pub fn read_zones(alloc: Global, file: &Table) -> Result<Vec<Zone>, TaskError>
     ensures ok { IfOk result
         (λ zones. Each IsZone (list_at (codes "zone") (table_view file.now)) zones.items) }
     ensures some { IfOk result (λ zones. 1 ≤ vec_len zones) }
     ensures few { IfOk result (λ zones. vec_len zones ≤ 8) }
+    ensures round { IfOk result (λ zones. IsTrue (list_all is_round_its_centre zones.items)) }
     ensures passes { IfOk result
         (λ zones. first_failed (zones_tests (table_view file.now)) ≡ None) }
     ensures refused { IfErr result (λ e. e ≢ Memory
