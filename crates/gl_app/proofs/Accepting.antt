@@ -163,29 +163,29 @@ day_accepted files day claims statements said asked each is =
     (subst (λ (l : List Expected). AllZip Proves l statements) rest.1 each) is.is
 
 -- the files of the day in the folder with the proof
-record HasDay (files : FilesByName) (names : DayNames) (day : DayFiles) (bytes text : List ℕ) (statements : List Statement) : Type 0 where
+record HasDay (most : ℕ) (files : FilesByName) (names : DayNames) (day : DayFiles) (bytes text : List ℕ) (statements : List Statement) : Type 0 where
   task_there : files names.task ≡ Some bytes
   proof_there : files names.proof ≡ Some text
   passed : PassedDay (Some files) names.task bytes day
-  small : nat_lt most_proof_bytes (length text) ≡ false
+  small : nat_lt most (length text) ≡ false
   is_text : IsTextOf Two text statements
 
 -- such files aren't refused by `check`
-not_refused : (files : FilesByName) (names : DayNames) (day : DayFiles) (bytes text : List ℕ) (statements : List Statement) (refusal : Refusal) → HasDay files names day bytes text statements → IsCheckTested (Some files) names (Err refusal) → ⊥
-not_refused files names day bytes text statements refusal has (seen, there, is) =
+not_refused : (most : ℕ) (files : FilesByName) (names : DayNames) (day : DayFiles) (bytes text : List ℕ) (statements : List Statement) (refusal : Refusal) → HasDay most files names day bytes text statements → IsCheckTested most (Some files) names (Err refusal) → ⊥
+not_refused most files names day bytes text statements refusal has (seen, there, is) =
     let listed = listed_then {X = DayFiles × Proof} names.task seen bytes (Err refusal) _ (sym there ∙ has.task_there) is in
     let proof = listed_then {X = DayFiles × Proof} names.proof listed.0 text (Err refusal) _ (sym listed.1 ∙ has.proof_there) listed.2 in
-    check_parts files names.task bytes names.proof text day proof.0 refusal statements has.passed has.small has.is_text proof.1 proof.2
+    check_parts most files names.task bytes names.proof text day proof.0 refusal statements has.passed has.small has.is_text proof.1 proof.2
 
-has_day : (files : FilesByName) (names : DayNames) (folder : IsScoredFolder files names) (ended : EndedScore folder.before folder.stewards names folder.answer) → HasDay files names ended.day ended.bytes folder.answer.appended (statements_of_all ended.scored.scored)
-has_day files names folder ended = record {
+has_day : (most : ℕ) (files : FilesByName) (names : DayNames) (folder : IsScoredFolder most files names) (ended : EndedScore folder.before folder.stewards names folder.answer) → HasDay most files names ended.day ended.bytes folder.answer.appended (statements_of_all ended.scored.scored)
+has_day most files names folder ended = record {
   task_there = moved folder.before files names.proof names.task ended.bytes ended.proof_new folder.others ended.task_there;
   proof_there = folder.proof;
   passed = record {
     task_is = ended.passed.task_is;
     airspace_is = airspace_moved folder.before files names.proof ended.day.task.airspace ended.day.airspace ended.proof_new folder.others ended.passed.airspace_is;
   };
-  small = le-ltb most_proof_bytes (length folder.answer.appended) folder.small;
+  small = le-ltb most (length folder.answer.appended) folder.small;
   is_text = ended.scored.appended;
 }
 
@@ -196,15 +196,15 @@ pub record FoundAccepted (appended : List ℕ) (tested : Tested Checked) : Type 
   pub accepted : tested ≡ Ok (checked.Accepted (length statements))
 
 -- what `score` wrote `check` accepts
-pub scored_found : (files : FilesByName) (names : DayNames) (tested : Tested Checked) (folder : IsScoredFolder files names) → IsProofChecked (Some files) names tested → FoundAccepted folder.answer.appended tested
-scored_found files names tested folder (Err refusal, are, same) =
+pub scored_found : (most : ℕ) (files : FilesByName) (names : DayNames) (tested : Tested Checked) (folder : IsScoredFolder most files names) → IsProofChecked most (Some files) names tested → FoundAccepted folder.answer.appended tested
+scored_found most files names tested folder (Err refusal, are, same) =
     let ended = score_ended folder.before folder.stewards names folder.answer folder.scored folder.done in
-    absurd (not_refused files names ended.day ended.bytes folder.answer.appended (statements_of_all ended.scored.scored) refusal (has_day files names folder ended) are)
-scored_found files names tested folder (Ok passed, are, (said, is, same)) =
+    absurd (not_refused most files names ended.day ended.bytes folder.answer.appended (statements_of_all ended.scored.scored) refusal (has_day most files names folder ended) are)
+scored_found most files names tested folder (Ok passed, are, (said, is, same)) =
     let ended = score_ended folder.before folder.stewards names folder.answer folder.scored folder.done in
-    let has = has_day files names folder ended in
+    let has = has_day most files names folder ended in
     let statements = statements_of_all ended.scored.scored in
-    let with = check_with files names ended.day ended.bytes folder.answer.appended statements passed has.task_there has.proof_there has.passed has.is_text are in
+    let with = check_with most files names ended.day ended.bytes folder.answer.appended statements passed has.task_there has.proof_there has.passed has.is_text are in
     let have = all_asked (Some folder.before) ended.day folder.stewards ended.day.task.entrants ended.scored.scored ended.scored.each in
     let foreign = subst (λ (t : List ℕ). recording_of t (Some ended.day.task.date) ≡ Err NotIgc) (sym ended.scored.appended.is) (proof_is_no_recording Two statements (Some ended.day.task.date)) in
     let asked = all_moved folder.before files names.proof folder.answer.appended ended.day.task ended.day.airspace ended.day.task.entrants have.claims ended.proof_new folder.proof foreign folder.others have.asked in
@@ -222,6 +222,6 @@ found_done answer appended (Ok said) found same =
 found_done answer appended (Err refusal) found same = absurd (ok_or_err {X = Checked} _ refusal (sym found.accepted))
 
 -- so it is answered
-pub scored_accepted : (files : FilesByName) (names : DayNames) (answer : Answer) → IsScoredFolder files names → IsCheck (Some files) names answer → answer.status ≡ status.Done
+pub scored_accepted : (files : FilesByName) (names : DayNames) (answer : Answer) → IsScoredFolder most_proof_bytes files names → IsCheck (Some files) names answer → answer.status ≡ status.Done
 scored_accepted files names answer folder (tested, is, same) =
-    found_done answer folder.answer.appended tested (scored_found files names tested folder is) same
+    found_done answer folder.answer.appended tested (scored_found most_proof_bytes files names tested folder is) same

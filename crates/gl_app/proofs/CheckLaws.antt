@@ -7,6 +7,7 @@ use Rattle.gl_app.specs.declared.refusal.Refusal.{Refusal}
 use Rattle.gl_app.specs.declared.status.Status.TheVariants.{Done, Refused, NotProved}
 use Rattle.gl_app.specs.Answer.{Answer}
 use Rattle.gl_app.specs.Check.{IsCheck, IsProofChecked, PassesCheck, check_promise, checked_answer}
+use Rattle.gl_app.specs.FileTests.{most_proof_bytes}
 use Rattle.gl_app.specs.Words.{DayNames}
 use Rattle.gl_app.proofs.Accepting.{scored_accepted}
 use Rattle.gl_app.proofs.DayLines.{AreUnbroken, check_line}
@@ -21,9 +22,9 @@ check_result : (folder : Option FilesByName) (names : DayNames) (answer : Answer
 check_result folder names answer (Ok said, found, same) = some_result answer.status (checked_result said answer same)
 check_result folder names answer (Err refusal, found, same) = refuses answer refusal.file refusal.cause same
 
-found_passes : (files : FilesByName) (names : DayNames) (refusal : Refusal) → PassesCheck files names → IsProofChecked (Some files) names (Err refusal) → ⊥
+found_passes : (files : FilesByName) (names : DayNames) (refusal : Refusal) → PassesCheck files names → IsProofChecked most_proof_bytes (Some files) names (Err refusal) → ⊥
 found_passes files names refusal passes (Ok passed, tested, (said, is, same)) = ok_or_err said refusal (sym same)
-found_passes files names refusal passes (Err other, tested, same) = check_not_refused files names passes.0 other passes.1 tested
+found_passes files names refusal passes (Err other, tested, same) = check_not_refused most_proof_bytes files names passes.0 other passes.1 tested
 
 check_passes : (files : FilesByName) (names : DayNames) (answer : Answer) → PassesCheck files names → IsCheck (Some files) names answer → answer.status ≢ Refused
 check_passes files names answer passes (Ok said, found, same) = done_no_refusal answer.status (checked_result said answer same)

@@ -100,8 +100,8 @@ proof_in : (file text : List ℕ) (tested : Tested Proof) → is_unbroken file �
 proof_in file text tested named (Ok read, is, same) = passes tested read same
 proof_in file text tested named (Err error, is, wrong) = refuses_for tested file (proof_cause error) named wrong
 
-proof_of : (file bytes : List ℕ) (tested : Tested Proof) → is_unbroken file ≡ true → IsProofOf file bytes tested → RefusesNamed tested
-proof_of file bytes tested named is = large_or (nat_lt most_proof_bytes (length bytes)) tested file _ (IsProofIn file bytes tested) named (proof_in file bytes tested named) is
+proof_of : (most : ℕ) (file bytes : List ℕ) (tested : Tested Proof) → is_unbroken file ≡ true → IsProofOf most file bytes tested → RefusesNamed tested
+proof_of most file bytes tested named is = large_or (nat_lt most (length bytes)) tested file _ (IsProofIn file bytes tested) named (proof_in file bytes tested named) is
 
 task_names : (task : Task) (file : List ℕ) → task.airspace ≡ Some file → is_unbroken file ≡ true
 task_names task file named = file_unbroken file (task.airspace_form file named)
@@ -117,12 +117,12 @@ score_tested folder names tested named (seen, there, is) =
     listed_or seen tested names.task _ named.task
     (λ bytes (proof, also, or). new_or proof tested (IsDayOf folder names.task bytes tested) _ (day_of folder names.task bytes tested named.task) (refuses tested names.proof _ named.proof) or) is
 
-check_tested : (folder : Option FilesByName) (names : DayNames) (tested : Tested (DayFiles × Proof)) → AreUnbroken names → IsCheckTested folder names tested → RefusesNamed tested
-check_tested folder names tested named (seen, there, is) =
+check_tested : (most : ℕ) (folder : Option FilesByName) (names : DayNames) (tested : Tested (DayFiles × Proof)) → AreUnbroken names → IsCheckTested most folder names tested → RefusesNamed tested
+check_tested most folder names tested named (seen, there, is) =
     listed_or seen tested names.task _ named.task
     (λ bytes (proof, also, or). listed_or proof tested names.proof _ named.proof
     (λ proof_bytes (first, day, then). passed_or first tested _ (day_of folder names.task bytes first named.task day)
-    (λ files _ (read, of, last). passed_or read tested _ (proof_of names.proof proof_bytes read named.proof of)
+    (λ files _ (read, of, last). passed_or read tested _ (proof_of most names.proof proof_bytes read named.proof of)
     (λ p _ same. passes tested _ same) last) then) or) is
 
 -- an answer of `score`
@@ -149,12 +149,12 @@ pub checked_line : (said : Checked) (answer : Answer) → answer ≡ checked_ans
 checked_line (checked.Accepted claims) answer same unless = absurd (unless (ap (λ (a : Answer). a.status) same))
 checked_line (checked.Refused wrong) answer same unless = subst (λ (a : Answer). IsLine a.said) (sym same) (not_proved_is_line wrong)
 
-found_named : (folder : Option FilesByName) (names : DayNames) (tested : Tested Checked) → AreUnbroken names → IsProofChecked folder names tested → RefusesNamed tested
-found_named folder names tested named (files, are, then) =
-    passed_or files tested _ (check_tested folder names files named are) (λ passed _ (said, is, same). passes tested said same) then
+found_named : (most : ℕ) (folder : Option FilesByName) (names : DayNames) (tested : Tested Checked) → AreUnbroken names → IsProofChecked most folder names tested → RefusesNamed tested
+found_named most folder names tested named (files, are, then) =
+    passed_or files tested _ (check_tested most folder names files named are) (λ passed _ (said, is, same). passes tested said same) then
 
 -- an answer of `check`
 pub check_line : (folder : Option FilesByName) (names : DayNames) (answer : Answer) → AreUnbroken names → IsCheck folder names answer → answer.status ≢ Done → IsLine answer.said
 check_line folder names answer named (Ok said, found, same) unless = checked_line said answer same unless
 check_line folder names answer named (Err refusal, found, same) unless =
-    said_by answer refusal.file refusal.cause same (found_named folder names (Err refusal) named found)
+    said_by answer refusal.file refusal.cause same (found_named most_proof_bytes folder names (Err refusal) named found)

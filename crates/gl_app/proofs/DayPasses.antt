@@ -19,7 +19,6 @@ use Rattle.gl_app.specs.declared.day_files.DayFiles.{DayFiles}
 use Rattle.gl_app.specs.declared.refusal.Cause.{Cause}
 use Rattle.gl_app.specs.declared.refusal.Refusal.{Refusal}
 use Rattle.gl_app.specs.DayFiles.{IfListed, IfPassed, IsAirspaceFor, IsAirspaceIn, IsAirspaceOf, IsCheckTested, IsDayOf, IsProofIn, IsProofOf, IsRefusedFor, IsScoreTested, IsTaskIn, IsTaskOf, Tested, airspace_cause, proof_cause, task_cause}
-use Rattle.gl_app.specs.FileTests.{most_proof_bytes}
 use Rattle.gl_day.specs.Flight.{most_bytes}
 use Rattle.gl_app.specs.Refusals.{file_refusal}
 use Rattle.gl_app.specs.Words.{DayNames}
@@ -157,16 +156,16 @@ proof_in_err file bytes statements refusal passed (Ok read, is, same) = ok_or_er
 proof_in_err file bytes statements refusal passed (Err error, is, refused) =
     subst (λ (e : ProofError). IsRefusedFor {X = Proof} file (proof_cause e) (Err refusal)) (text_refused bytes statements error passed is) refused
 
-pub proof_passed : (file bytes : List ℕ) (p : Proof) → IsProofOf file bytes (Ok p) → (nat_lt most_proof_bytes (length bytes) ≡ false) × IsTextOf p.version bytes (statements_of p)
-proof_passed file bytes p is =
-    let small = small_ok (nat_lt most_proof_bytes (length bytes)) p _ (IsProofIn file bytes (Ok p)) is in
+pub proof_passed : (most : ℕ) (file bytes : List ℕ) (p : Proof) → IsProofOf most file bytes (Ok p) → (nat_lt most (length bytes) ≡ false) × IsTextOf p.version bytes (statements_of p)
+proof_passed most file bytes p is =
+    let small = small_ok (nat_lt most (length bytes)) p _ (IsProofIn file bytes (Ok p)) is in
     (small.0, proof_in_ok file bytes p small.1)
 
-proof_not_refused : (file bytes : List ℕ) (p : Proof) (refusal : Refusal) → IsProofOf file bytes (Ok p) → IsProofOf file bytes (Err refusal) → ⊥
-proof_not_refused file bytes p refusal is refused =
-    let passed = proof_passed file bytes p is in
+proof_not_refused : (most : ℕ) (file bytes : List ℕ) (p : Proof) (refusal : Refusal) → IsProofOf most file bytes (Ok p) → IsProofOf most file bytes (Err refusal) → ⊥
+proof_not_refused most file bytes p refusal is refused =
+    let passed = proof_passed most file bytes p is in
     proof_in_err file bytes (statements_of p) refusal passed.1
-    (small_then (nat_lt most_proof_bytes (length bytes)) _ (IsProofIn file bytes (Err refusal)) passed.0 refused)
+    (small_then (nat_lt most (length bytes)) _ (IsProofIn file bytes (Err refusal)) passed.0 refused)
 
 pub new_ok : (seen : Option (List ℕ)) (P Q : Type 0) → MatchOption seen P (λ _. Q) → (Q → ⊥) → (seen ≡ None) × P
 new_ok None P Q is never = (refl, is)
@@ -187,51 +186,51 @@ score_not_refused files names day refusal (task_seen, task_there, is) (task_othe
     day_not_refused files names.task ok.0 day refusal (day_passed (Some files) names.task ok.0 day passed.1) wrong
 
 -- the parts of what passed the tests of `check`
-record PassedCheck (folder : Option FilesByName) (file bytes : List ℕ) (proof proof_bytes : List ℕ) (passed : DayFiles × Proof) : Type 0 where
+record PassedCheck (most : ℕ) (folder : Option FilesByName) (file bytes : List ℕ) (proof proof_bytes : List ℕ) (passed : DayFiles × Proof) : Type 0 where
   day_is : IsDayOf folder file bytes (Ok passed.0)
-  proof_is : IsProofOf proof proof_bytes (Ok passed.1)
+  proof_is : IsProofOf most proof proof_bytes (Ok passed.1)
 
-check_proof_ok : (folder : Option FilesByName) (file bytes proof proof_bytes : List ℕ) (day : DayFiles) (then : Tested Proof) (passed : DayFiles × Proof) → IsDayOf folder file bytes (Ok day) → IsProofOf proof proof_bytes then → IfPassed then (Ok passed) (λ read. ◌≡◌ {A = Tested (DayFiles × Proof)} (Ok passed) (Ok (day, read))) → PassedCheck folder file bytes proof proof_bytes passed
-check_proof_ok folder file bytes proof proof_bytes day (Ok read) passed is reads same =
+check_proof_ok : (most : ℕ) (folder : Option FilesByName) (file bytes proof proof_bytes : List ℕ) (day : DayFiles) (then : Tested Proof) (passed : DayFiles × Proof) → IsDayOf folder file bytes (Ok day) → IsProofOf most proof proof_bytes then → IfPassed then (Ok passed) (λ read. ◌≡◌ {A = Tested (DayFiles × Proof)} (Ok passed) (Ok (day, read))) → PassedCheck most folder file bytes proof proof_bytes passed
+check_proof_ok most folder file bytes proof proof_bytes day (Ok read) passed is reads same =
     let e : ◌≡◌ {A = DayFiles × Proof} (day, read) passed = cc in
-    subst (PassedCheck folder file bytes proof proof_bytes) e (record { day_is = is; proof_is = reads })
-check_proof_ok folder file bytes proof proof_bytes day (Err refusal) passed is reads same = absurd (ok_or_err passed refusal same)
+    subst (PassedCheck most folder file bytes proof proof_bytes) e (record { day_is = is; proof_is = reads })
+check_proof_ok most folder file bytes proof proof_bytes day (Err refusal) passed is reads same = absurd (ok_or_err passed refusal same)
 
-check_ok : (folder : Option FilesByName) (file bytes proof proof_bytes : List ℕ) (first : Tested DayFiles) (passed : DayFiles × Proof) → IsDayOf folder file bytes first → IfPassed first (Ok passed) (λ day. (then : Tested Proof) × IsProofOf proof proof_bytes then × IfPassed then (Ok passed) (λ read. ◌≡◌ {A = Tested (DayFiles × Proof)} (Ok passed) (Ok (day, read)))) → PassedCheck folder file bytes proof proof_bytes passed
-check_ok folder file bytes proof proof_bytes (Ok day) passed is then = check_proof_ok folder file bytes proof proof_bytes day then.0 passed is then.1 then.2
-check_ok folder file bytes proof proof_bytes (Err refusal) passed is same = absurd (ok_or_err passed refusal same)
+check_ok : (most : ℕ) (folder : Option FilesByName) (file bytes proof proof_bytes : List ℕ) (first : Tested DayFiles) (passed : DayFiles × Proof) → IsDayOf folder file bytes first → IfPassed first (Ok passed) (λ day. (then : Tested Proof) × IsProofOf most proof proof_bytes then × IfPassed then (Ok passed) (λ read. ◌≡◌ {A = Tested (DayFiles × Proof)} (Ok passed) (Ok (day, read)))) → PassedCheck most folder file bytes proof proof_bytes passed
+check_ok most folder file bytes proof proof_bytes (Ok day) passed is then = check_proof_ok most folder file bytes proof proof_bytes day then.0 passed is then.1 then.2
+check_ok most folder file bytes proof proof_bytes (Err refusal) passed is same = absurd (ok_or_err passed refusal same)
 
-check_proof_err : (proof proof_bytes : List ℕ) (day : DayFiles) (p : Proof) (then : Tested Proof) (refusal : Refusal) → IsProofOf proof proof_bytes (Ok p) → IsProofOf proof proof_bytes then → IfPassed {Y = DayFiles × Proof} then (Err refusal) (λ read. ◌≡◌ {A = Tested (DayFiles × Proof)} (Err refusal) (Ok (day, read))) → ⊥
-check_proof_err proof proof_bytes day p (Ok read) refusal is reads same = ok_or_err _ refusal (sym same)
-check_proof_err proof proof_bytes day p (Err other) refusal is reads same = proof_not_refused proof proof_bytes p other is reads
+check_proof_err : (most : ℕ) (proof proof_bytes : List ℕ) (day : DayFiles) (p : Proof) (then : Tested Proof) (refusal : Refusal) → IsProofOf most proof proof_bytes (Ok p) → IsProofOf most proof proof_bytes then → IfPassed {Y = DayFiles × Proof} then (Err refusal) (λ read. ◌≡◌ {A = Tested (DayFiles × Proof)} (Err refusal) (Ok (day, read))) → ⊥
+check_proof_err most proof proof_bytes day p (Ok read) refusal is reads same = ok_or_err _ refusal (sym same)
+check_proof_err most proof proof_bytes day p (Err other) refusal is reads same = proof_not_refused most proof proof_bytes p other is reads
 
-check_err : (files : FilesByName) (file bytes proof proof_bytes : List ℕ) (first : Tested DayFiles) (passed : DayFiles × Proof) (refusal : Refusal) → PassedCheck (Some files) file bytes proof proof_bytes passed → IsDayOf (Some files) file bytes first → IfPassed {Y = DayFiles × Proof} first (Err refusal) (λ day. (then : Tested Proof) × IsProofOf proof proof_bytes then × IfPassed {Y = DayFiles × Proof} then (Err refusal) (λ read. ◌≡◌ {A = Tested (DayFiles × Proof)} (Err refusal) (Ok (day, read)))) → ⊥
-check_err files file bytes proof proof_bytes (Ok day) passed refusal is day_is then =
-    check_proof_err proof proof_bytes day passed.1 then.0 refusal is.proof_is then.1 then.2
-check_err files file bytes proof proof_bytes (Err other) passed refusal is day_is same =
+check_err : (most : ℕ) (files : FilesByName) (file bytes proof proof_bytes : List ℕ) (first : Tested DayFiles) (passed : DayFiles × Proof) (refusal : Refusal) → PassedCheck most (Some files) file bytes proof proof_bytes passed → IsDayOf (Some files) file bytes first → IfPassed {Y = DayFiles × Proof} first (Err refusal) (λ day. (then : Tested Proof) × IsProofOf most proof proof_bytes then × IfPassed {Y = DayFiles × Proof} then (Err refusal) (λ read. ◌≡◌ {A = Tested (DayFiles × Proof)} (Err refusal) (Ok (day, read)))) → ⊥
+check_err most files file bytes proof proof_bytes (Ok day) passed refusal is day_is then =
+    check_proof_err most proof proof_bytes day passed.1 then.0 refusal is.proof_is then.1 then.2
+check_err most files file bytes proof proof_bytes (Err other) passed refusal is day_is same =
     day_not_refused files file bytes passed.0 other (day_passed (Some files) file bytes passed.0 is.day_is) day_is
 
 -- files that pass the tests of `check` aren't refused
-pub check_not_refused : (files : FilesByName) (names : DayNames) (passed : DayFiles × Proof) (refusal : Refusal) → IsCheckTested (Some files) names (Ok passed) → IsCheckTested (Some files) names (Err refusal) → ⊥
-check_not_refused files names passed refusal (task_seen, task_there, is) (task_other, task_also, refused) =
+pub check_not_refused : (most : ℕ) (files : FilesByName) (names : DayNames) (passed : DayFiles × Proof) (refusal : Refusal) → IsCheckTested most (Some files) names (Ok passed) → IsCheckTested most (Some files) names (Err refusal) → ⊥
+check_not_refused most files names passed refusal (task_seen, task_there, is) (task_other, task_also, refused) =
     let ok = listed_ok {X = DayFiles × Proof} names.task task_seen passed _ is in
     let err = listed_then {X = DayFiles × Proof} names.task task_other ok.0 (Err refusal) _ (seen_alone files names.task task_seen task_other task_there task_also ∙ ok.1) refused in
     let proof = ok.2 in
     let proof_ok = listed_ok {X = DayFiles × Proof} names.proof proof.0 passed _ proof.2 in
     let proof_err = listed_then {X = DayFiles × Proof} names.proof err.0 proof_ok.0 (Err refusal) _ (seen_alone files names.proof proof.0 err.0 proof.1 err.1 ∙ proof_ok.1) err.2 in
-    let both = check_ok (Some files) names.task ok.0 names.proof proof_ok.0 proof_ok.2.0 passed proof_ok.2.1 proof_ok.2.2 in
-    check_err files names.task ok.0 names.proof proof_ok.0 proof_err.0 passed refusal both proof_err.1 proof_err.2
+    let both = check_ok most (Some files) names.task ok.0 names.proof proof_ok.0 proof_ok.2.0 passed proof_ok.2.1 proof_ok.2.2 in
+    check_err most files names.task ok.0 names.proof proof_ok.0 proof_err.0 passed refusal both proof_err.1 proof_err.2
 
-proof_text_err : {v : Version} (proof text : List ℕ) (day : DayFiles) (statements : List Statement) (then : Tested Proof) (refusal : Refusal) → nat_lt most_proof_bytes (length text) ≡ false → IsTextOf v text statements → IsProofOf proof text then → IfPassed {Y = DayFiles × Proof} then (Err refusal) (λ read. ◌≡◌ {A = Tested (DayFiles × Proof)} (Err refusal) (Ok (day, read))) → ⊥
-proof_text_err proof text day statements (Ok read) refusal small is reads same = ok_or_err _ refusal (sym same)
-proof_text_err proof text day statements (Err other) refusal small is reads same =
-    proof_in_err proof text statements other is (small_then (nat_lt most_proof_bytes (length text)) _ (IsProofIn proof text (Err other)) small reads)
+proof_text_err : (most : ℕ) {v : Version} (proof text : List ℕ) (day : DayFiles) (statements : List Statement) (then : Tested Proof) (refusal : Refusal) → nat_lt most (length text) ≡ false → IsTextOf v text statements → IsProofOf most proof text then → IfPassed {Y = DayFiles × Proof} then (Err refusal) (λ read. ◌≡◌ {A = Tested (DayFiles × Proof)} (Err refusal) (Ok (day, read))) → ⊥
+proof_text_err most proof text day statements (Ok read) refusal small is reads same = ok_or_err _ refusal (sym same)
+proof_text_err most proof text day statements (Err other) refusal small is reads same =
+    proof_in_err proof text statements other is (small_then (nat_lt most (length text)) _ (IsProofIn proof text (Err other)) small reads)
 
 -- a day that passed, with a text of a proof, isn't refused by `check`
-pub check_parts : {v : Version} (files : FilesByName) (file bytes proof text : List ℕ) (day : DayFiles) (first : Tested DayFiles) (refusal : Refusal) (statements : List Statement) → PassedDay (Some files) file bytes day → nat_lt most_proof_bytes (length text) ≡ false → IsTextOf v text statements → IsDayOf (Some files) file bytes first → IfPassed {Y = DayFiles × Proof} first (Err refusal) (λ d. (then : Tested Proof) × IsProofOf proof text then × IfPassed {Y = DayFiles × Proof} then (Err refusal) (λ read. ◌≡◌ {A = Tested (DayFiles × Proof)} (Err refusal) (Ok (d, read)))) → ⊥
-check_parts files file bytes proof text day (Ok d) refusal statements passed small is day_is then =
-    proof_text_err proof text d statements then.0 refusal small is then.1 then.2
-check_parts files file bytes proof text day (Err other) refusal statements passed small is day_is same =
+pub check_parts : (most : ℕ) {v : Version} (files : FilesByName) (file bytes proof text : List ℕ) (day : DayFiles) (first : Tested DayFiles) (refusal : Refusal) (statements : List Statement) → PassedDay (Some files) file bytes day → nat_lt most (length text) ≡ false → IsTextOf v text statements → IsDayOf (Some files) file bytes first → IfPassed {Y = DayFiles × Proof} first (Err refusal) (λ d. (then : Tested Proof) × IsProofOf most proof text then × IfPassed {Y = DayFiles × Proof} then (Err refusal) (λ read. ◌≡◌ {A = Tested (DayFiles × Proof)} (Err refusal) (Ok (d, read)))) → ⊥
+check_parts most files file bytes proof text day (Ok d) refusal statements passed small is day_is then =
+    proof_text_err most proof text d statements then.0 refusal small is then.1 then.2
+check_parts most files file bytes proof text day (Err other) refusal statements passed small is day_is same =
     day_not_refused files file bytes day other passed day_is
 
 -- the airspace of a folder is one
@@ -255,11 +254,11 @@ day_alone files file bytes a b is too =
     λ i. record { task = tasks i; airspace = airs i }
 
 -- what passed the tests of `check` in a folder with this day and this text of a proof
-pub check_with : {v : Version} (files : FilesByName) (names : DayNames) (day : DayFiles) (bytes text : List ℕ) (statements : List Statement) (passed : DayFiles × Proof) → files names.task ≡ Some bytes → files names.proof ≡ Some text → PassedDay (Some files) names.task bytes day → IsTextOf v text statements → IsCheckTested (Some files) names (Ok passed) → (passed.0 ≡ day) × (statements_of passed.1 ≡ statements)
-check_with files names day bytes text statements passed task_there proof_there day_is is_text (seen, there, is) =
+pub check_with : (most : ℕ) {v : Version} (files : FilesByName) (names : DayNames) (day : DayFiles) (bytes text : List ℕ) (statements : List Statement) (passed : DayFiles × Proof) → files names.task ≡ Some bytes → files names.proof ≡ Some text → PassedDay (Some files) names.task bytes day → IsTextOf v text statements → IsCheckTested most (Some files) names (Ok passed) → (passed.0 ≡ day) × (statements_of passed.1 ≡ statements)
+check_with most files names day bytes text statements passed task_there proof_there day_is is_text (seen, there, is) =
     let listed = listed_then {X = DayFiles × Proof} names.task seen bytes (Ok passed) _ (sym there ∙ task_there) is in
     let proof = listed_then {X = DayFiles × Proof} names.proof listed.0 text (Ok passed) _ (sym listed.1 ∙ proof_there) listed.2 in
-    let both = check_ok (Some files) names.task bytes names.proof text proof.0 passed proof.1 proof.2 in (
+    let both = check_ok most (Some files) names.task bytes names.proof text proof.0 passed proof.1 proof.2 in (
       day_alone files names.task bytes passed.0 day (day_passed (Some files) names.task bytes passed.0 both.day_is) day_is,
-      text_unique text (statements_of passed.1) statements (proof_passed names.proof text passed.1 both.proof_is).1 is_text,
+      text_unique text (statements_of passed.1) statements (proof_passed most names.proof text passed.1 both.proof_is).1 is_text,
     )

@@ -115,10 +115,10 @@ pub score_task_missing : (folder : Option FilesByName) (names : List (List ℕ))
 score_task_missing folder names day halt lists none refused =
     refused_tested day.task NotListed halt (IsScoreTested folder day) refused (None, not_listed folder names day.task lists none, refl)
 
-pub check_task_missing : (folder : Option FilesByName) (names : List (List ℕ)) (day : DayNames) (halt : Halt)
-    → ListsNames folder names → (Contains names day.task → ⊥) → Refuses day.task NotListed halt → IsTested (IsCheckTested folder day) (Err halt)
-check_task_missing folder names day halt lists none refused =
-    refused_tested day.task NotListed halt (IsCheckTested folder day) refused (None, not_listed folder names day.task lists none, refl)
+pub check_task_missing : (most : ℕ) (folder : Option FilesByName) (names : List (List ℕ)) (day : DayNames) (halt : Halt)
+    → ListsNames folder names → (Contains names day.task → ⊥) → Refuses day.task NotListed halt → IsTested (IsCheckTested most folder day) (Err halt)
+check_task_missing most folder names day halt lists none refused =
+    refused_tested day.task NotListed halt (IsCheckTested most folder day) refused (None, not_listed folder names day.task lists none, refl)
 
 -- the task is listed, and the proof of `score` is too
 pub score_proof_listed : (folder : Option FilesByName) (day : DayNames) (halt : Halt)
@@ -129,11 +129,11 @@ score_proof_listed folder day halt task proof refused =
     refused_tested day.proof Listed halt (IsScoreTested folder day) refused (Some task_seen.0, task_seen.1, (Some proof_seen.0, proof_seen.1, refl))
 
 -- the task is listed, and the proof of `check` isn't
-pub check_proof_missing : (folder : Option FilesByName) (names : List (List ℕ)) (day : DayNames) (halt : Halt)
-    → ListsNames folder names → HasFile folder day.task → (Contains names day.proof → ⊥) → Refuses day.proof NotListed halt → IsTested (IsCheckTested folder day) (Err halt)
-check_proof_missing folder names day halt lists task none refused =
+pub check_proof_missing : (most : ℕ) (folder : Option FilesByName) (names : List (List ℕ)) (day : DayNames) (halt : Halt)
+    → ListsNames folder names → HasFile folder day.task → (Contains names day.proof → ⊥) → Refuses day.proof NotListed halt → IsTested (IsCheckTested most folder day) (Err halt)
+check_proof_missing most folder names day halt lists task none refused =
     let task_seen = is_listed folder day.task task in
-    refused_tested day.proof NotListed halt (IsCheckTested folder day) refused (Some task_seen.0, task_seen.1, (None, not_listed folder names day.proof lists none, refl))
+    refused_tested day.proof NotListed halt (IsCheckTested most folder day) refused (Some task_seen.0, task_seen.1, (None, not_listed folder names day.proof lists none, refl))
 
 -- the task is listed, the proof of `score` isn't, and the day was tested
 pub score_tested : (folder : Option FilesByName) (names : List (List ℕ)) (day : DayNames) (result : Result DayFiles Halt)
@@ -145,26 +145,26 @@ score_tested folder names day result lists none tested =
     (λ t seen. (Some seen.0, seen.1, (None, not_listed folder names day.proof lists none, seen.2))) tested
 
 -- both are listed, and the day was refused
-pub check_day_refused : (folder : Option FilesByName) (day : DayNames) (halt : Halt)
+pub check_day_refused : (most : ℕ) (folder : Option FilesByName) (day : DayNames) (halt : Halt)
     → HasFile folder day.proof → IsTested {X = DayFiles} (λ tested. SeesBytes folder day.task (λ bytes. IsDayOf folder day.task bytes tested)) (Err halt)
-    → IsTested (IsCheckTested folder day) (Err halt)
-check_day_refused folder day (Refused refusal) proof seen =
+    → IsTested (IsCheckTested most folder day) (Err halt)
+check_day_refused most folder day (Refused refusal) proof seen =
     let proof_seen = is_listed folder day.proof proof in
     (Some seen.0, seen.1, (Some proof_seen.0, proof_seen.1, (Err refusal, seen.2, refl)))
-check_day_refused folder day (Stopped stop) proof seen = tt
+check_day_refused most folder day (Stopped stop) proof seen = tt
 
 -- both are listed, the day passed, and the proof was refused
-pub check_proof_refused : (folder : Option FilesByName) (day : DayNames) (files : DayFiles) (halt : Halt)
+pub check_proof_refused : (most : ℕ) (folder : Option FilesByName) (day : DayNames) (files : DayFiles) (halt : Halt)
     → SeesBytes folder day.task (λ bytes. IsDayOf folder day.task bytes (Ok files))
-    → IsTested {X = Proof} (λ tested. SeesBytes folder day.proof (λ bytes. IsProofOf day.proof bytes tested)) (Err halt)
-    → IsTested (IsCheckTested folder day) (Err halt)
-check_proof_refused folder day files (Refused refusal) seen proof =
+    → IsTested {X = Proof} (λ tested. SeesBytes folder day.proof (λ bytes. IsProofOf most day.proof bytes tested)) (Err halt)
+    → IsTested (IsCheckTested most folder day) (Err halt)
+check_proof_refused most folder day files (Refused refusal) seen proof =
     (Some seen.0, seen.1, (Some proof.0, proof.1, (Ok files, seen.2, (Err refusal, proof.2, refl))))
-check_proof_refused folder day files (Stopped stop) seen proof = tt
+check_proof_refused most folder day files (Stopped stop) seen proof = tt
 
 -- both are listed, and passed
-pub check_passed : (folder : Option FilesByName) (day : DayNames) (files : DayFiles) (read : Proof)
-    → SeesBytes folder day.task (λ bytes. IsDayOf folder day.task bytes (Ok files)) → SeesBytes folder day.proof (λ bytes. IsProofOf day.proof bytes (Ok read))
-    → IsCheckTested folder day (Ok (files, read))
-check_passed folder day files read seen proof =
+pub check_passed : (most : ℕ) (folder : Option FilesByName) (day : DayNames) (files : DayFiles) (read : Proof)
+    → SeesBytes folder day.task (λ bytes. IsDayOf folder day.task bytes (Ok files)) → SeesBytes folder day.proof (λ bytes. IsProofOf most day.proof bytes (Ok read))
+    → IsCheckTested most folder day (Ok (files, read))
+check_passed most folder day files read seen proof =
     (Some seen.0, seen.1, (Some proof.0, proof.1, (Ok files, seen.2, (Ok read, proof.2, refl))))

@@ -18,7 +18,6 @@ use Rattle.gl_app.specs.Answer.{Answer, saying}
 use Rattle.gl_app.specs.Appending.{HasGiven}
 use Rattle.gl_app.specs.Check.{IsScoredFolder}
 use Rattle.gl_app.specs.Demo.{HasJust, IsCountOf, IsDemo, claims_line, demo_names}
-use Rattle.gl_app.specs.FileTests.{most_proof_bytes}
 use Rattle.gl_app.specs.Score.{IsScore}
 use Rattle.gl_app.specs.Words.{DayNames}
 use Rattle.gl_app.proofs.Accepting.{score_ended}
@@ -76,8 +75,8 @@ taken before files name text statements new is (inr (none, same)) =
     absurd (cc)
 
 -- the folder behind a `score` that ended with a sheet
-pub scored_folder : (x y : Told) (before files : FilesByName) (stewards : List StewardRules) (names : DayNames) (answer : Answer) → x.folder ≡ Some before → y.folder ≡ Some files → IsScore (Some before) stewards names answer → answer.status ≡ status.Done → HasGiven (Some names.proof) answer.appended x y → ((bytes : List ℕ) → files names.proof ≡ Some bytes → length bytes ≤ most_proof_bytes) → (there : IsScoredFolder files names) × (there.answer.appended ≡ answer.appended)
-scored_folder x y before files stewards names answer x_is y_is scored done given small =
+pub scored_folder : (most : ℕ) (x y : Told) (before files : FilesByName) (stewards : List StewardRules) (names : DayNames) (answer : Answer) → x.folder ≡ Some before → y.folder ≡ Some files → IsScore (Some before) stewards names answer → answer.status ≡ status.Done → HasGiven (Some names.proof) answer.appended x y → ((bytes : List ℕ) → files names.proof ≡ Some bytes → length bytes ≤ most) → (there : IsScoredFolder most files names) × (there.answer.appended ≡ answer.appended)
+scored_folder most x y before files stewards names answer x_is y_is scored done given small =
     let ended = score_ended before stewards names answer scored done in
     let wrote = given.written.appended in
     let P : Option FilesByName → Option FilesByName → Type 0 = λ f g. FileTakes f g names.proof answer.appended in
@@ -98,9 +97,9 @@ scored_folder x y before files stewards names answer x_is y_is scored done given
       refl,
     )
 
--- a proof that isn't too large
-pub small_of : (large : Bool) (there : Option (List ℕ)) (bytes : List ℕ) → large ≡ false → IfSome there (λ b. large ≡ nat_lt most_proof_bytes (length b)) → there ≡ Some bytes → length bytes ≤ most_proof_bytes
-small_of large None bytes is exact same = absurd (cc)
-small_of large (Some other) bytes is exact same =
+-- a proof of the size that was looked up
+pub small_of : (size : ℕ) (there : Option (List ℕ)) (bytes : List ℕ) → IfSome there (λ b. size ≡ length b) → there ≡ Some bytes → length bytes ≤ size
+small_of size None bytes exact same = absurd (cc)
+small_of size (Some other) bytes exact same =
     let e : other ≡ bytes = cc in
-    subst (λ (b : List ℕ). length b ≤ most_proof_bytes) e (ltb-false most_proof_bytes (length other) (sym exact ∙ is))
+    subst (λ (b : List ℕ). length b ≤ size) e (omega (arith, exact))

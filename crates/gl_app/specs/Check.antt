@@ -51,34 +51,34 @@ pub record IsDayChecked (folder : Option FilesByName) (day : DayFiles)
   pub is : IsSaidBehind others expected statements said
 
 -- what is said of the proof that the folder has, where the files pass the tests, or the first
--- refusal
-abbrev pub IsProofChecked : Option FilesByName → DayNames → Tested Checked → Type 0
-IsProofChecked folder names tested =
-    (files : Tested (DayFiles × Proof)) × IsCheckTested folder names files
+-- refusal; the proof has at most so many bytes
+abbrev pub IsProofChecked : ℕ → Option FilesByName → DayNames → Tested Checked → Type 0
+IsProofChecked most folder names tested =
+    (files : Tested (DayFiles × Proof)) × IsCheckTested most folder names files
     × IfPassed files tested (λ passed. (said : Checked)
     × IsDayChecked folder passed.0 (statements_of passed.1) said × (tested ≡ Ok said))
 
 -- the answer of `check`: what is said of the proof, or the first refusal
 abbrev pub IsCheck : Option FilesByName → DayNames → Answer → Type 0
 IsCheck folder names answer =
-    (tested : Tested Checked) × IsProofChecked folder names tested
+    (tested : Tested Checked) × IsProofChecked most_proof_bytes folder names tested
     × MatchResult tested (λ said. answer ≡ checked_answer said)
     (λ refusal. answer ≡ refused refusal.file refusal.cause)
 
 -- the files of a folder that pass every test of `check`
 abbrev pub PassesCheck : FilesByName → DayNames → Type 0
 PassesCheck files names =
-    (passed : DayFiles × Proof) × IsCheckTested (Some files) names (Ok passed)
+    (passed : DayFiles × Proof) × IsCheckTested most_proof_bytes (Some files) names (Ok passed)
 
--- A folder in which `score` ended with a result: it has the proof that was appended, of a size that is
--- read, and else the files that it had before.
-pub record IsScoredFolder (files : FilesByName) (names : DayNames) : Type 0 where
+-- A folder in which `score` ended with a result: it has the proof that was appended, of at most so many
+-- bytes, and else the files that it had before.
+pub record IsScoredFolder (most : ℕ) (files : FilesByName) (names : DayNames) : Type 0 where
   pub before : FilesByName
   pub stewards : List StewardRules
   pub answer : Answer
   pub scored : IsScore (Some before) stewards names answer
   pub done : answer.status ≡ status.Done
-  pub small : length answer.appended ≤ most_proof_bytes
+  pub small : length answer.appended ≤ most
   pub proof : files names.proof ≡ Some answer.appended
   pub others : (other : List ℕ) → other ≢ names.proof → files other ≡ before other
 
@@ -88,6 +88,6 @@ check_promise folder names = record {
   IsRight = IsCheck folder names;
   IsBegun = λ text. ⊥;
   Passes = IsTold folder (λ files. PassesCheck files names);
-  ChecksOwn = IsTold folder (λ files. IsScoredFolder files names);
+  ChecksOwn = IsTold folder (λ files. IsScoredFolder most_proof_bytes files names);
   target = None;
 }

@@ -19,7 +19,6 @@ use Rattle.gl_app.specs.declared.day_files.DayFiles.{DayFiles}
 use Rattle.gl_app.specs.declared.refusal.Cause.{Cause}
 use Rattle.gl_app.specs.declared.refusal.Cause.TheVariants.{NotListed, Listed, TooLarge, NotToml, NoKey, WrongValue, NumberTwice, TooManyItems, WrongAirspace, TooMuchAirspace}
 use Rattle.gl_app.specs.declared.refusal.Refusal.{Refusal}
-use Rattle.gl_app.specs.FileTests.{most_proof_bytes}
 pub use Rattle.gl_app.specs.FileTests.{proof_cause}
 use Rattle.gl_day.specs.Flight.{most_bytes}
 use Rattle.gl_app.specs.Refusals.{file_refusal}
@@ -134,10 +133,10 @@ abbrev pub IsProofIn : List ℕ → List ℕ → Tested Proof → Type 0
 IsProofIn file text tested =
     (read : Result Proof ProofError) × IsProofRead text read × IsProofOfText file read tested
 
--- the proof of the bytes of its file
-abbrev pub IsProofOf : List ℕ → List ℕ → Tested Proof → Type 0
-IsProofOf file bytes tested =
-    IfSmall most_proof_bytes file bytes tested (IsProofIn file bytes tested)
+-- the proof of the bytes of its file, of which it has at most so many
+abbrev pub IsProofOf : ℕ → List ℕ → List ℕ → Tested Proof → Type 0
+IsProofOf most file bytes tested =
+    IfSmall most file bytes tested (IsProofIn file bytes tested)
 
 -- the task of its file's bytes, and then its airspace
 abbrev pub IsDayOf : Option FilesByName → List ℕ → List ℕ → Tested DayFiles → Type 0
@@ -156,12 +155,12 @@ IsScoreTested folder names tested =
     (λ _. tested ≡ Err (file_refusal names.proof Listed)))))
 
 -- The files that `check` needs: the task is listed, and the proof is; then the task and its
--- airspace, and then the proof.
-abbrev pub IsCheckTested : Option FilesByName → DayNames → Tested (DayFiles × Proof) → Type 0
-IsCheckTested folder names tested =
+-- airspace, and then the proof, which has at most so many bytes.
+abbrev pub IsCheckTested : ℕ → Option FilesByName → DayNames → Tested (DayFiles × Proof) → Type 0
+IsCheckTested most folder names tested =
     Sees folder names.task (λ task. IfListed names.task task tested (λ bytes.
     Sees folder names.proof (λ proof. IfListed names.proof proof tested (λ proof_bytes.
     (first : Tested DayFiles) × IsDayOf folder names.task bytes first
     × IfPassed first tested (λ day.
-    (then : Tested Proof) × IsProofOf names.proof proof_bytes then
+    (then : Tested Proof) × IsProofOf most names.proof proof_bytes then
     × IfPassed then tested (λ read. tested ≡ Ok (day, read)))))))

@@ -9,6 +9,7 @@ use crate::answer::Answer;
 use crate::checking::{check_claims, checked_answer};
 use crate::day_files::test_check_files;
 use crate::day_names::DayNames;
+use crate::file_tests::MOST_PROOF_BYTES;
 use crate::halt::Halt;
 use crate::line::answer_halt;
 use gl_day::Checked;
@@ -16,14 +17,19 @@ use gl_desk::{Desk, DeskError};
 use std::alloc::Global;
 
 /// What is said of a proof by the files of its day: that its claims are accepted, or the first that
-/// is wrong.
-pub fn check_proof<D: Desk>(alloc: Global, desk: &mut D, day: DayNames<'_>) -> Result<Checked, Halt>
+/// is wrong. A proof of more than `most` bytes is refused.
+pub fn check_proof<D: Desk>(
+    alloc: Global,
+    desk: &mut D,
+    day: DayNames<'_>,
+    most: u64,
+) -> Result<Checked, Halt>
     ensures checked { IsTested
-        (IsProofChecked (D.told desk.old).folder (names_seen day.entry)) result }
+        (IsProofChecked most (D.told desk.old).folder (names_seen day.entry)) result }
     ensures reads { OnlyReads (halt_stop result) (D.told desk.old) (D.told desk.new) }
 {
     let names = desk.names(alloc)?;
-    let (files, proof) = test_check_files(alloc, desk, &names, day)?;
+    let (files, proof) = test_check_files(alloc, desk, &names, day, most)?;
     Ok(check_claims(alloc, desk, &names, &files, proof.claims.as_slice())?)
 }
 
@@ -33,7 +39,7 @@ pub fn check<D: Desk>(alloc: Global, desk: &mut D, day: DayNames<'_>) -> Result<
         IsCheck (D.told desk.old).folder (names_seen day.entry) (answer_of answer)) }
     ensures reads { OnlyReads (stop_of result) (D.told desk.old) (D.told desk.new) }
 {
-    match check_proof(alloc, desk, day) {
+    match check_proof(alloc, desk, day, MOST_PROOF_BYTES) {
         Ok(said) => Ok(checked_answer(alloc, said)?),
         Err(halt) => answer_halt(alloc, halt),
     }

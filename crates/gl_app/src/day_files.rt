@@ -6,7 +6,6 @@ ghost use Rattle.gl_app.specs.DayNames.{names_seen};
 ghost use Rattle.gl_app.specs.Halts.{AreBytes, IsNoFault, IsTested, halt_stop};
 
 use crate::day_names::DayNames;
-use crate::file_tests::MOST_PROOF_BYTES;
 use crate::halt::{Halt, refusing, refusing_for, unread};
 use crate::refusal::Cause;
 use gl_airspace::{AirError, Airspace, empty, read_openair};
@@ -172,14 +171,19 @@ fn proof_in(alloc: Global, file: &Name, text: &[u8]) -> Result<Proof, Halt>
     }
 }
 
-/// The proof of a listed file.
-fn read_proof_file<D: Desk>(alloc: Global, desk: &mut D, file: &Name) -> Result<Proof, Halt>
+/// The proof of a listed file, which is refused where it has more than `most` bytes.
+fn read_proof_file<D: Desk>(
+    alloc: Global,
+    desk: &mut D,
+    file: &Name,
+    most: u64,
+) -> Result<Proof, Halt>
     requires { HasFile (D.told desk.old).folder file.now }
     ensures tested { IsTested (λ tested. SeesBytes (D.told desk.old).folder file.now
-        (λ bytes. IsProofOf file.now bytes tested)) result }
+        (λ bytes. IsProofOf most file.now bytes tested)) result }
     ensures reads { OnlyReads (halt_stop result) (D.told desk.old) (D.told desk.new) }
 {
-    let bytes = read_bytes(alloc, desk, file, MOST_PROOF_BYTES)?;
+    let bytes = read_bytes(alloc, desk, file, most)?;
     proof_in(alloc, file, &bytes)
 }
 
@@ -212,17 +216,18 @@ pub fn test_score_files<D: Desk>(
 /// The files that `check` needs, where they pass its tests.
 ///
 /// The tests are made in this order: TASK and PROOF are of the folder's names; then those of TASK
-/// and the airspace file as in [`test_score_files`]; PROOF has at most 1,073,741,824 bytes; its
-/// text is a proof.
+/// and the airspace file as in [`test_score_files`]; PROOF has at most `most` bytes; its text is a
+/// proof.
 pub fn test_check_files<D: Desk>(
     alloc: Global,
     desk: &mut D,
     names: &[Name],
     day: DayNames<'_>,
+    most: u64,
 ) -> Result<(DayFiles, Proof), Halt>
     requires { ListsNames (D.told desk.old).folder names.now }
     ensures tested { IsTested
-        (IsCheckTested (D.told desk.old).folder (names_seen day.entry)) result }
+        (IsCheckTested most (D.told desk.old).folder (names_seen day.entry)) result }
     ensures reads { OnlyReads (halt_stop result) (D.told desk.old) (D.told desk.new) }
 {
     if !names.contains(day.task) {
@@ -232,6 +237,6 @@ pub fn test_check_files<D: Desk>(
         return Err(refusing(day.proof, Cause::NotListed));
     }
     let files = read_day(alloc, desk, names, day.task)?;
-    let proof = read_proof_file(alloc, desk, day.proof)?;
+    let proof = read_proof_file(alloc, desk, day.proof, most)?;
     Ok((files, proof))
 }

@@ -1,17 +1,15 @@
-ghost use Rattle.std.specs.Prelude.{◌≡◌, ◌≤◌, ◌++◌, Err, IfOk, IfSome, OnOk, length, map, nat_lt};
+ghost use Rattle.std.specs.Prelude.{◌≡◌, ◌++◌, Err, IfOk, IfSome, OnOk, length, map};
 ghost use Rattle.gl_day.specs.Flight.{steward_rules};
 ghost use Rattle.gl_app.specs.Answer.{answer_of};
 ghost use Rattle.gl_app.specs.Check.{IsScoredFolder};
 ghost use Rattle.gl_app.specs.DayNames.{names_seen};
 ghost use Rattle.gl_app.specs.Demo.{IsCountOf, IsDemo, claims_line};
-ghost use Rattle.gl_app.specs.FileTests.{most_proof_bytes};
 ghost use Rattle.gl_app.specs.Shelf.{folder_on};
 
 use crate::answer::Answer;
 use crate::check::check_proof;
 use crate::day_names::DayNames;
 use crate::day_number::DayNumber;
-use crate::file_tests::MOST_PROOF_BYTES;
 use crate::halt::Halt;
 use crate::score::score;
 use crate::shelf::Shelf;
@@ -36,26 +34,31 @@ fn push_claims(text: &mut Vec<u8>, claims: usize) -> Result<(), AllocError>
     text.extend_from_slice(b" ACCEPTED\n")
 }
 
-/// Whether a proof has more bytes than `check` reads.
-fn is_too_large(shelf: &Shelf, proof: &Name) -> bool
-    ensures { IfSome (folder_on shelf.now proof.now)
-        (λ bytes. result ≡ nat_lt most_proof_bytes (length bytes)) }
+/// How many bytes a file has, if it is there.
+fn size_of(shelf: &Shelf, file: &Name) -> u64
+    ensures { IfSome (folder_on shelf.now file.now) (λ bytes. result ≡ length bytes) }
 {
-    match shelf.file(proof) {
-        Some(bytes) => bytes.len() as u64 > MOST_PROOF_BYTES,
-        None => false,
+    match shelf.file(file) {
+        Some(bytes) => bytes.len() as u64,
+        None => 0,
     }
 }
 
-/// How many claims the proof has that `score` wrote: the checker reads it again, and accepts it.
-fn accepted_claims(alloc: Global, shelf: &mut Shelf, day: DayNames<'_>) -> Result<usize, DeskError>
-    requires { IsScoredFolder (folder_on shelf.old) (names_seen day) }
+/// How many claims the proof of so many bytes has that `score` wrote: the checker reads it again, and
+/// accepts it.
+fn accepted_claims(
+    alloc: Global,
+    shelf: &mut Shelf,
+    day: DayNames<'_>,
+    bytes: u64,
+) -> Result<usize, DeskError>
+    requires { IsScoredFolder bytes (folder_on shelf.old) (names_seen day) }
     ensures counted { IfOk result (λ claims.
-        (scored : IsScoredFolder (folder_on shelf.old) (names_seen day.entry))
+        (scored : IsScoredFolder bytes (folder_on shelf.old) (names_seen day.entry))
         → IsCountOf scored.answer.appended claims) }
     ensures no_fault { result ≡ Err DeskError.Failed → ⊥ }
 {
-    match check_proof(alloc, shelf, day) {
+    match check_proof(alloc, shelf, day, bytes) {
         Ok(Checked::Accepted { claims }) => Ok(claims),
         Ok(Checked::Refused(_)) => unreachable!(),
         Err(Halt::Refused(_)) => unreachable!(),
@@ -64,9 +67,8 @@ fn accepted_claims(alloc: Global, shelf: &mut Shelf, day: DayNames<'_>) -> Resul
 }
 
 /// The answer of `demo NUMBER`: the sheet of the generated day of that number, and how many claims
-/// its proof has, which the checker reads again. Nothing outside is read, and nothing appended.
-///
-/// A proof that is too large to be read again ends it like want of memory.
+/// its proof has, which the checker reads again, however large it is. Nothing outside is read, and
+/// nothing appended.
 pub fn demo(
     alloc: Global,
     day: DayNumber,
@@ -90,10 +92,8 @@ pub fn demo(
     let Status::Done = scored.status else {
         unreachable!()
     };
-    if is_too_large(&shelf, &proof) {
-        return Err(DeskError::Memory);
-    }
-    let claims = accepted_claims(alloc, &mut shelf, names)?;
+    let bytes = size_of(&shelf, &proof);
+    let claims = accepted_claims(alloc, &mut shelf, names, bytes)?;
     let mut text = scored.text;
     push_claims(&mut text, claims)?;
     Ok(Answer {

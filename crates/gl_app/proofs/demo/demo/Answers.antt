@@ -16,8 +16,8 @@ returns-clause-right g c =
     let answer = answer_with c.in_ok-scored.scored right.0 in
     let has = subst (λ files. HasJust files folder) c.in_ok-generated_day.ensures.files (just_files c.in_ok-generated_day.field-0.items folder c.in_ok-shelf.ensures.files) in
     let names : DayNames = record { task = c.in_ok-task.task; proof = c.in_ok-proof.proof } in
-    let scored = scored_folder (told_on shelf) (told_on behind) folder (folder_on behind) _ names answer refl refl right.1 c.in-Done.is right.2
-    (λ bytes there. small_of c.is_too_large.result (folder_on behind names.proof) bytes c.if-is_too_large.false c.is_too_large.ensures there) in
+    let scored = scored_folder c.size_of-bytes.result (told_on shelf) (told_on behind) folder (folder_on behind) _ names answer refl refl right.1 c.in-Done.is right.2
+    (λ bytes there. small_of c.size_of-bytes.result (folder_on behind names.proof) bytes c.size_of-bytes.ensures there) in
     demo_announced _ c.args.day.number folder names answer _ c.in_ok-claims.claims
     (record { has = has; names_are = λ i. record { task = c.in_ok-task.ensures i; proof = c.in_ok-proof.ensures i }; is = right.1 })
     (subst (λ text. IsCountOf text c.in_ok-claims.claims) scored.1 (c.in_ok-claims.ensures.counted scored.0))
