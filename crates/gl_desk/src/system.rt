@@ -3,7 +3,7 @@ ghost use Rattle.std.specs.Io.KnownBytes.{Appends};
 ghost use Rattle.std.specs.IoError.{error_kind};
 ghost use Rattle.gl_desk.specs.Desk.{TakesPrefix};
 
-use std::fs::{File, OpenOptions};
+use std::fs::{File, OpenFile, OpenOptions};
 use std::io;
 use std::io::{ErrorKind, Read, Seek, SeekFrom, Write};
 use std::rt::Files;
@@ -31,13 +31,16 @@ pub fn open<Rt: Files>(rt: &Rt, name: &str) -> Result<Rt::File, SystemError> {
 
 /// Makes a file to append to it. Where something stands under the name already, be it a link that
 /// leads nowhere, it is an error.
+///
+/// Where the standard output is closed, the system gives the file its number, and what is printed
+/// would go into the file. So it is handed out under another number, behind those of the three
+/// standard streams.
 pub fn open_new<Rt: Files>(rt: &Rt, name: &str) -> Result<Rt::File, SystemError> {
-    Ok(
-        OpenOptions::new()
-            .append(true)
-            .create_new(true)
-            .open(rt, name)?,
-    )
+    let file = OpenOptions::new()
+        .append(true)
+        .create_new(true)
+        .open(rt, name)?;
+    Ok(file.try_clone()?)
 }
 
 /// Goes to a place of a file.

@@ -134,6 +134,14 @@ impl<F: OpenFile> OpenFile for OddFile<F> {
     fn sync_data(&self) -> io::Result<()> {
         self.file.sync_data()
     }
+
+    fn try_clone(&self) -> io::Result<OddFile<F>> {
+        Ok(OddFile {
+            file: self.file.try_clone()?,
+            most: self.most,
+            broken: self.broken,
+        })
+    }
 }
 
 impl<R: Files> Files for OddSystem<R> {
