@@ -1,3 +1,4 @@
 pub mod PointLemmas
 pub mod Refusals
 pub mod RowLemmas
+pub mod TaskLemmas

@@ -1,5 +1,5 @@
 -- Why a text gives no task, stage by stage.
-use Rattle.std.proofs.Common.{◌≡◌, ◌⊎◌, inl, inr, refl, ℕ, List, Option, Some}
+use Rattle.std.proofs.Common.{◌≡◌, ◌∙◌, ◌⊎◌, inl, inr, refl, sym, ap, subst, ℕ, List, Option, Some}
 use Rattle.std.specs.Prelude.{Err, Ok}
 use Rattle.std.specs.List.{find}
 use Rattle.gl_text.specs.Lines.{lines_of}
@@ -8,8 +8,10 @@ use Rattle.gl_cup.specs.declared.error.CupError.TheVariants as cup
 use Rattle.gl_cup.specs.declared.row.Row.{Row}
 use Rattle.gl_cup.specs.declared.waypoint.Columns.{Columns}
 use Rattle.gl_cup.specs.Choice.{choice, task_rows, waypoint_rows}
-use Rattle.gl_cup.specs.Reading.{IsHeader}
-use Rattle.gl_cup.specs.Refusal.{IsRefusalOf, IsTaskWrong, broken, memory, unchosen, unread, wrong}
+use Rattle.gl_cup.specs.Reading.{AreRead, IsHeader}
+use Rattle.gl_cup.specs.TaskRows.{refused_task}
+use Rattle.gl_cup.specs.declared.waypoint.Waypoint.{Waypoint}
+use Rattle.gl_cup.specs.Refusal.{IsRefusalOf, broken, memory, unchosen, unread, wrong}
 use Rattle.gl_cup.specs.Row.{first_broken, row_broken, rows_of}
 use Rattle.gl_cup.specs.Waypoint.{is_unread, refused_waypoint}
 
@@ -47,6 +49,11 @@ choice_refused text which columns rest why header none =
     unchosen (record { columns = columns; rest = rest; header = header; none = none })
 
 -- the chosen task is wrong
-pub task_refused : (text : List ℕ) (which : Option ℕ) (columns : Columns) (rest details : List Row) (row : Row) (why : CupError) → IsHeader (rows_of text) columns rest → choice which (task_rows rest) ≡ Ok (row, details) → IsTaskWrong row details why → IsRefusalOf text which why
-task_refused text which columns rest details row why header chosen is =
-    wrong (record { columns = columns; rest = rest; row = row; details = details; header = header; chosen = chosen; wrong = is })
+pub task_refused : (text : List ℕ) (which : Option ℕ) (columns : Columns) (rows rest tasks details points : List Row) (waypoints : List Waypoint) (row : Row) (why : CupError) → rows ≡ rows_of text → IsHeader rows columns rest → points ≡ waypoint_rows rest → AreRead columns points waypoints → tasks ≡ task_rows rest → choice which tasks ≡ Ok (row, details) → ((why ≡ cup.Memory → ⊥) → refused_task waypoints row details ≡ Some why) → IsRefusalOf text which why
+task_refused text which columns rows rest tasks details points waypoints row why rows-are header points-are read tasks-are chosen told =
+    let H : List Row → Type 0 = λ (all : List Row). IsHeader all columns rest in
+    let R : List Row → Type 0 = λ (all : List Row). AreRead columns all waypoints in
+    elim (other_or_memory why) [
+      | inl other ↦ wrong (record { columns = columns; rest = rest; waypoints = waypoints; row = row; details = details; header = subst H rows-are header; read = subst R points-are read; chosen = ap (choice which) (sym tasks-are) ∙ chosen; wrong = told other })
+      | inr same ↦ memory same
+    ]

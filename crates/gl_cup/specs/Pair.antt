@@ -1,8 +1,10 @@
 -- Fields of the form KEY=VALUE.
-use Rattle.std.specs.Prelude.{ℕ, ◌+◌, ◌==◌, nat_lt, if◌then◌else◌, List, length, take, drop, Option, None, Some, position, option_and_then}
-use Rattle.std.specs.List.{find}
+use Rattle.std.specs.Prelude.{ℕ, ◌+◌, ◌==◌, ◌&&◌, ◌||◌, not, nat_lt, if◌then◌else◌, codes, Bool, true, List, [], ◌∷◌, length, take, drop, Option, None, Some, position, option_and_then}
+use Rattle.std.specs.List.{find, list_any}
 use Rattle.std.specs.Str.{byte}
 use Rattle.gl_cup.specs.Waypoint.{is_same}
+use Rattle.gl_cup.specs.declared.pair.Keys as code
+use Rattle.gl_cup.specs.declared.pair.Keys.TheVariants as keys
 
 -- what stands before a place, or all where there is none
 abbrev pub before : List ℕ → Option ℕ → List ℕ
@@ -22,3 +24,36 @@ behind_key key field =
 abbrev pub value_of : List ℕ → List (List ℕ) → Option (List ℕ)
 value_of key fields =
     option_and_then (behind_key key) (find (λ field. is_same (key_of field) key) fields)
+
+-- the keys of a zone's line
+abbrev pub is_zone_key : List ℕ → Bool
+is_zone_key key =
+    is_same key (codes "ObsZone") || is_same key (codes "Style") || is_same key (codes "R1")
+    || is_same key (codes "A1") || is_same key (codes "R2") || is_same key (codes "A2")
+    || is_same key (codes "A12") || is_same key (codes "Line") || is_same key (codes "AAT")
+    || is_same key (codes "Move") || is_same key (codes "Reduce")
+
+-- those of the line of options
+abbrev pub is_options_key : List ℕ → Bool
+is_options_key key =
+    is_same key (codes "Options") || is_same key (codes "NoStart")
+    || is_same key (codes "TaskTime") || is_same key (codes "WpDis")
+    || is_same key (codes "NearDis") || is_same key (codes "NearAlt")
+    || is_same key (codes "MinDis") || is_same key (codes "RandomOrder")
+    || is_same key (codes "MaxPts") || is_same key (codes "BeforePts")
+    || is_same key (codes "AfterPts") || is_same key (codes "Bonus")
+
+abbrev pub is_key : code.Keys → List ℕ → Bool
+is_key keys.Zone key = is_zone_key key
+is_key keys.Options key = is_options_key key
+
+-- a field has a key
+abbrev pub has_key : List ℕ → List ℕ → Bool
+has_key key field = is_same (key_of field) key
+
+-- each field has one of the keys, and no key comes twice
+abbrev pub are_known : code.Keys → List (List ℕ) → Bool
+are_known known [] = true
+are_known known (field ∷ fields) =
+    is_key known (key_of field) && not (list_any (has_key (key_of field)) fields)
+    && are_known known fields

@@ -1,5 +1,5 @@
 -- Why a text in the SeeYou form gives no task.
-use Rattle.std.specs.Prelude.{◌≡◌, ℕ, ◌<◌, List, [], ◌∷◌, length, Option, None, Some, is_none, if◌then◌else◌, Ok, Err, Any}
+use Rattle.std.specs.Prelude.{◌≡◌, ℕ, List, [], ◌∷◌, Option, None, Some, is_none, if◌then◌else◌, Ok, Err}
 use Rattle.std.specs.List.{find}
 use Rattle.gl_text.specs.Lines.{lines_of}
 use Rattle.gl_cup.specs.declared.error.CupError.{CupError}
@@ -7,9 +7,11 @@ use Rattle.gl_cup.specs.declared.error.CupError.TheVariants as cup
 use Rattle.gl_cup.specs.declared.row.Row.{Row}
 use Rattle.gl_cup.specs.declared.waypoint.Columns.{Columns}
 use Rattle.gl_cup.specs.Choice.{choice, task_rows, waypoint_rows}
-use Rattle.gl_cup.specs.Reading.{IsHeader}
+use Rattle.gl_cup.specs.Reading.{AreRead, IsHeader}
 use Rattle.gl_cup.specs.Row.{first_broken, row_broken, rows_of}
+use Rattle.gl_cup.specs.TaskRows.{refused_task}
 use Rattle.gl_cup.specs.Waypoint.{columns_of, is_unread, refused_waypoint}
+use Rattle.gl_cup.specs.declared.waypoint.Waypoint.{Waypoint}
 
 -- there is no row, or the first one doesn't name the columns
 abbrev pub header_refused : List Row → Option CupError
@@ -31,31 +33,21 @@ pub record IsUnchosen (rows : List Row) (which : Option ℕ) (why : CupError) : 
   pub header : IsHeader rows columns rest
   pub none : choice which (task_rows rest) ≡ Err why
 
--- why a point gives none on a line: its name isn't known, or it has no zone
-pub data IsPointWrong (line : ℕ) (why : CupError) : Type 0 where
-  unknown : (n : ℕ) → why ≡ cup.Unknown line n → IsPointWrong line why
-  zoneless : (n : ℕ) → why ≡ cup.NoZone line n → IsPointWrong line why
-  wanting : why ≡ cup.Memory → IsPointWrong line why
-
--- why a task's row, with those below it, gives no points: it has too few fields, one of the rows
--- below it is wrong, or a point is
-pub data IsTaskWrong (row : Row) (details : List Row) (why : CupError) : Type 0 where
-  short : length row.fields < 6 → why ≡ cup.TooFewPoints row.line → IsTaskWrong row details why
-  detail : Any (λ d. why ≡ cup.Detail d.line) details → IsTaskWrong row details why
-  point : IsPointWrong row.line why → IsTaskWrong row details why
-
 -- the chosen task is wrong
 pub record IsChosenWrong (rows : List Row) (which : Option ℕ) (why : CupError) : Type 0 where
   pub columns : Columns
   pub rest : List Row
+  pub waypoints : List Waypoint
   pub row : Row
   pub details : List Row
   pub header : IsHeader rows columns rest
+  pub read : AreRead columns (waypoint_rows rest) waypoints
   pub chosen : choice which (task_rows rest) ≡ Ok (row, details)
-  pub wrong : IsTaskWrong row details why
+  pub wrong : refused_task waypoints row details ≡ Some why
 
 -- Why a text gives no task: the first line that is no row, its header, the first waypoint that
--- doesn't read, the choice of a task, or the chosen task. Want of memory tells nothing of the text.
+-- doesn't read, the choice of a task, or what is first wrong with the chosen task. Want of memory
+-- tells nothing of the text.
 pub data IsRefusalOf (text : List ℕ) (which : Option ℕ) (why : CupError) : Type 0 where
   broken : row_broken (first_broken 1 (lines_of text)) ≡ Some why → IsRefusalOf text which why
   headless : header_refused (rows_of text) ≡ Some why → IsRefusalOf text which why

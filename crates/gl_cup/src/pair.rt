@@ -1,7 +1,7 @@
 ghost use Rattle.std.specs.Prelude.{◌≡◌, ◌==◌, option_map, position};
-ghost use Rattle.gl_cup.specs.Pair.{behind_key, key_of, value_of};
+ghost use Rattle.gl_cup.specs.Pair.{are_known, behind_key, has_key, is_key, is_options_key, is_zone_key, key_of, value_of};
 ghost use Rattle.gl_cup.specs.Waypoint.{is_same};
-ghost use Rattle.std.specs.List.{find};
+ghost use Rattle.std.specs.List.{find, list_any};
 ghost use Rattle.std.specs.Str.{byte};
 
 use crate::field::Field;
@@ -49,20 +49,85 @@ pub fn value_of<'a>(fields: &'a [Field], key: &[u8]) -> Option<&'a [u8]>
     behind_key(field_with(fields, key)?.as_slice(), key)
 }
 
-/// Whether a field's key is one of these.
-fn is_known(field: &[u8], keys: &[&[u8]]) -> bool {
-    let key = key_of(field);
-    keys.iter().any(|known| *known == key)
+/// Which keys the fields of a line may have.
+#[derive(Clone, Copy, Debug, PartialEq, Eq)]
+pub enum Keys {
+    /// Those of a zone's line. `Move` and `Reduce` are passed over.
+    Zone,
+    /// Those of the line of options. Those behind `TaskTime` are passed over, but for `WpDis` and
+    /// `RandomOrder`.
+    Options,
+}
+
+/// Whether two texts are the same.
+pub fn is_same(one: &[u8], other: &[u8]) -> bool
+    ensures { result ≡ is_same one.now other.now }
+{
+    one == other
+}
+
+/// Whether a key is one of a zone's line.
+fn is_zone_key(key: &[u8]) -> bool
+    ensures { result ≡ is_zone_key key.now }
+{
+    is_same(key, b"ObsZone")
+        || is_same(key, b"Style")
+        || is_same(key, b"R1")
+        || is_same(key, b"A1")
+        || is_same(key, b"R2")
+        || is_same(key, b"A2")
+        || is_same(key, b"A12")
+        || is_same(key, b"Line")
+        || is_same(key, b"AAT")
+        || is_same(key, b"Move")
+        || is_same(key, b"Reduce")
+}
+
+/// Whether a key is one of the line of options.
+fn is_options_key(key: &[u8]) -> bool
+    ensures { result ≡ is_options_key key.now }
+{
+    is_same(key, b"Options")
+        || is_same(key, b"NoStart")
+        || is_same(key, b"TaskTime")
+        || is_same(key, b"WpDis")
+        || is_same(key, b"NearDis")
+        || is_same(key, b"NearAlt")
+        || is_same(key, b"MinDis")
+        || is_same(key, b"RandomOrder")
+        || is_same(key, b"MaxPts")
+        || is_same(key, b"BeforePts")
+        || is_same(key, b"AfterPts")
+        || is_same(key, b"Bonus")
+}
+
+/// Whether a key is one of those that a line may have.
+fn is_key(keys: Keys, key: &[u8]) -> bool
+    ensures { result ≡ is_key keys key.now }
+{
+    match keys {
+        Keys::Zone => is_zone_key(key),
+        Keys::Options => is_options_key(key),
+    }
+}
+
+/// Whether one of some fields has a key.
+fn has_key(fields: &[Field], key: &[u8]) -> bool
+    ensures { result ≡ list_any (has_key key.now) fields.now }
+{
+    fields
+        .iter()
+        .any(|field| is_same(key_of(field.as_slice()), key))
 }
 
 /// Whether the keys of fields are all known, and each comes once.
-pub fn are_known(fields: &[Field], keys: &[&[u8]]) -> bool {
+pub fn are_known(keys: Keys, fields: &[Field]) -> bool
+    ensures { result ≡ are_known keys fields.now }
+{
     let mut rest = fields;
     'fields: while let Some((field, others)) = rest.split_first() {
         let key = key_of(field.as_slice());
-        if !is_known(field.as_slice(), keys)
-            || others.iter().any(|other| key_of(other.as_slice()) == key)
-        {
+        if !is_key(keys, key) || has_key(others, key) {
             return false;
         }
         rest = others;

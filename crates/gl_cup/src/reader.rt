@@ -1,11 +1,14 @@
-ghost use Rattle.std.specs.Prelude.{◌≡◌, ◌<◌, ◌≤◌, Some, IfOk, IfErr, IfSome, length, option_map};
-ghost use Rattle.std.specs.List.{find};
-ghost use Rattle.gl_cup.specs.Reading.{ArePoints, IsHeader, IsPoint, IsTaskOf, names_in};
-ghost use Rattle.gl_cup.specs.Refusal.{IsPointWrong, IsRefusalOf, IsTaskWrong, header_refused};
+ghost use Rattle.std.specs.Prelude.{◌≡◌, ◌≢◌, ◌<◌, ◌≤◌, None, Some, IfOk, IfErr, OnOk, false, is_none, length, option_map, slice_get};
+ghost use Rattle.std.specs.List.{find, list_all};
+ghost use Rattle.gl_cup.specs.declared.error.CupError.TheVariants.{Memory};
+ghost use Rattle.gl_cup.specs.Detail.{options_among, zone_at};
+ghost use Rattle.gl_cup.specs.Reading.{ArePoints, IsHeader, IsPoint, IsTaskOf};
+ghost use Rattle.gl_cup.specs.Refusal.{IsRefusalOf, header_refused};
+ghost use Rattle.gl_cup.specs.TaskRows.{agrees, first_unknown, first_zoneless, is_one_place, names_in, place_of, refused_points, refused_task};
 ghost use Rattle.gl_cup.specs.Waypoint.{is_same};
 
 use crate::choice::{choose, split_at_mark};
-use crate::detail::{options_in, test_details, zone_in};
+use crate::detail::{options_among, test_details, zone_at};
 use crate::error::CupError;
 use crate::field::Field;
 use crate::point::{CupPoint, CupTask};
@@ -39,23 +42,41 @@ fn first_named<'a>(waypoints: &'a [Waypoint], name: &[u8]) -> Option<&'a Waypoin
         .find(|waypoint| waypoint.name.as_slice() == name)
 }
 
-/// The place of the waypoints with a name. None where there is no such waypoint, and where two of
-/// them have two places.
-fn place_of(waypoints: &[Waypoint], name: &[u8]) -> Option<Grid>
-    ensures { IfSome result (λ place. option_map (λ waypoint. waypoint.place)
-        (find (λ waypoint. is_same waypoint.name name.now) waypoints.now) ≡ Some place) }
+/// Whether two places are one.
+fn is_one_place(a: Grid, b: Grid) -> bool
+    ensures { result ≡ is_one_place a b }
 {
-    let place = first_named(waypoints, name)?.place;
-    let is_one = waypoints.iter().all(|waypoint| waypoint.name.as_slice() != name
-        || waypoint.place == place);
-    if is_one { Some(place) } else { None }
+    a.lat == b.lat && a.lon == b.lon
 }
 
-/// The names of a task's points: the fields behind its description and its take-off, and before its
-/// landing. There are at least three.
-fn names_of(row: &Row) -> Result<&[Field], CupError>
-    ensures names { IfOk result (λ names. names.now ≡ names_in row.now.fields) }
-    ensures some { IfOk result (λ names. 3 ≤ length names.now) }
+/// Whether all waypoints with a name have one place.
+fn all_agree(waypoints: &[Waypoint], name: &[u8], place: Grid) -> bool
+    ensures { result ≡ list_all (agrees name.now place) waypoints.now }
+{
+    waypoints.iter().all(|waypoint| waypoint.name.as_slice() != name
+        || is_one_place(waypoint.place, place))
+}
+
+/// The place of the waypoints with a name. None where there is no such waypoint, and where two of
+/// them have two places.
+#[tactic(auto, unfolding(crate::specs::TaskRows::place_of))]
+fn place_of(name: &[u8], waypoints: &[Waypoint]) -> Option<Grid>
+    ensures { result ≡ place_of name.now waypoints.now }
+{
+    let place = first_named(waypoints, name)?.place;
+    if all_agree(waypoints, name, place) {
+        Some(place)
+    } else {
+        None
+    }
+}
+
+/// The description of a task, and the names of its points: the fields behind the description and the
+/// take-off, and before the landing. There are at least three.
+fn names_of(row: &Row) -> Result<(&Field, &[Field]), CupError>
+    ensures title { IfOk result (λ read. slice_get row.now.fields 0 ≡ Some read.0.now) }
+    ensures names { IfOk result (λ read. read.1.now ≡ names_in row.now.fields) }
+    ensures some { IfOk result (λ read. 6 ≤ length row.now.fields) }
     ensures refused { IfErr result (λ e.
         (length row.now.fields < 6) × (e ≡ CupError.TooFewPoints row.now.line)) }
 {
@@ -63,16 +84,18 @@ fn names_of(row: &Row) -> Result<&[Field], CupError>
     if fields.len() < 6 {
         return Err(CupError::TooFewPoints(row.line));
     }
-    Ok(&fields[2..fields.len() - 1])
+    Ok((&fields[0], &fields[2..fields.len() - 1]))
 }
 
 /// Tests that each name of a task's points is known.
 fn test_names(waypoints: &[Waypoint], names: &[Field], line: u64) -> Result<(), CupError>
-    ensures { IfErr result (IsPointWrong line) }
+    ensures ok { OnOk result (first_unknown waypoints.now 0 names.now ≡ None) }
+    ensures refused { IfErr result (λ e.
+        option_map (CupError.Unknown line) (first_unknown waypoints.now 0 names.now) ≡ Some e) }
 {
-    'names: for (point, name) in names.iter().enumerate() {
-        if place_of(waypoints, name.as_slice()).is_none() {
-            return Err(CupError::Unknown(line, point as u64));
+    'names: for (n, name) in names.iter().enumerate() {
+        if place_of(name.as_slice(), waypoints).is_none() {
+            return Err(CupError::Unknown(line, n as u64));
         }
     }
     Ok(())
@@ -86,14 +109,16 @@ fn read_point(
     name: &Field,
     at: (u64, u64),
 ) -> Result<CupPoint, CupError>
+    requires { is_none (place_of name.now waypoints.now) ≡ false }
     ensures ok { IfOk result (IsPoint waypoints.now details.now at.1 name.now) }
-    ensures refused { IfErr result (IsPointWrong at.0) }
+    ensures refused { IfErr result (λ e. e ≢ Memory
+        → (zone_at details.now at.1 ≡ None) × (e ≡ CupError.NoZone at.0 at.1)) }
 {
     let (line, point) = at;
-    let Some(place) = place_of(waypoints, name.as_slice()) else {
-        return Err(CupError::Unknown(line, point));
-    };
-    let Some((zone, line)) = zone_in(details, point) else {
+    let (Some(place), Some((zone, line))) = (
+        place_of(name.as_slice(), waypoints),
+        zone_at(details, point),
+    ) else {
         return Err(CupError::NoZone(line, point));
     };
     Ok(CupPoint {
@@ -112,9 +137,12 @@ fn named_points(
     names: &[Field],
     line: u64,
 ) -> Result<Vec<CupPoint>, CupError>
+    requires { first_unknown waypoints.now 0 names.now ≡ None }
     ensures ok { IfOk result (λ points.
         ArePoints waypoints.now details.now 0 names.now points.items) }
-    ensures refused { IfErr result (IsPointWrong line) }
+    ensures zoned { IfOk result (λ points. first_zoneless details.now 0 names.now ≡ None) }
+    ensures refused { IfErr result (λ e. e ≢ Memory
+        → option_map (CupError.NoZone line) (first_zoneless details.now 0 names.now) ≡ Some e) }
 {
     let mut points = Vec::new(alloc);
     'names: for (n, name) in names.iter().enumerate() {
@@ -123,22 +151,54 @@ fn named_points(
     Ok(points)
 }
 
-/// The points of a task.
-fn read_points(
+/// The points of a task by their names.
+#[tactic(auto, unfolding(crate::specs::TaskRows::refused_points))]
+fn tested_points(
+    alloc: Global,
+    waypoints: &[Waypoint],
+    details: &[Row],
+    names: &[Field],
+    line: u64,
+) -> Result<Vec<CupPoint>, CupError>
+    ensures ok { IfOk result (λ points.
+        ArePoints waypoints.now details.now 0 names.now points.items) }
+    ensures right { IfOk result (λ points.
+        refused_points waypoints.now line details.now names.now ≡ None) }
+    ensures refused { IfErr result (λ e. e ≢ Memory
+        → refused_points waypoints.now line details.now names.now ≡ Some e) }
+{
+    test_names(waypoints, names, line)?;
+    test_details(details, names.len() as u64)?;
+    named_points(alloc, waypoints, details, names, line)
+}
+
+/// The task of a row and those below it.
+#[tactic(auto, unfolding(crate::specs::TaskRows::refused_task))]
+fn read_task(
     alloc: Global,
     waypoints: &[Waypoint],
     row: &Row,
     details: &[Row],
-) -> Result<Vec<CupPoint>, CupError>
-    ensures points { IfOk result (λ points.
-        ArePoints waypoints.now details.now 0 (names_in row.now.fields) points.items) }
-    ensures some { IfOk result (λ points. 3 ≤ length (names_in row.now.fields)) }
-    ensures refused { IfErr result (IsTaskWrong row.now details.now) }
+) -> Result<CupTask, CupError>
+    ensures points { IfOk result (λ task.
+        ArePoints waypoints.now details.now 0 (names_in row.now.fields) task.points) }
+    ensures title { IfOk result (λ task. slice_get row.now.fields 0 ≡ Some task.title) }
+    ensures says { IfOk result (λ task.
+        options_among details.now ≡ record { opens = task.opens; time = task.time }) }
+    ensures right { IfOk result (λ task.
+        refused_task waypoints.now row.now details.now ≡ None) }
+    ensures refused { IfErr result (λ e. e ≢ Memory
+        → refused_task waypoints.now row.now details.now ≡ Some e) }
 {
-    let names = names_of(row)?;
-    test_names(waypoints, names, row.line)?;
-    test_details(details, names.len())?;
-    named_points(alloc, waypoints, details, names, row.line)
+    let (title, names) = names_of(row)?;
+    let points = tested_points(alloc, waypoints, details, names, row.line)?;
+    let options = options_among(details);
+    Ok(CupTask {
+        title: Field::from_slice(alloc, title.as_slice())?,
+        points: Items::from_vec(points),
+        opens: options.opens,
+        time: options.time,
+    })
 }
 
 /// Reads a task of a text in the SeeYou form (docs/cup.md): the one of a number, counted from 1, or
@@ -152,17 +212,6 @@ pub fn read_cup(alloc: Global, text: &[u8], which: Option<u32>) -> Result<CupTas
     let (points, tasks) = split_at_mark(rest);
     let waypoints = read_waypoints(alloc, &columns, points)?;
     let (row, details) = choose(tasks, which)?;
-    let points = read_points(alloc, &waypoints, row, details)?;
-    let title = row
-        .fields
-        .as_slice()
-        .first()
-        .ok_or(CupError::TooFewPoints(row.line))?;
-    let options = options_in(details);
-    Ok(CupTask {
-        title: Field::from_slice(alloc, title.as_slice())?,
-        points: Items::from_vec(points),
-        opens: options.opens,
-        time: options.time,
-    })
+    let task = read_task(alloc, &waypoints, row, details)?;
+    Ok(task)
 }

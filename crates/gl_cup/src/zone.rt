@@ -1,11 +1,11 @@
-ghost use Rattle.std.specs.Prelude.{◌≡◌, IfSome};
+ghost use Rattle.std.specs.Prelude.{◌≡◌};
 ghost use Rattle.gl_cup.specs.Pair.{value_of};
-ghost use Rattle.gl_cup.specs.Zone.{IsZoneOf, angle_or_none, length_or_none, within_turn};
+ghost use Rattle.gl_cup.specs.Zone.{angle_or_none, angles_of, flag_in, flag_of, flags_of, head_of, length_or_none, point_of, radii_of, style_of, within_turn, zone_in, zone_of};
 
 use crate::decimal::{read_radius, read_thousandths};
 use crate::field::Field;
-use crate::pair::{are_known, value_of};
-use gl_text::read_u64;
+use crate::pair::{Keys, are_known, is_same, value_of};
+use gl_text::read_digits;
 
 /// Which way the middle of a zone points.
 #[derive(Clone, Copy, Debug, PartialEq, Eq)]
@@ -38,20 +38,34 @@ pub struct ObsZone {
     pub is_area: bool,
 }
 
-/// The keys of a zone's line. `Move` and `Reduce` are passed over.
-const KEYS: [&[u8]; 11] = [
-    b"ObsZone", b"Style", b"R1", b"A1", b"R2", b"A2", b"A12", b"Line", b"AAT", b"Move", b"Reduce",
-];
+/// The number of a point: one to nine digits, and no 0 before others.
+#[tactic(auto, unfolding(crate::specs::Zone::point_of))]
+fn read_point(text: &[u8]) -> Option<u64>
+    ensures { result ≡ point_of text.now }
+{
+    if text.is_empty() || text.len() > 9 || (text.len() > 1 && text[0] == b'0') {
+        return None;
+    }
+    Some(u64::from(read_digits(text)?))
+}
 
 /// Which way a zone points.
-fn read_style(value: &[u8]) -> Option<Style> {
-    match value {
-        b"0" => Some(Style::Fixed),
-        b"1" => Some(Style::Symmetrical),
-        b"2" => Some(Style::ToNext),
-        b"3" => Some(Style::ToPrevious),
-        b"4" => Some(Style::ToStart),
-        _ => None,
+#[tactic(auto, unfolding(crate::specs::Zone::style_of))]
+fn read_style(text: &[u8]) -> Option<Style>
+    ensures { result ≡ style_of text.now }
+{
+    if is_same(text, b"0") {
+        Some(Style::Fixed)
+    } else if is_same(text, b"1") {
+        Some(Style::Symmetrical)
+    } else if is_same(text, b"2") {
+        Some(Style::ToNext)
+    } else if is_same(text, b"3") {
+        Some(Style::ToPrevious)
+    } else if is_same(text, b"4") {
+        Some(Style::ToStart)
+    } else {
+        None
     }
 }
 
@@ -82,32 +96,100 @@ fn angle_at(fields: &[Field], key: &[u8]) -> Option<u32>
     }
 }
 
-/// Whether a key is set, to 1 or True; not where it is 0, False or left out.
-pub fn flag_at(fields: &[Field], key: &[u8]) -> Option<bool> {
-    match value_of(fields, key) {
-        None => Some(false),
-        Some(b"0" | b"False") => Some(false),
-        Some(b"1" | b"True") => Some(true),
-        Some(_) => None,
+/// Whether a value is set, to 1 or True; not where it is 0 or False.
+fn flag_in(value: &[u8]) -> Option<bool>
+    ensures { result ≡ flag_in value.now }
+{
+    if is_same(value, b"0") || is_same(value, b"False") {
+        Some(false)
+    } else if is_same(value, b"1") || is_same(value, b"True") {
+        Some(true)
+    } else {
+        None
     }
 }
 
-/// The zone of a line that begins with `ObsZone=`.
-pub fn read_zone(fields: &[Field]) -> Option<ObsZone>
-    ensures { IfSome result (IsZoneOf fields.now) }
+/// Whether a key is set, to 1 or True; not where it is 0, False or left out.
+pub fn flag_at(fields: &[Field], key: &[u8]) -> Option<bool>
+    ensures { result ≡ flag_of (value_of key.now fields.now) }
 {
-    if !are_known(fields, &KEYS) {
-        return None;
+    match value_of(fields, key) {
+        Some(value) => flag_in(value),
+        None => Some(false),
     }
+}
+
+/// The number of the point and the style.
+#[tactic(auto, unfolding(crate::specs::Zone::head_of))]
+fn read_head(fields: &[Field]) -> Option<(u64, Style)>
+    ensures { result ≡ head_of fields.now }
+{
+    let point = read_point(value_of(fields, b"ObsZone")?)?;
+    let style = read_style(value_of(fields, b"Style")?)?;
+    Some((point, style))
+}
+
+/// The two radii, of which the first has to be there.
+#[tactic(auto, unfolding(crate::specs::Zone::radii_of))]
+fn read_radii(fields: &[Field]) -> Option<(u32, u32)>
+    ensures { result ≡ radii_of fields.now }
+{
+    let first = read_radius(value_of(fields, b"R1")?)?;
+    let second = length_at(fields, b"R2")?;
+    Some((first, second))
+}
+
+/// The two half angles, and that of the direction.
+#[tactic(auto, unfolding(crate::specs::Zone::angles_of))]
+fn read_angles(fields: &[Field]) -> Option<(u32, u32, u32)>
+    ensures { result ≡ angles_of fields.now }
+{
+    let first = angle_at(fields, b"A1")?;
+    let second = angle_at(fields, b"A2")?;
+    let axis = angle_at(fields, b"A12")?;
+    Some((first, second, axis))
+}
+
+/// Whether the zone is a line, and whether it is an area.
+#[tactic(auto, unfolding(crate::specs::Zone::flags_of))]
+fn read_flags(fields: &[Field]) -> Option<(bool, bool)>
+    ensures { result ≡ flags_of fields.now }
+{
+    let line = flag_at(fields, b"Line")?;
+    let area = flag_at(fields, b"AAT")?;
+    Some((line, area))
+}
+
+/// The zone of fields whose keys are known.
+#[tactic(auto, unfolding(crate::specs::Zone::zone_in))]
+fn zone_in(fields: &[Field]) -> Option<ObsZone>
+    ensures { result ≡ zone_in fields.now }
+{
+    let (point, style) = read_head(fields)?;
+    let (radius, second_radius) = read_radii(fields)?;
+    let (angle, second_angle, axis) = read_angles(fields)?;
+    let (is_line, is_area) = read_flags(fields)?;
     Some(ObsZone {
-        point: read_u64(value_of(fields, b"ObsZone")?)?,
-        style: read_style(value_of(fields, b"Style")?)?,
-        radius: read_radius(value_of(fields, b"R1")?)?,
-        angle: angle_at(fields, b"A1")?,
-        second_radius: length_at(fields, b"R2")?,
-        second_angle: angle_at(fields, b"A2")?,
-        axis: angle_at(fields, b"A12")?,
-        is_line: flag_at(fields, b"Line")?,
-        is_area: flag_at(fields, b"AAT")?,
+        point,
+        style,
+        radius,
+        angle,
+        second_radius,
+        second_angle,
+        axis,
+        is_line,
+        is_area,
     })
+}
+
+/// The zone of a line that begins with `ObsZone=`.
+#[tactic(auto, unfolding(crate::specs::Zone::zone_of))]
+pub fn read_zone(fields: &[Field]) -> Option<ObsZone>
+    ensures { result ≡ zone_of fields.now }
+{
+    if are_known(Keys::Zone, fields) {
+        zone_in(fields)
+    } else {
+        None
+    }
 }

@@ -1,0 +1,22 @@
+use Rattle.std.proofs.Common.{◌≡◌, ◌*◌, ◌*ℤ◌, ◌-ℤ◌, ℤ, pos, w64, ap, ◌∙◌, lit<}
+use Rattle.std.specs.Prelude.{int_le}
+use mir.Syntax.{w128}
+use Rattle.gl_zone.specs.Product.{greatest_scalar_product}
+use Rattle.gl_zone.specs.Zones.{cross}
+use Rattle.gl_zone.proofs.Products.{difference_fits, difference_kept, product_passed}
+use Rattle.gl_bearing.proofs.angle.is_clockwise.Goals as goal
+
+difference_is : (p q a b c d : ℤ) → p ≡ a *ℤ d → q ≡ b *ℤ c → p -ℤ q ≡ cross (a, b) (c, d)
+difference_is p q a b c d p_is q_is = cc
+
+pub overflow_sub-result : goal.overflow_sub-result
+overflow_sub-result c =
+    difference_fits w128 c.crosswise.result c.crosswise-2.result (greatest_scalar_product * greatest_scalar_product) (greatest_scalar_product * greatest_scalar_product) (lit< tt) c.crosswise.ensures.bound c.crosswise-2.ensures.bound
+
+pub returns : goal.returns
+returns c =
+    ap (int_le (pos 0))
+    (difference_kept w128 c.crosswise.result c.crosswise-2.result (greatest_scalar_product * greatest_scalar_product) (greatest_scalar_product * greatest_scalar_product) (lit< tt) c.crosswise.ensures.bound c.crosswise-2.ensures.bound
+    ∙ difference_is _ _ c.args.a.north c.args.a.east c.args.b.north c.args.b.east
+    (product_passed w64 w64 _ c.args.a.north c.args.b.east greatest_scalar_product greatest_scalar_product (lit< tt) (lit< tt) c.args.a.north_in_range c.args.b.east_in_range c.crosswise.ensures.value)
+    (product_passed w64 w64 _ c.args.a.east c.args.b.north greatest_scalar_product greatest_scalar_product (lit< tt) (lit< tt) c.args.a.east_in_range c.args.b.north_in_range c.crosswise-2.ensures.value))

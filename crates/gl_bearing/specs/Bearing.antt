@@ -1,0 +1,46 @@
+-- The direction from one place to another, in 1/100,000 minute clockwise from north.
+use Rattle.std.specs.Prelude.{◌≡◌, ℕ, ◌+◌, ◌<◌, nat_lt, true, false, if◌then◌else◌, ℤ, pos, ◌-ℤ◌}
+use Rattle.gl_sphere.specs.Place.{written_vector, written_north, written_east}
+use Rattle.gl_sphere.specs.Sine.{written_sine, written_cosine}
+use Rattle.gl_sphere.specs.Sphere.{half_turn}
+use Rattle.gl_sphere.specs.declared.place.Grid.{Grid}
+use Rattle.gl_zone.specs.Product.{scalar_product}
+use Rattle.gl_zone.specs.Zones.{is_clockwise}
+
+-- a whole turn
+abbrev pub whole_turn : ℕ
+whole_turn = 2_160_000_000
+
+-- the direction from a place to another, by its parts towards north and towards east
+abbrev pub direction_to : Grid → Grid → ℤ × ℤ
+direction_to from to = (
+  scalar_product (written_north from) (written_vector to),
+  scalar_product (written_east from) (written_vector to),
+)
+
+-- an angle clockwise from north as one from -180 to 180 degrees
+unfoldable pub signed_angle : ℕ → ℤ
+signed_angle n = if nat_lt half_turn n then pos n -ℤ pos whole_turn else pos n
+
+-- the direction at an angle, by its parts towards north and towards east
+abbrev pub radial_at : ℕ → ℤ × ℤ
+radial_at n = (written_cosine (signed_angle n), written_sine (signed_angle n))
+
+-- A direction lies on the radial at an angle, or clockwise of it and before the next radial.
+pub record IsAtAngle (direction : ℤ × ℤ) (n : ℕ) : Type 0 where
+  pub below : n < whole_turn
+  pub reached : is_clockwise (radial_at n) direction ≡ true
+  pub next : is_clockwise (radial_at (n + 1)) direction ≡ false
+
+-- the other place lies at an angle from the one
+abbrev pub IsBearing : Grid → Grid → ℕ → Type 0
+IsBearing from to n = IsAtAngle (direction_to from to) n
+
+-- A direction is none.
+pub record IsNowhere (direction : ℤ × ℤ) : Type 0 where
+  pub north : direction.0 ≡ pos 0
+  pub east : direction.1 ≡ pos 0
+
+-- the other place lies in no direction: it is the same point, or the one across the earth
+abbrev pub HasNoBearing : Grid → Grid → Type 0
+HasNoBearing from to = IsNowhere (direction_to from to)

@@ -1,0 +1,4 @@
+pub mod Bearing
+pub mod Middle
+pub mod Opposite
+pub use Rattle.gl_zone.specs.Zones
