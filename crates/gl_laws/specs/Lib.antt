@@ -1,1 +1,2 @@
+pub mod Airspace
 pub mod Recordings

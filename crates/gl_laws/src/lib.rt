@@ -3,4 +3,5 @@
 //! this crate, so that its laws cost no proof of what stands above the readers.
 #![tactic(auto)]
 
+pub mod airspace;
 pub mod recordings;
