@@ -177,7 +177,9 @@ fn at_most_256_volumes(rt: HostRuntime) -> Result<(), Fail> {
     compare(&rt, rt.alloc(), full.as_str(), table)
 }
 
-/// The last volume isn't complete, so its first line doesn't read.
+/// Lines 1 to 3 begin the first volume and 4 to 4,099 are its corners; with two volumes the 4,097th
+/// corner is the first of the second one, in line 4,103. Where the last volume isn't complete, its
+/// first line doesn't read.
 #[test]
 fn at_most_4096_corners(rt: HostRuntime) -> Result<(), Fail> {
     let corners = times(rt.alloc(), "DP 0:0 N 0:0 E\n", 4_096)?;
@@ -185,7 +187,11 @@ fn at_most_4096_corners(rt: HostRuntime) -> Result<(), Fail> {
         too many 4100: AC R|AL SFC|AH UNL|#DP 0:0 N 0:0 E|\n\
         too many 4100: AC R|AL SFC|AH UNL|#DP 0:0 N 0:0 E|HELLO|\n\
         line 4100: AC R|AL SFC|AH UNL|#HELLO|DP 0:0 N 0:0 E|\n\
-        line 1: AC R|AL SFC|#DP 0:0 N 0:0 E|\n";
+        line 1: AC R|AL SFC|#DP 0:0 N 0:0 E|\n\
+        too many 4103: AC R|AL SFC|AH UNL|#\
+        AC R|AL SFC|AH UNL|DP 0:0 N 0:0 E|DP 0:0 N 0:0 E|DP 0:0 N 0:0 E|\n\
+        line 4100: AC R|AL SFC|AH UNL|#\
+        AC R|AL SFC|AH UNL|DP 0:0 N 0:0 E|DP 0:0 N 0:0 E|\n";
     compare(&rt, rt.alloc(), corners.as_str(), table)
 }
 
