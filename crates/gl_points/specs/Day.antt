@@ -33,7 +33,8 @@ most_points_of_day distance None = lesser (whole point_limit) (points_by_distanc
 most_points_of_day distance (Some time) =
     lesser (lesser (whole point_limit) (points_by_distance distance)) (points_by_time time)
 
--- The figures are those of a list of performances.
+-- The figures are those of a list of performances. The greatest distance is over the launched alone:
+-- who wasn't launched flew nothing, and a distance beside such an entry says nothing of the day.
 pub record IsDayOf (list : List Performance) (day : Day) : Type 0 where
   pub launched : day.launched ≡ length (launched_of list)
   pub handicap : day.handicap ≡ least_handicap list
