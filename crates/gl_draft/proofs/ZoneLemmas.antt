@@ -1,20 +1,27 @@
 -- The zones of turn points, one by one.
-use Rattle.std.proofs.Common.{◌≡◌, ◌∙◌, ℕ, ◌+◌, ◌<◌, sym, ap, get_or, List, [], ◌∷◌, ◌++◌, take, length}
-use Rattle.std.proofs.lemmas.List.{take_more}
+use Rattle.std.proofs.Common.{◌≡◌, ◌∙◌, ℕ, suc, ◌+◌, ◌<◌, ap, subst, sym, arith, get_or, slice_get, Some, List, [], ◌∷◌, ◌++◌, length}
+use Rattle.std.proofs.lemmas.Option.{slice_get-get_or}
 use Rattle.gl_cup.specs.declared.point.CupPoint.{CupPoint}
 use Rattle.gl_draft.specs.declared.draft.Zone.{Zone}
-use Rattle.gl_draft.specs.Draft.{Each}
-use Rattle.gl_draft.specs.Taken.{IsZoneFor}
+use Rattle.gl_draft.specs.Taken.{AreZonesFrom, IsZoneAt}
 
 -- one more at the end
-each-snoc : (points : List CupPoint) (zones : List Zone) (point : CupPoint) (zone : Zone) → Each IsZoneFor points zones → IsZoneFor point zone → Each IsZoneFor (points ++ point ∷ []) (zones ++ zone ∷ [])
-each-snoc [] [] point zone each is = (is, tt)
-each-snoc [] (z ∷ zs) point zone each is = absurd each
-each-snoc (p ∷ ps) [] point zone each is = absurd each
-each-snoc (p ∷ ps) (z ∷ zs) point zone each is = (each.0, each-snoc ps zs point zone each.1 is)
+zones-snoc : (points : List CupPoint) (from : ℕ) (zones : List Zone) (zone : Zone) → AreZonesFrom points from zones → IsZoneAt points (from + length zones) zone → AreZonesFrom points from (zones ++ zone ∷ [])
+zones-snoc points from [] zone are is =
+    let same : from + 0 ≡ from = omega arith in
+    (subst (λ (n : ℕ). IsZoneAt points n zone) same is, tt)
+zones-snoc points from (z ∷ zs) zone are is =
+    let same : from + suc (length zs) ≡ from + 1 + length zs = omega arith in
+    (are.0, zones-snoc points (from + 1) zs zone are.1 (subst (λ (n : ℕ). IsZoneAt points n zone) same is))
 
 -- the zone of one more point
-pub next_zones : (points : List CupPoint) (n : ℕ) (zones now : List Zone) (point : CupPoint) (zone : Zone) → n < length points → point ≡ get_or points n point → Each IsZoneFor (take n points) zones → IsZoneFor point zone → now ≡ zones ++ zone ∷ [] → Each IsZoneFor (take (n + 1) points) now
-next_zones points n zones now point zone inside is each this pushed =
-    let taken : take (n + 1) points ≡ take n points ++ point ∷ [] = take_more points n point inside ∙ ap (λ (x : CupPoint). take n points ++ x ∷ []) (sym is) in
-    rw (taken, pushed) (each-snoc (take n points) zones point zone each this)
+pub next_zones : (points : List CupPoint) (number : ℕ) (zones now : List Zone) (zone : Zone) → number ≡ length zones + 1 → AreZonesFrom points 1 zones → IsZoneAt points number zone → now ≡ zones ++ zone ∷ [] → AreZonesFrom points 1 now
+next_zones points number zones now zone count are this pushed =
+    let same : number ≡ 1 + length zones = omega arith in
+    subst (AreZonesFrom points 1) (sym pushed) (zones-snoc points 1 zones zone are (subst (λ (n : ℕ). IsZoneAt points n zone) same this))
+
+-- a point of a list is that of an equal one
+pub in_points : (all points : List CupPoint) (n m : ℕ) (point : CupPoint) → points ≡ all → n ≡ m → m < length points → point ≡ get_or points m point → slice_get all n ≡ Some point
+in_points all points n m point same here inside is =
+    let P : List CupPoint → Type 0 = λ (xs : List CupPoint). slice_get xs n ≡ Some point in
+    subst P same (ap (slice_get points) here ∙ slice_get-get_or points m point inside ∙ ap (λ (x : CupPoint). Some x) (sym is))

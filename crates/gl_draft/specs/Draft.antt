@@ -1,5 +1,5 @@
 -- What a task has of the things that were taken into its file, and the text of that file.
-use Rattle.std.specs.Prelude.{◌≡◌, ◌≢◌, ℕ, ◌*◌, List, [], ◌∷◌, true, false, Option, None, Some, IfSome, ⊤, pos}
+use Rattle.std.specs.Prelude.{◌≡◌, ◌≢◌, ℕ, ◌+◌, ◌-◌, ◌*◌, ◌%◌, List, [], ◌∷◌, true, false, Option, None, Some, IfSome, ⊤, pos}
 use Rattle.std.specs.List.{list_any}
 use Rattle.gl_sphere.specs.Place.{written_vector}
 use Rattle.gl_sphere.specs.declared.place.Grid.{Grid}
@@ -18,6 +18,8 @@ use Rattle.gl_zone.specs.declared.zone.Part as zone_part
 use Rattle.gl_zone.specs.declared.zone.Part.TheVariants as part
 use Rattle.gl_zone.specs.declared.zone.Sector as zone_sector
 use Rattle.gl_zone.specs.declared.zone.Zone as task_zone
+use Rattle.gl_draft.specs.declared.draft.Axis as draft_axis
+use Rattle.gl_draft.specs.declared.draft.Axis.TheVariants as axis
 use Rattle.gl_draft.specs.declared.draft.Draft.{Draft}
 use Rattle.gl_draft.specs.declared.draft.Finish as draft_finish
 use Rattle.gl_draft.specs.declared.draft.Finish.TheVariants as taken_finish
@@ -48,10 +50,18 @@ pub record HasStart (start : Start) (made : zone_line.Line) : Type 0 where
   pub towards : IsAt made.towards start.towards
   pub half : IsMetres made.half start.half
 
--- the sector has the radials, where they are known
-abbrev pub HasRadials : Option (ℕ × ℕ) → zone_sector.Sector → Type 0
-HasRadials None made = ⊤
-HasRadials (Some radials) made = (made.from ≡ radials.0) × (made.to ≡ radials.1)
+-- the radials of a sector so far to each side of a direction
+abbrev pub first_radial : ℕ → ℕ → ℕ
+first_radial middle half_angle = (middle + 360_000 - half_angle) % 360_000
+
+abbrev pub second_radial : ℕ → ℕ → ℕ
+second_radial middle half_angle = (middle + half_angle) % 360_000
+
+-- the sector has the radials, where it is known which way it lies
+abbrev pub HasRadials : draft_axis.Axis → ℕ → zone_sector.Sector → Type 0
+HasRadials (axis.About middle) half_angle made =
+    (made.from ≡ first_radial middle half_angle) × (made.to ≡ second_radial middle half_angle)
+HasRadials (axis.Either middle) half_angle made = ⊤
 
 -- the sector begins at its centre, and has the radius and the radials
 pub record HasSector (centre : Grid) (sector : draft_sector.Sector)
@@ -59,7 +69,7 @@ pub record HasSector (centre : Grid) (sector : draft_sector.Sector)
   pub at : IsAt made.centre centre
   pub inner : made.inner ≡ 0
   pub outer : IsMetres made.outer sector.outer
-  pub radials : HasRadials sector.radials made
+  pub radials : HasRadials sector.axis sector.half_angle made
 
 -- the part is of the same kind, about the same place, with the same radius
 abbrev pub HasPart : Grid → draft_part.Part → zone_part.Part → Type 0
@@ -88,14 +98,14 @@ Each Has [] (made ∷ more) = ⊥
 Each Has (taken ∷ rest) [] = ⊥
 Each Has (taken ∷ rest) (made ∷ more) = Has taken made × Each Has rest more
 
--- the finish has the place and the radius, or the half width
+-- the finish has the place and the radius, or the place, the half width and the place ahead
 abbrev pub HasFinish : draft_finish.Finish → task_finish.Finish → Type 0
 HasFinish (taken_finish.Ring at radius) (finish.Ring point length) =
     IsAt point at × IsMetres length radius
 HasFinish (taken_finish.Ring at radius) (finish.Gate made) = ⊥
-HasFinish (taken_finish.Gate at before half) (finish.Ring point length) = ⊥
-HasFinish (taken_finish.Gate at before half) (finish.Gate made) =
-    IsAt made.centre at × IsMetres made.half half
+HasFinish (taken_finish.Gate at towards half) (finish.Ring point length) = ⊥
+HasFinish (taken_finish.Gate at towards half) (finish.Gate made) =
+    IsAt made.centre at × IsAt made.towards towards × IsMetres made.half half
 
 -- the kind, and the minimum, where it is known
 abbrev pub HasKind : draft_kind.Kind → task_kind.Kind → Type 0

@@ -3,5 +3,7 @@ pub mod Draft
 pub mod Folder
 pub mod Line
 pub mod Run
+pub mod Sector
 pub mod Taken
+pub mod Turn
 pub mod Words

@@ -1,8 +1,10 @@
 -- What is taken from a task of a SeeYou file.
-use Rattle.std.specs.Prelude.{◌≡◌, ℕ, List, [], ◌∷◌, ◌++◌, slice_get, true, Option, None, Some, ℤ, pos, ◌+ℤ◌, ◌≤ℤ◌}
+use Rattle.std.specs.Prelude.{◌≡◌, ℕ, ◌+◌, ◌&&◌, List, [], ◌∷◌, length, slice_get, Bool, true, false, Option, None, Some, ℤ, pos, ◌+ℤ◌, ◌≤ℤ◌, ⊤}
+use Rattle.std.specs.Ordering.{int_eq}
+use Rattle.gl_bearing.specs.Opposite.{IsOpposite}
+use Rattle.gl_sphere.specs.Place.{written_vector}
 use Rattle.gl_cup.specs.declared.point.CupPoint.{CupPoint}
 use Rattle.gl_cup.specs.declared.point.CupTask.{CupTask}
-use Rattle.gl_cup.specs.declared.zone.ObsZone.{ObsZone}
 use Rattle.gl_cup.specs.Reading.{IsTaskOf}
 use Rattle.gl_desk.specs.Desk.{FilesByName, IsSeenIn}
 use Rattle.gl_sphere.specs.declared.place.Grid.{Grid}
@@ -11,9 +13,13 @@ use Rattle.gl_draft.specs.declared.draft.Finish as code_finish
 use Rattle.gl_draft.specs.declared.draft.Finish.TheVariants.{Ring, Gate}
 use Rattle.gl_draft.specs.declared.draft.Part as code_part
 use Rattle.gl_draft.specs.declared.draft.Part.TheVariants.{Circle, Sector}
+use Rattle.gl_draft.specs.declared.draft.Sector as code_sector
 use Rattle.gl_draft.specs.declared.draft.Start.{Start}
 use Rattle.gl_draft.specs.declared.draft.Zone.{Zone}
-use Rattle.gl_draft.specs.Draft.{Each, IsDraftText}
+use Rattle.gl_draft.specs.declared.turn.Turn.{Turn}
+use Rattle.gl_draft.specs.Draft.{IsDraftText}
+use Rattle.gl_draft.specs.Sector.{IsAxisOf}
+use Rattle.gl_draft.specs.Turn.{IsTurnAt}
 use Rattle.gl_draft.specs.Words.{Asked}
 
 -- two angles in 1/100,000 minute are at most half a thousandth of a minute apart
@@ -37,44 +43,78 @@ pub record IsRingOf (finish : CupPoint) (at : Grid) (radius : ℕ) : Type 0 wher
   pub radius_is : radius ≡ finish.zone.radius
   pub circle : finish.zone.angle ≡ 180_000
 
-pub record IsGateOf (finish : CupPoint) (at : Grid) (half : ℕ) : Type 0 where
+-- two places are one point
+abbrev pub is_one_point : Grid → Grid → Bool
+is_one_point a b =
+    int_eq (written_vector a).x (written_vector b).x
+    && int_eq (written_vector a).y (written_vector b).y
+    && int_eq (written_vector a).z (written_vector b).z
+
+-- a line across the way from the point before, crossed towards the place on the far side of the
+-- earth from that point, which is the way on
+pub record IsGateOf (last finish : CupPoint) (at towards : Grid) (half : ℕ) : Type 0 where
   pub at_is : IsNearPlace finish.place at
+  pub before : Grid
+  pub before_is : IsNearPlace last.place before
+  pub apart : is_one_point before at ≡ false
+  pub towards_is : IsOpposite before towards
   pub half_is : half ≡ finish.zone.radius
   pub line : finish.zone.is_line ≡ true
 
-abbrev pub IsFinishOf : CupPoint → code_finish.Finish → Type 0
-IsFinishOf finish (Ring at radius) = IsRingOf finish at radius
-IsFinishOf finish (Gate at before half) = IsGateOf finish at half
+abbrev pub IsFinishOf : CupPoint → CupPoint → code_finish.Finish → Type 0
+IsFinishOf last finish (Ring at radius) = IsRingOf finish at radius
+IsFinishOf last finish (Gate at towards half) = IsGateOf last finish at towards half
 
--- a circle for a full one, or a sector whose radials aren't known
-abbrev pub IsPartOf : ObsZone → code_part.Part → Type 0
-IsPartOf zone (Circle radius) = (radius ≡ zone.radius) × (zone.angle ≡ 180_000)
-IsPartOf zone (Sector sector) =
-    (sector.outer ≡ zone.radius) × (sector.half_angle ≡ zone.angle) × (sector.radials ≡ None)
+-- a circle for a full one, or a sector with the radius, the half angle and the direction
+pub record IsSectorOf (turn : Turn) (sector : code_sector.Sector) : Type 0 where
+  pub outer : sector.outer ≡ turn.here.now.zone.radius
+  pub half_angle : sector.half_angle ≡ turn.here.now.zone.angle
+  pub axis : IsAxisOf turn sector.axis
+
+abbrev pub IsPartOf : Turn → code_part.Part → Type 0
+IsPartOf turn (Circle radius) =
+    (radius ≡ turn.here.now.zone.radius) × (turn.here.now.zone.angle ≡ 180_000)
+IsPartOf turn (Sector sector) = IsSectorOf turn sector
 
 -- a part alone, or with a full circle of the second radius
-abbrev pub ArePartsOf : ObsZone → code_part.Part → Option code_part.Part → Type 0
-ArePartsOf zone first None = IsPartOf zone first × (zone.second_radius ≡ 0)
-ArePartsOf zone first (Some (Circle radius)) =
-    IsPartOf zone first × (radius ≡ zone.second_radius) × (zone.second_angle ≡ 180_000)
-ArePartsOf zone first (Some (Sector sector)) = ⊥
+abbrev pub ArePartsOf : Turn → code_part.Part → Option code_part.Part → Type 0
+ArePartsOf turn first None = IsPartOf turn first × (turn.here.now.zone.second_radius ≡ 0)
+ArePartsOf turn first (Some (Circle radius)) =
+    IsPartOf turn first × (radius ≡ turn.here.now.zone.second_radius)
+    × (turn.here.now.zone.second_angle ≡ 180_000)
+ArePartsOf turn first (Some (Sector sector)) = ⊥
 
 -- the zone of a turn point
-pub record IsZoneFor (point : CupPoint) (zone : Zone) : Type 0 where
-  pub at : IsNearPlace point.place zone.at
-  pub parts : ArePartsOf point.zone zone.part zone.second
+pub record IsZoneFor (turn : Turn) (zone : Zone) : Type 0 where
+  pub at : IsNearPlace turn.here.now.place zone.at
+  pub parts : ArePartsOf turn zone.part zone.second
+
+-- the zone of the turn point with a number
+pub record IsZoneAt (points : List CupPoint) (number : ℕ) (zone : Zone) : Type 0 where
+  pub turn : Turn
+  pub turn_is : IsTurnAt points number turn
+  pub zone_is : IsZoneFor turn zone
+
+-- the zones of turn points whose numbers count from one on
+abbrev pub AreZonesFrom : List CupPoint → ℕ → List Zone → Type 0
+AreZonesFrom points number [] = ⊤
+AreZonesFrom points number (zone ∷ zones) =
+    IsZoneAt points number zone × AreZonesFrom points (number + 1) zones
 
 -- the start, the zones and the finish of a task's points
 pub record IsCourseOf (task : CupTask) (start : Start) (zones : List Zone) (finish : code_finish.Finish) : Type 0 where
   pub first : CupPoint
-  pub turns : List CupPoint
   pub next : CupPoint
+  pub last_turn : CupPoint
   pub last : CupPoint
-  pub points : task.points ≡ first ∷ (turns ++ last ∷ [])
-  pub next_is : slice_get turns 0 ≡ Some next
+  pub first_is : slice_get task.points 0 ≡ Some first
+  pub next_is : slice_get task.points 1 ≡ Some next
   pub start_is : IsStartOf first next start
-  pub zones_are : Each IsZoneFor turns zones
-  pub finish_is : IsFinishOf last finish
+  pub zones_are : AreZonesFrom task.points 1 zones
+  pub count : length task.points ≡ length zones + 2
+  pub last_turn_is : slice_get task.points (length zones) ≡ Some last_turn
+  pub last_is : slice_get task.points (length zones + 1) ≡ Some last
+  pub finish_is : IsFinishOf last_turn last finish
 
 -- all that is taken from a task: its course, and when the start opens
 pub record IsDraftOf (task : CupTask) (draft : Draft) : Type 0 where

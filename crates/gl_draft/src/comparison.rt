@@ -1,8 +1,9 @@
 ghost use Rattle.std.specs.Prelude.{◌≡◌, IsTrue, IfSome, None, pos};
 ghost use Rattle.gl_draft.specs.Draft.{Each, HasCourse, HasDay, HasDraft, HasEntrant, HasFinish, HasKind, HasPart, HasParts, HasRadials, HasSector, HasStart, HasZone, IsAt, IsMetres};
 
-use crate::draft::{Draft, Finish, Kind, Part, Sector, Start, Zone};
+use crate::draft::{Axis, Draft, Finish, Kind, Part, Sector, Start, Zone};
 use crate::entrant::Entrant;
+use crate::sector::radials;
 use gl_desk::Name;
 use gl_sphere::{Grid, Vec3, vector};
 use gl_task::{Finish as TaskFinish, Kind as TaskKind, PilotStart, Task};
@@ -42,13 +43,16 @@ fn is_unannounced(pilot: Option<PilotStart>) -> bool
     pilot.is_none()
 }
 
-/// Whether a sector has the radials that are known.
-fn has_radials(radials: Option<(u32, u32)>, made: TaskSector) -> bool
-    ensures { IsTrue result → HasRadials radials made }
+/// Whether a sector has the radials, where it is known which way it lies.
+fn has_radials(axis: Axis, half_angle: u32, made: TaskSector) -> bool
+    ensures { IsTrue result → HasRadials axis half_angle made }
 {
-    match radials {
-        Some((from, to)) => made.from == from && made.to == to,
-        None => true,
+    match axis {
+        Axis::About(middle) => {
+            let (from, to) = radials(middle, half_angle);
+            made.from == from && made.to == to
+        }
+        Axis::Either(_) => true,
     }
 }
 
@@ -59,7 +63,7 @@ fn has_sector(centre: Grid, sector: Sector, made: TaskSector) -> bool
     is_at(made.centre, centre)
         && made.inner == 0
         && is_length(made.outer, sector.outer)
-        && has_radials(sector.radials, made)
+        && has_radials(sector.axis, sector.half_angle, made)
 }
 
 /// Whether a part is the one that was taken.
@@ -134,13 +138,11 @@ fn has_finish(finish: Finish, made: TaskFinish) -> bool
             } => is_at(point, at) && is_length(length, radius),
             TaskFinish::Gate(_) => false,
         },
-        Finish::Gate {
-            at,
-            before: _,
-            half,
-        } => match made {
+        Finish::Gate { at, towards, half } => match made {
             TaskFinish::Ring { .. } => false,
-            TaskFinish::Gate(line) => is_at(line.centre, at) && is_length(line.half, half),
+            TaskFinish::Gate(line) => {
+                is_at(line.centre, at) && is_at(line.towards, towards) && is_length(line.half, half)
+            }
         },
     }
 }

@@ -1,12 +1,12 @@
-ghost use Rattle.std.specs.Prelude.{IfErr, IfOk};
-ghost use Rattle.gl_draft.specs.Draft.{Each};
-ghost use Rattle.gl_draft.specs.Taken.{IsCourseOf, IsFinishOf, IsStartOf, IsZoneFor};
+ghost use Rattle.std.specs.Prelude.{◌≡◌, ◌+◌, ◌≤◌, IfErr, IfOk, length};
+ghost use Rattle.gl_draft.specs.Taken.{AreZonesFrom, IsCourseOf, IsFinishOf, IsStartOf, IsZoneAt};
 ghost use Rattle.gl_draft.specs.Causes.{IsNoFault};
 
 use crate::draft::{Finish, Kind, Start, Zone};
 use crate::place::{distance, rounded};
 use crate::refusal::Cause;
 use crate::shape::{finish_of, start_of, zone_of};
+use crate::turn::turn_at;
 use gl_cup::{CupPoint, CupTask};
 use std::alloc::Global;
 
@@ -19,78 +19,75 @@ pub struct Course {
 }
 
 /// The zone of the turn point with a number, or that its zone is of another shape.
-fn turn_zone(alloc: Global, point: &CupPoint, number: u64) -> Result<Zone, Cause>
-    ensures ok { IfOk result (IsZoneFor point.now) }
+fn turn_zone(alloc: Global, points: &[CupPoint], number: usize) -> Result<Zone, Cause>
+    ensures ok { IfOk result (IsZoneAt points.now number) }
     ensures no_fault { IfErr result IsNoFault }
 {
-    match zone_of(alloc, point)? {
+    let Some(turn) = turn_at(points, number) else {
+        return Err(Cause::Differs);
+    };
+    match zone_of(alloc, turn)? {
         Some(zone) => Ok(zone),
-        None => Err(Cause::Shape(point.line, number)),
+        None => Err(Cause::Shape(turn.here.line, number as u64)),
     }
 }
 
-/// The zones of turn points, which count from 1.
+/// The zones of the turn points of a task, which are all but the first and the last.
 fn zones_of(alloc: Global, points: &[CupPoint]) -> Result<Vec<Zone>, Cause>
-    ensures ok { IfOk result (λ zones. Each IsZoneFor points.now zones.items) }
+    requires { 2 ≤ length points.now }
+    ensures zones { IfOk result (λ zones. AreZonesFrom points.now 1 zones.items) }
+    ensures count { IfOk result (λ zones. length points.now ≡ length zones.items + 2) }
     ensures no_fault { IfErr result IsNoFault }
 {
     let mut zones = Vec::new(alloc);
-    'points: for (n, point) in points.iter().enumerate() {
-        zones.push(turn_zone(alloc, point, (n as u64).saturating_add(1))?)?;
+    'numbers: for number in 1..points.len() - 1 {
+        zones.push(turn_zone(alloc, points, number)?)?;
     }
     Ok(zones)
 }
 
-/// The course from a start to the next point, over the turn points, and from the last one to a finish,
-/// or the first point whose zone the task file can't say.
-fn course_over(
-    alloc: Global,
-    from: (&CupPoint, &CupPoint),
-    turns: &[CupPoint],
-    to: (&CupPoint, &CupPoint),
-) -> Result<Course, Cause>
-    ensures start { IfOk result (λ course.
-        IsStartOf from.entry.0.now from.entry.1.now course.start) }
-    ensures zones { IfOk result (λ course. Each IsZoneFor turns.now course.zones.items) }
-    ensures finish { IfOk result (λ course. IsFinishOf to.entry.1.now course.finish) }
+/// The start of a task, or that its zone is of another shape.
+fn start_at(start: &CupPoint, next: &CupPoint) -> Result<Start, Cause>
+    ensures ok { IfOk result (IsStartOf start.now next.now) }
     ensures no_fault { IfErr result IsNoFault }
 {
-    let (start, next) = from;
-    let (last, finish) = to;
-    let Some(line) = start_of(start, next) else {
-        return Err(Cause::Shape(start.line, 0));
-    };
-    let zones = zones_of(alloc, turns)?;
-    let Some(end) = finish_of(last, finish) else {
-        return Err(Cause::Shape(finish.line, (turns.len() as u64).saturating_add(1)));
-    };
-    Ok(Course {
-        start: line,
-        zones,
-        finish: end,
-    })
+    match start_of(start, next) {
+        Some(line) => Ok(line),
+        None => Err(Cause::Shape(start.line, 0)),
+    }
 }
 
-/// The start, the zones and the finish of a task.
+/// The finish of a task, or that its zone is of another shape.
+fn finish_at(last: &CupPoint, finish: &CupPoint, number: usize) -> Result<Finish, Cause>
+    ensures ok { IfOk result (IsFinishOf last.now finish.now) }
+    ensures no_fault { IfErr result IsNoFault }
+{
+    match finish_of(last, finish) {
+        Some(end) => Ok(end),
+        None => Err(Cause::Shape(finish.line, number as u64)),
+    }
+}
+
+/// The start, the zones and the finish of a task, or the first point whose zone the task file can't
+/// say. A task that was read has at least three points.
 pub fn course_of(alloc: Global, task: &CupTask) -> Result<Course, Cause>
     ensures ok { IfOk result (λ course.
         IsCourseOf task.now course.start course.zones.items course.finish) }
     ensures no_fault { IfErr result IsNoFault }
 {
-    let Some((start, rest)) = task.points.as_slice().split_first() else {
+    let points = task.points.as_slice();
+    if points.len() < 3 {
         return Err(Cause::Differs);
-    };
-    let Some((finish, turns)) = rest.split_last() else {
-        return Err(Cause::Differs);
-    };
-    let Some(next) = turns.first() else {
-        return Err(Cause::Differs);
-    };
-    let Some(last) = turns.last() else {
-        return Err(Cause::Differs);
-    };
-    let course = course_over(alloc, (start, next), turns, (last, finish))?;
-    Ok(course)
+    }
+    let number = points.len() - 1;
+    let start = start_at(&points[0], &points[1])?;
+    let zones = zones_of(alloc, points)?;
+    let finish = finish_at(&points[number - 1], &points[number], number)?;
+    Ok(Course {
+        start,
+        zones,
+        finish,
+    })
 }
 
 /// The kind of a task: of areas where it has a time, or a zone that is said to be an area.

@@ -1,5 +1,3 @@
-ghost use Rattle.std.specs.Prelude.{◌≤◌};
-
 use crate::entrant::Entrant;
 use gl_cup::Field;
 use gl_igc::Items;
@@ -20,12 +18,21 @@ pub struct Start {
     pub half: u32,
 }
 
-/// A sector to its radius in metres. Its radials, in thousandths of a degree, are known or not.
+/// Which way a sector lies, in thousandths of a degree clockwise from north.
+#[derive(Clone, Copy, Debug, PartialEq, Eq)]
+pub enum Axis {
+    /// About this direction.
+    About(u32),
+    /// About this direction or about the opposite one, which is for the scorer to say.
+    Either(u32),
+}
+
+/// A sector to its radius in metres, so many thousandths of a degree to each side of its axis.
 #[derive(Clone, Copy, Debug, PartialEq, Eq)]
 pub struct Sector {
     pub outer: u32,
     pub half_angle: u32,
-    pub radials: Option<(u32, u32)>,
+    pub axis: Axis,
 }
 
 /// A part of a zone: a circle of a radius in metres, or a sector.
@@ -44,12 +51,12 @@ pub struct Zone {
     pub second: Option<Part>,
 }
 
-/// A finish: a ring of a radius in metres, or a line of a half width, which is crossed away from
-/// the point before.
+/// A finish: a ring of a radius in metres, or a line of a half width, which is crossed towards a
+/// place.
 #[derive(Clone, Copy, Debug)]
 pub enum Finish {
     Ring { at: Grid, radius: u32 },
-    Gate { at: Grid, before: Grid, half: u32 },
+    Gate { at: Grid, towards: Grid, half: u32 },
 }
 
 /// All that is taken into a task file. What is left out is for the scorer to fill in, and so are

@@ -17,14 +17,16 @@ mod quoted;
 mod refusal;
 mod refusal_line;
 mod remarks;
+mod sector;
 mod shape;
 mod text;
+mod turn;
 mod way;
 mod words;
 
 pub use answer::Status;
 pub use command::run;
-pub use draft::{Draft, Finish, Kind, Part, Sector, Start, Zone};
+pub use draft::{Axis, Draft, Finish, Kind, Part, Sector, Start, Zone};
 pub use entrant::Entrant;
 pub use line::Line;
 pub use refusal::Cause;

@@ -1,9 +1,13 @@
-ghost use Rattle.std.specs.Prelude.{IfOk, IfSome};
-ghost use Rattle.gl_draft.specs.Taken.{ArePartsOf, IsFinishOf, IsPartOf, IsStartOf, IsZoneFor};
+ghost use Rattle.std.specs.Prelude.{◌≡◌, true, IfOk, IfSome};
+ghost use Rattle.gl_draft.specs.Taken.{ArePartsOf, IsFinishOf, IsPartOf, IsStartOf, IsZoneFor, is_one_point};
 
 use crate::draft::{Finish, Part, Sector, Start, Zone};
 use crate::place::rounded;
-use gl_cup::{CupPoint, Field, ObsZone, Style};
+use crate::sector::axis_of;
+use crate::turn::Turn;
+use gl_bearing::opposite;
+use gl_cup::{CupPoint, Field, Style};
+use gl_sphere::{Grid, vector};
 use std::alloc::{AllocError, Global};
 
 /// Half a turn, in thousandths of a degree: the half angle of a full circle.
@@ -25,9 +29,35 @@ pub fn start_of(start: &CupPoint, next: &CupPoint) -> Option<Start>
     })
 }
 
+/// Whether two places are one point.
+fn is_one_point(a: Grid, b: Grid) -> bool
+    ensures { result ≡ is_one_point a b }
+{
+    let one = vector(a);
+    let other = vector(b);
+    one.x == other.x && one.y == other.y && one.z == other.z
+}
+
+/// A finish line across the way from the point before; none where that is the same point.
+fn gate_of(last: &CupPoint, finish: &CupPoint) -> Option<Finish>
+    requires { finish.now.zone.is_line ≡ true }
+    ensures { IfSome result (IsFinishOf last.now finish.now) }
+{
+    let at = rounded(finish.place);
+    let before = rounded(last.place);
+    if is_one_point(before, at) {
+        return None;
+    }
+    Some(Finish::Gate {
+        at,
+        towards: opposite(before),
+        half: finish.zone.radius,
+    })
+}
+
 /// A finish that is a full circle, or a line across the way from the point before.
-pub fn finish_of(before: &CupPoint, finish: &CupPoint) -> Option<Finish>
-    ensures { IfSome result (IsFinishOf finish.now) }
+pub fn finish_of(last: &CupPoint, finish: &CupPoint) -> Option<Finish>
+    ensures { IfSome result (IsFinishOf last.now finish.now) }
 {
     let zone = finish.zone;
     if zone.second_radius != 0 {
@@ -40,41 +70,37 @@ pub fn finish_of(before: &CupPoint, finish: &CupPoint) -> Option<Finish>
         });
     }
     if zone.is_line && zone.style == Style::ToPrevious {
-        return Some(Finish::Gate {
-            at: rounded(finish.place),
-            before: rounded(before.place),
-            half: zone.radius,
-        });
+        return gate_of(last, finish);
     }
     None
 }
 
-/// The first part of a turn point's zone: a full circle, or a sector that is fixed or symmetrical.
-fn first_part(zone: ObsZone) -> Option<Part>
-    ensures { IfSome result (IsPartOf zone) }
+/// The first part of a turn point's zone: a full circle, or a sector.
+fn first_part(turn: Turn<'_>) -> Option<Part>
+    ensures { IfSome result (IsPartOf turn.entry) }
 {
+    let zone = turn.here.zone;
     if zone.is_line || zone.angle == 0 || zone.angle > HALF_TURN {
         return None;
     }
     if zone.angle == HALF_TURN {
         return Some(Part::Circle(zone.radius));
     }
-    if zone.style != Style::Fixed && zone.style != Style::Symmetrical {
-        return None;
-    }
+    let axis = axis_of(turn)?;
     Some(Part::Sector(Sector {
         outer: zone.radius,
         half_angle: zone.angle,
-        radials: None,
+        axis,
     }))
 }
 
 /// The zone of a turn point: its first part, and perhaps a full circle more. None where its zone is
 /// of another shape.
-fn parts_of(zone: ObsZone) -> Option<(Part, Option<Part>)>
-    ensures { IfSome result (λ parts. ArePartsOf zone parts.0 parts.1) }
+fn parts_of(turn: Turn<'_>) -> Option<(Part, Option<Part>)>
+    ensures { IfSome result (λ parts. ArePartsOf turn.entry parts.0 parts.1) }
 {
-    let first = first_part(zone)?;
+    let zone = turn.here.zone;
+    let first = first_part(turn)?;
     if zone.second_radius == 0 {
         return Some((first, None));
     }
@@ -84,16 +110,16 @@ fn parts_of(zone: ObsZone) -> Option<(Part, Option<Part>)>
     Some((first, Some(Part::Circle(zone.second_radius))))
 }
 
-/// The zone of a turn point.
-pub fn zone_of(alloc: Global, point: &CupPoint) -> Result<Option<Zone>, AllocError>
-    ensures { IfOk result (λ zone. IfSome zone (IsZoneFor point.now)) }
+/// The zone of a turn point; none where it is of another shape.
+pub fn zone_of(alloc: Global, turn: Turn<'_>) -> Result<Option<Zone>, AllocError>
+    ensures { IfOk result (λ zone. IfSome zone (IsZoneFor turn.entry)) }
 {
-    let Some((part, second)) = parts_of(point.zone) else {
+    let Some((part, second)) = parts_of(turn) else {
         return Ok(None);
     };
     Ok(Some(Zone {
-        name: Field::from_slice(alloc, point.name.as_slice())?,
-        at: rounded(point.place),
+        name: Field::from_slice(alloc, turn.here.name.as_slice())?,
+        at: rounded(turn.here.place),
         part,
         second,
     }))

@@ -1,8 +1,9 @@
-use crate::draft::{Draft, Finish, Kind, Part, Sector, Start, Zone};
+use crate::draft::{Axis, Draft, Finish, Kind, Part, Sector, Start, Zone};
 use crate::entrant::Entrant;
 use crate::line::Line;
 use crate::place::place_text;
 use crate::quoted::{quoted, remark};
+use crate::sector::{radials, turned_about};
 use jiff_core::civil::Date;
 use std::alloc::{AllocError, Global};
 
@@ -119,24 +120,80 @@ pub fn say_start(
     ask(alloc, lines, "close", "100000")
 }
 
+/// An angle in degrees, by its thousandths.
+fn degrees(alloc: Global, thousandths: u32) -> Result<String, AllocError> {
+    let whole = thousandths / 1_000;
+    let rest = thousandths % 1_000;
+    format!(in alloc; "{whole}.{rest:03}")
+}
+
+/// Appends how far the rounding of a direction moves the edge of a sector at its radius, at most. A
+/// direction is rounded by at most 0.00051 degrees, which are 891 centimetres in a million metres.
+fn say_rounding(alloc: Global, lines: &mut Vec<Line>, outer: u32) -> Result<(), AllocError> {
+    let centimetres = (u64::from(outer) * 891).div_ceil(1_000_000);
+    let metres = centimetres / 100;
+    let rest = centimetres % 100;
+    let line = format!(in alloc;
+        "# directions are rounded by at most 0.00051 degrees, {metres}.{rest:02} m at the radius"
+    )?;
+    say(lines, line)
+}
+
+/// Appends the two radials of a sector that lies about a direction.
+fn say_radials(
+    alloc: Global,
+    lines: &mut Vec<Line>,
+    middle: u32,
+    half_angle: u32,
+) -> Result<(), AllocError> {
+    let (from, to) = radials(middle, half_angle);
+    let half = degrees(alloc, half_angle)?;
+    let about = degrees(alloc, middle)?;
+    let line = format!(in alloc; "# outside the turn: {half} degrees to each side of {about}")?;
+    say(lines, line)?;
+    say_number(alloc, lines, "from", from)?;
+    say_number(alloc, lines, "to", to)
+}
+
+/// Appends a remark with the two radials of a sector, if it lies about a direction.
+fn note_radials(
+    alloc: Global,
+    lines: &mut Vec<Line>,
+    middle: u32,
+    half_angle: u32,
+) -> Result<(), AllocError> {
+    let (from, to) = radials(middle, half_angle);
+    let about = degrees(alloc, middle)?;
+    let line = format!(in alloc; "# if it lies about {about}: from = {from}, to = {to}")?;
+    say(lines, line)
+}
+
+/// Appends the two radials of a sector that lies about a direction or the opposite one, left to
+/// fill in, with remarks that say both.
+fn ask_radials(
+    alloc: Global,
+    lines: &mut Vec<Line>,
+    middle: u32,
+    half_angle: u32,
+) -> Result<(), AllocError> {
+    let half = degrees(alloc, half_angle)?;
+    let line = format!(in alloc;
+        "# {half} degrees to each side, but of which direction? Programs differ: look at the map."
+    )?;
+    say(lines, line)?;
+    note_radials(alloc, lines, middle, half_angle)?;
+    note_radials(alloc, lines, turned_about(middle), half_angle)?;
+    ask(alloc, lines, "from", "0")?;
+    ask(alloc, lines, "to", "0")
+}
+
 /// Appends a sector.
 fn say_sector(alloc: Global, lines: &mut Vec<Line>, sector: Sector) -> Result<(), AllocError> {
-    let degrees = sector.half_angle / 1_000;
-    let rest = sector.half_angle % 1_000;
     say_number(alloc, lines, "outer", sector.outer)?;
-    match sector.radials {
-        Some((from, to)) => {
-            say_number(alloc, lines, "from", from)?;
-            say_number(alloc, lines, "to", to)
-        }
-        None => {
-            let line = format!(in alloc;
-                "# the sector is {degrees}.{rest:03} degrees to each side of its middle"
-            )?;
-            say(lines, line)?;
-            ask(alloc, lines, "from", "0")?;
-            ask(alloc, lines, "to", "0")
-        }
+    say_rounding(alloc, lines, sector.outer)?;
+    match sector.axis {
+        Axis::About(middle) => say_radials(alloc, lines, middle, sector.half_angle),
+        Axis::Either(middle) => ask_radials(alloc, lines, middle, sector.half_angle),
     }
 }
 
@@ -170,16 +227,15 @@ pub fn say_finish(alloc: Global, lines: &mut Vec<Line>, finish: Finish) -> Resul
             say_place(alloc, lines, "at", at)?;
             say_number(alloc, lines, "ring", radius)
         }
-        Finish::Gate { at, before, half } => {
-            let trial = place_text(alloc, before)?;
+        Finish::Gate { at, towards, half } => {
             say_place(alloc, lines, "at", at)?;
             say_number(alloc, lines, "half", half)?;
             say_text(
                 alloc,
                 lines,
-                "# a place beyond the line, on the way from the last turn point",
+                "# straight on from the last turn point, on the far side of the earth from it",
             )?;
-            ask(alloc, lines, "towards", trial.as_str())
+            say_place(alloc, lines, "towards", towards)
         }
     }
 }
