@@ -4,7 +4,7 @@ use Rattle.std.specs.Prelude.{int_le}
 use Rattle.std.proofs.lemmas.Int.{ints}
 use Rattle.gl_sphere.specs.Sine.{half_turn_sine, quarter_sine, radians, sine_sum, sine_term, written_cosine, written_sine}
 use Rattle.gl_zone.specs.Zones.{is_clockwise}
-use Rattle.gl_bearing.specs.Bearing.{radial_at, signed_angle}
+use Rattle.gl_bearing.specs.Bearing.{IsNowhere, is_too_near, radial_at, signed_angle}
 
 pub radial-north : radial_at 0 ≡ (pos 10_000_000_000_000_000, pos 0)
 unfolding signed_angle written_cosine written_sine half_turn_sine quarter_sine radians sine_sum sine_term
@@ -67,3 +67,10 @@ behind_west n e h = behind 1_620_000_000 _ _ n e radial-west (omega (arith, ints
 
 pub before_round : (n e : ℤ) → e <ℤ pos 0 → is_clockwise (radial_at 2_160_000_000) (n, e) ≡ false
 before_round n e h = before 2_160_000_000 _ _ n e radial-round (omega (arith, ints, h))
+
+-- no direction is too near
+pub nowhere_is_near : (n e : ℤ) → IsNowhere (n, e) → is_too_near (n, e) ≡ true
+nowhere_is_near n e is =
+    let N : ℤ → Type 0 = λ (x : ℤ). is_too_near (x, e) ≡ true in
+    let E : ℤ → Type 0 = λ (x : ℤ). is_too_near (pos 0, x) ≡ true in
+    subst N (sym is.north) (subst E (sym is.east) refl)

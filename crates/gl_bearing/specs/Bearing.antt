@@ -1,5 +1,5 @@
 -- The direction from one place to another, in 1/100,000 minute clockwise from north.
-use Rattle.std.specs.Prelude.{◌≡◌, ℕ, ◌+◌, ◌<◌, nat_lt, true, false, if◌then◌else◌, ℤ, pos, ◌-ℤ◌}
+use Rattle.std.specs.Prelude.{◌≡◌, ℕ, ◌+◌, ◌<◌, nat_lt, true, false, if◌then◌else◌, ℤ, pos, ◌-ℤ◌, ◌&&◌, Bool, unsigned_abs}
 use Rattle.gl_sphere.specs.Place.{written_vector, written_north, written_east}
 use Rattle.gl_sphere.specs.Sine.{written_sine, written_cosine}
 use Rattle.gl_sphere.specs.Sphere.{half_turn}
@@ -26,6 +26,16 @@ signed_angle n = if nat_lt half_turn n then pos n -ℤ pos whole_turn else pos n
 abbrev pub radial_at : ℕ → ℤ × ℤ
 radial_at n = (written_cosine (signed_angle n), written_sine (signed_angle n))
 
+-- the part towards north of a point a kilometre north, 100,000 centimetres by the radius
+abbrev pub kilometre : ℕ
+kilometre = 63_710_000_000_000
+
+-- a point lies less than a kilometre away in both parts, or so near to the far side of the earth,
+-- where whole centimetres could turn its direction
+abbrev pub is_too_near : ℤ × ℤ → Bool
+is_too_near direction =
+    nat_lt (unsigned_abs direction.0) kilometre && nat_lt (unsigned_abs direction.1) kilometre
+
 -- A direction lies on the radial at an angle, or clockwise of it and before the next radial.
 pub record IsAtAngle (direction : ℤ × ℤ) (n : ℕ) : Type 0 where
   pub below : n < whole_turn
@@ -33,14 +43,15 @@ pub record IsAtAngle (direction : ℤ × ℤ) (n : ℕ) : Type 0 where
   pub next : is_clockwise (radial_at (n + 1)) direction ≡ false
 
 -- the other place lies at an angle from the one
-abbrev pub IsBearing : Grid → Grid → ℕ → Type 0
-IsBearing from to n = IsAtAngle (direction_to from to) n
+pub record IsBearing (from to : Grid) (n : ℕ) : Type 0 where
+  pub apart : is_too_near (direction_to from to) ≡ false
+  pub at : IsAtAngle (direction_to from to) n
 
--- A direction is none.
+-- a direction is none
 pub record IsNowhere (direction : ℤ × ℤ) : Type 0 where
   pub north : direction.0 ≡ pos 0
   pub east : direction.1 ≡ pos 0
 
--- the other place lies in no direction: it is the same point, or the one across the earth
+-- the other place has no direction
 abbrev pub HasNoBearing : Grid → Grid → Type 0
-HasNoBearing from to = IsNowhere (direction_to from to)
+HasNoBearing from to = is_too_near (direction_to from to) ≡ true

@@ -1,7 +1,7 @@
 ghost use Rattle.std.specs.Prelude.{◌≡◌, ◌+◌, ◌<◌, ◌≤◌, IfNone, IfSome, true, false};
 ghost use Rattle.gl_sphere.specs.Range.{IsWithin};
 ghost use Rattle.gl_zone.specs.Zones.{is_clockwise};
-ghost use Rattle.gl_bearing.specs.Bearing.{HasNoBearing, IsAtAngle, IsBearing, IsNowhere, radial_at, signed_angle, whole_turn};
+ghost use Rattle.gl_bearing.specs.Bearing.{HasNoBearing, IsAtAngle, IsBearing, IsNowhere, is_too_near, radial_at, signed_angle, whole_turn};
 
 use crate::direction::{Direction, WHOLE_TURN, direction_to};
 use crate::product::crosswise;
@@ -9,6 +9,9 @@ use gl_sphere::{Grid, HALF_TURN, wcos, wsin};
 
 /// A quarter of a turn, in 1/100,000 minute.
 const QUARTER_TURN: u32 = 540_000_000;
+
+/// The part towards north of a point a kilometre north: 100,000 centimetres by the radius.
+const KILOMETRE: u64 = 63_710_000_000_000;
 
 /// An angle clockwise from north as one from -180 to 180 degrees.
 #[tactic(auto, unfolding(crate::specs::Bearing::signed_angle))]
@@ -97,13 +100,34 @@ fn quarter_of(direction: Direction) -> Option<u32>
     }
 }
 
-/// The direction from a place to another, in 1/100,000 minute clockwise from north; none where they
-/// are one point, or opposite ones.
+/// Whether a point lies less than a kilometre away in both parts, or so near to the far side of the
+/// earth. Whole centimetres could turn its direction.
+fn is_too_near(direction: Direction) -> bool
+    ensures { result ≡ is_too_near (direction.north, direction.east) }
+{
+    direction.north.unsigned_abs() < KILOMETRE && direction.east.unsigned_abs() < KILOMETRE
+}
+
+/// The angle of a direction, in 1/100,000 minute clockwise from north; none where it is too near.
+#[tactic(auto, using(crate::proofs::Quarters::nowhere_is_near))]
+fn angle_of(direction: Direction) -> Option<u32>
+    ensures apart { IfSome result (λ n.
+        is_too_near (direction.north, direction.east) ≡ false) }
+    ensures some { IfSome result (IsAtAngle (direction.north, direction.east)) }
+    ensures none { IfNone result (is_too_near (direction.north, direction.east) ≡ true) }
+{
+    if is_too_near(direction) {
+        return None;
+    }
+    let low = quarter_of(direction)?;
+    Some(angle_between(direction, low, low + QUARTER_TURN))
+}
+
+/// The direction from a place to another, in 1/100,000 minute clockwise from north; none where that
+/// is less than a kilometre away, or so near to the far side of the earth.
 pub fn bearing(from: Grid, to: Grid) -> Option<u32>
     ensures some { IfSome result (IsBearing from to) }
     ensures none { IfNone result (HasNoBearing from to) }
 {
-    let direction = direction_to(from, to);
-    let low = quarter_of(direction)?;
-    Some(angle_between(direction, low, low + QUARTER_TURN))
+    angle_of(direction_to(from, to))
 }

@@ -1,7 +1,7 @@
 -- What is taken from a task of a SeeYou file.
-use Rattle.std.specs.Prelude.{◌≡◌, ℕ, ◌+◌, ◌&&◌, List, [], ◌∷◌, length, slice_get, Bool, true, false, Option, None, Some, ℤ, pos, ◌+ℤ◌, ◌≤ℤ◌, ⊤}
-use Rattle.std.specs.Ordering.{int_eq}
+use Rattle.std.specs.Prelude.{◌≡◌, ℕ, ◌≤◌, ◌+◌, List, [], ◌∷◌, length, slice_get, true, Option, None, Some, ℤ, pos, ◌+ℤ◌, ◌≤ℤ◌, ⊤}
 use Rattle.gl_bearing.specs.Opposite.{IsOpposite}
+use Rattle.gl_sphere.specs.Distance.{squared_chord, written_distance}
 use Rattle.gl_sphere.specs.Place.{written_vector}
 use Rattle.gl_cup.specs.declared.point.CupPoint.{CupPoint}
 use Rattle.gl_cup.specs.declared.point.CupTask.{CupTask}
@@ -43,20 +43,17 @@ pub record IsRingOf (finish : CupPoint) (at : Grid) (radius : ℕ) : Type 0 wher
   pub radius_is : radius ≡ finish.zone.radius
   pub circle : finish.zone.angle ≡ 180_000
 
--- two places are one point
-abbrev pub is_one_point : Grid → Grid → Bool
-is_one_point a b =
-    int_eq (written_vector a).x (written_vector b).x
-    && int_eq (written_vector a).y (written_vector b).y
-    && int_eq (written_vector a).z (written_vector b).z
+-- how far apart two places are, in centimetres
+abbrev pub distance_of : Grid → Grid → ℕ
+distance_of a b = written_distance (squared_chord (written_vector a) (written_vector b))
 
--- a line across the way from the point before, crossed towards the place on the far side of the
+-- a line across the way from the point before, which is a kilometre away or more, crossed towards the place on the far side of the
 -- earth from that point, which is the way on
 pub record IsGateOf (last finish : CupPoint) (at towards : Grid) (half : ℕ) : Type 0 where
   pub at_is : IsNearPlace finish.place at
   pub before : Grid
   pub before_is : IsNearPlace last.place before
-  pub apart : is_one_point before at ≡ false
+  pub apart : 100_000 ≤ distance_of before at
   pub towards_is : IsOpposite before towards
   pub half_is : half ≡ finish.zone.radius
   pub line : finish.zone.is_line ≡ true

@@ -1,7 +1,7 @@
 ghost use Rattle.std.specs.Prelude.{◌≡◌, ◌+◌, ◌≤◌, OnOk};
 ghost use Rattle.gl_sphere.specs.Range.{IsWithin};
 ghost use Rattle.gl_sphere.specs.Sphere.{half_turn, quarter_turn};
-ghost use Rattle.gl_draft.specs.Taken.{IsNear, IsNearPlace};
+ghost use Rattle.gl_draft.specs.Taken.{IsNear, IsNearPlace, distance_of};
 
 use gl_sphere::{Grid, dist, sq, vector};
 use std::alloc::{AllocError, Global};
@@ -59,7 +59,9 @@ pub fn rounded(place: Grid) -> Grid
 }
 
 /// How far apart two places are, in centimetres.
-pub fn distance(one: Grid, other: Grid) -> u64 {
+pub fn distance(one: Grid, other: Grid) -> u64
+    ensures { result ≡ distance_of one other }
+{
     dist(sq(vector(one), vector(other)))
 }
 

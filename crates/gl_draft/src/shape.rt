@@ -1,17 +1,19 @@
 ghost use Rattle.std.specs.Prelude.{◌≡◌, true, IfOk, IfSome};
-ghost use Rattle.gl_draft.specs.Taken.{ArePartsOf, IsFinishOf, IsPartOf, IsStartOf, IsZoneFor, is_one_point};
+ghost use Rattle.gl_draft.specs.Taken.{ArePartsOf, IsFinishOf, IsPartOf, IsStartOf, IsZoneFor};
 
 use crate::draft::{Finish, Part, Sector, Start, Zone};
-use crate::place::rounded;
+use crate::place::{distance, rounded};
 use crate::sector::axis_of;
 use crate::turn::Turn;
 use gl_bearing::opposite;
 use gl_cup::{CupPoint, Field, Style};
-use gl_sphere::{Grid, vector};
 use std::alloc::{AllocError, Global};
 
 /// Half a turn, in thousandths of a degree: the half angle of a full circle.
 const HALF_TURN: u32 = 180_000;
+
+/// A kilometre, in centimetres: a nearer point gives no direction to a line or a sector.
+const KILOMETRE: u64 = 100_000;
 
 /// A start that is a line across the way to the next point; none where its zone is of another
 /// shape.
@@ -29,23 +31,15 @@ pub fn start_of(start: &CupPoint, next: &CupPoint) -> Option<Start>
     })
 }
 
-/// Whether two places are one point.
-fn is_one_point(a: Grid, b: Grid) -> bool
-    ensures { result ≡ is_one_point a b }
-{
-    let one = vector(a);
-    let other = vector(b);
-    one.x == other.x && one.y == other.y && one.z == other.z
-}
-
-/// A finish line across the way from the point before; none where that is the same point.
+/// A finish line across the way from the point before; none where that is less than a kilometre
+/// away.
 fn gate_of(last: &CupPoint, finish: &CupPoint) -> Option<Finish>
     requires { finish.now.zone.is_line ≡ true }
     ensures { IfSome result (IsFinishOf last.now finish.now) }
 {
     let at = rounded(finish.place);
     let before = rounded(last.place);
-    if is_one_point(before, at) {
+    if distance(before, at) < KILOMETRE {
         return None;
     }
     Some(Finish::Gate {

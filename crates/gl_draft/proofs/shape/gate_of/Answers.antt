@@ -1,4 +1,4 @@
-use Rattle.std.proofs.Common.{◌∙◌, refl, sym}
+use Rattle.std.proofs.Common.{arith, refl}
 use Rattle.gl_draft.proofs.shape.gate_of.Goals as goal
 
 pub returns : goal.returns
@@ -6,7 +6,7 @@ returns c = record {
   at_is = c.rounded-at.ensures;
   before = c.rounded-before.result;
   before_is = c.rounded-before.ensures;
-  apart = sym c.is_one_point.ensures ∙ c.if-is_one_point.false;
+  apart = omega (arith, c.distance.ensures);
   towards_is = c.opposite.ensures;
   half_is = refl;
   line = c.requires;
