@@ -49,6 +49,6 @@ mod triangle;
 
 pub use day_names::worker_count;
 pub use laws::{one_answer, one_series};
-pub use program::{carry_out_words, run_program};
+pub use program::run_program;
 pub use running::{run, run_single};
 pub use status::Status;
