@@ -37,12 +37,11 @@ pub fn twin_but(alloc: Global, desk: &mut MemDesk, one: &Name, text: &str) -> Re
     let names = desk.names(alloc)?;
     let mut made = fresh(alloc, 0)?;
     for name in &names {
-        let bytes = if name == one {
-            text.as_bytes()
+        if name == one {
+            made.append(alloc, name, text.as_bytes())?;
         } else {
-            desk.file(name).unwrap_or(b"")
-        };
-        made.append(alloc, name, bytes)?;
+            made.append(alloc, name, desk.file(name).unwrap_or(b""))?;
+        }
     }
     Ok(made)
 }
