@@ -1,38 +1,31 @@
 -- The laws of `badge` and `badgecheck`.
-use Rattle.std.proofs.Common.{◌≡◌, ◌≢◌, ◌∙◌, refl, sym, ap, subst, ℕ, ◌≤◌, ◌⊎◌, inl, inr, true, List, length, Option, None, Some, Result, Ok}
-use Rattle.std.specs.Prelude.{IsSomeAnd}
+use Rattle.std.proofs.Common.{◌≡◌, ◌≢◌, ◌∙◌, refl, sym, ap, subst, ℕ, ◌≤◌, ◌⊎◌, inl, inr, List, length, Option, None, Some}
 use Rattle.gl_badge.proofs.Proving.{badges_accepted}
 use Rattle.gl_badge.specs.Proved.{IsBadgeChecked}
 use Rattle.gl_desk.specs.Desk.{FilesByName}
-use Rattle.gl_day.specs.declared.fault.Checked.{Checked}
 use Rattle.gl_day.specs.declared.fault.Checked.TheVariants as checked
 use Rattle.gl_igc.specs.declared.recording.Recording.{Recording}
 use Rattle.gl_proof.proofs.Unique.{text_unique}
-use Rattle.gl_proof.specs.declared.proof.Proof.{Proof}
 use Rattle.gl_proof.specs.declared.version.Version.TheVariants.{Two}
 use Rattle.gl_proof.specs.Claim.{Statement}
 use Rattle.gl_proof.specs.Text.{IsTextOf, statements_of}
-use Rattle.gl_app.specs.declared.refusal.Refusal.{Refusal}
+use Rattle.gl_words.specs.Words.{BadgeWords}
+use Rattle.gl_words.proofs.Unbroken.{HasUnbrokenBadge}
+use Rattle.gl_files.specs.declared.refusal.Refusal.{Refusal}
+use Rattle.gl_files.specs.BadgeFiles.{BadgeSeen, IsBadgeRead, IsBadgeSeen, badge_check_tests, badge_tests}
+use Rattle.gl_files.specs.FileTests.{AllPass, FirstFails, most_proof_bytes}
+use Rattle.gl_files.proofs.FileTests.{AreNamed, none_fails}
 use Rattle.gl_app.specs.declared.status.Status.{Status}
 use Rattle.gl_app.specs.declared.status.Status.TheVariants as status
 use Rattle.gl_app.specs.Answer.{Answer, refused}
 use Rattle.gl_app.specs.Badge.{IsBadge, IsBadgeBegun, IsBadgeCheck, IsBadgeFolder, IsBadgeJudged, IsBadgeSaid, IsBadgeTold, badge_check_promise, badge_promise}
-use Rattle.gl_app.specs.BadgeFiles.{BadgeSeen, IsBadgeRead, IsBadgeSeen, badge_check_tests, badge_tests}
 use Rattle.gl_app.specs.Check.{checked_answer}
-use Rattle.gl_app.specs.FileTests.{AllPass, FirstFails, most_proof_bytes}
 use Rattle.gl_app.specs.Texts.{IsLine}
-use Rattle.gl_app.specs.Words.{BadgeWords}
 use Rattle.gl_app.proofs.CheckLaws.{checked_result}
 use Rattle.gl_app.proofs.DayLines.{checked_line}
-use Rattle.gl_app.proofs.FileTests.{AreNamed, by_tests_line, by_tests_passes, by_tests_result, none_fails}
-use Rattle.gl_app.proofs.LineTexts.{is_unbroken}
+use Rattle.gl_app.proofs.ByTests.{by_tests_line, by_tests_passes, by_tests_result}
 use Rattle.gl_app.proofs.NearLaws.{one_recording, still}
 use Rattle.gl_app.proofs.Promises.{IsLawful, IsPart, done_no_refusal, some_result}
-
--- the names of the files have no LF
-pub record HasUnbrokenBadge (words : BadgeWords) : Type 0 where
-  pub flight : is_unbroken words.flight ≡ true
-  pub proof : is_unbroken words.proof ≡ true
 
 badge_named : (words : BadgeWords) → HasUnbrokenBadge words → (seen : BadgeSeen) → AreNamed (badge_tests words seen)
 badge_named words named seen = (named.flight, (named.proof, (named.flight, (named.flight, tt))))

@@ -16,22 +16,22 @@ use Rattle.gl_proof.specs.declared.version.Version.TheVariants.{Two}
 use Rattle.gl_proof.specs.Claim.{Statement, claim_text, statement_of}
 use Rattle.gl_proof.specs.Line.{EndLine, HeadingLine, ended}
 use Rattle.gl_proof.specs.Text.{proof_text, statements_of}
+use Rattle.gl_words.specs.Words.{BadgeWords}
+use Rattle.gl_files.specs.declared.halt.Halt.{Halt}
+use Rattle.gl_files.specs.declared.halt.Halt.TheVariants.{Refused, Stopped}
+use Rattle.gl_files.specs.BadgeFiles.{AreBadgeCheckRead, IsBadgeRead, IsBadgeSeen, badge_check_tests, badge_tests}
+use Rattle.gl_files.specs.FileTests.{HasTested}
+use Rattle.gl_files.specs.Halts.{halt_stop}
+use Rattle.gl_files.proofs.ReadsTwice.{reads_twice}
+use Rattle.gl_tally.specs.Appending.{HasAppended, HasAppendedPart, HasGiven}
+use Rattle.gl_tally.proofs.Appended.{HasAppended-none, HasAppended-reads, HasAppended-then, HasAppendedPart-longer, HasAppendedPart-then}
+use Rattle.gl_tally.proofs.Flights.{part_after}
 use Rattle.gl_app.specs.declared.answer.Answer as code
-use Rattle.gl_app.specs.declared.halt.Halt.{Halt}
-use Rattle.gl_app.specs.declared.halt.Halt.TheVariants.{Refused, Stopped}
 use Rattle.gl_app.specs.declared.status.Status.TheVariants.{Done}
-use Rattle.gl_app.specs.Answer.{Answer, answer_of}
-use Rattle.gl_app.specs.Appending.{HasAppended, HasAppendedPart, HasGiven}
+use Rattle.gl_app.specs.Answer.{Answer, answer_of, AnswersHalt}
 use Rattle.gl_app.specs.Badge.{IsBadge, IsBadgeCheck, badge_check_promise, badge_promise}
-use Rattle.gl_app.specs.BadgeFiles.{AreBadgeCheckRead, IsBadgeRead, IsBadgeSeen, badge_check_tests, badge_tests}
 use Rattle.gl_app.specs.Check.{checked_answer}
-use Rattle.gl_app.specs.FileTests.{HasTested}
-use Rattle.gl_app.specs.Halts.{AnswersHalt, halt_stop}
 use Rattle.gl_app.specs.Run.{HasAnswered, IsStopped}
-use Rattle.gl_app.specs.Words.{BadgeWords}
-use Rattle.gl_app.proofs.Appended.{HasAppended-none, HasAppended-reads, HasAppended-then, HasAppendedPart-longer, HasAppendedPart-then}
-use Rattle.gl_app.proofs.Commanded.{reads_twice}
-use Rattle.gl_app.proofs.Flights.{part_after}
 
 -- the texts of claims
 abbrev pub claims_text : List Claim → List ℕ

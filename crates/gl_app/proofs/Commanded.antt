@@ -13,35 +13,29 @@ use Rattle.gl_proof.specs.Text.{proof_text}
 use Rattle.gl_proof.specs.declared.version.Version.TheVariants.{Two}
 use Rattle.gl_day.specs.Expected.{Proves}
 use Rattle.gl_day.specs.Flight.{StewardRules}
+use Rattle.gl_words.specs.Words.{DayNames}
+use Rattle.gl_files.specs.declared.day_files.DayFiles.{DayFiles}
+use Rattle.gl_files.specs.declared.halt.Halt.{Halt}
+use Rattle.gl_files.specs.declared.halt.Halt.TheVariants.{Refused, Stopped}
+use Rattle.gl_files.specs.DayFiles.{IsScoreTested}
+use Rattle.gl_files.specs.FileTests.{FileTest, HasTested}
+use Rattle.gl_files.specs.Halts.{IsTested, halt_stop}
+use Rattle.gl_files.proofs.ReadsTwice.{reads_twice}
+use Rattle.gl_tally.specs.Appending.{HasGiven}
+use Rattle.gl_tally.specs.Scored.{IsBegun, IsScored, statements_of_all, text_so_far}
+use Rattle.gl_tally.specs.Scoring.{IsDayDone, IsDayStopped}
+use Rattle.gl_tally.proofs.Appended.{HasAppended-none, HasAppended-reads, HasAppended-then}
+use Rattle.gl_tally.proofs.Flights.{all_texts, part_after}
 use Rattle.gl_app.specs.declared.answer.Answer as code
-use Rattle.gl_app.specs.declared.day_files.DayFiles.{DayFiles}
-use Rattle.gl_app.specs.declared.halt.Halt.{Halt}
-use Rattle.gl_app.specs.declared.halt.Halt.TheVariants.{Refused, Stopped}
 use Rattle.gl_app.specs.declared.status.Status.{Status}
 use Rattle.gl_app.specs.declared.status.Status.TheVariants.{Done}
-use Rattle.gl_app.specs.Answer.{Answer, answer_of}
-use Rattle.gl_app.specs.Appending.{HasGiven}
+use Rattle.gl_app.specs.Answer.{Answer, answer_of, AnswersHalt}
 use Rattle.gl_app.specs.Check.{IsCheck, check_promise}
-use Rattle.gl_app.specs.DayFiles.{IsScoreTested}
-use Rattle.gl_app.specs.FileTests.{FileTest, HasTested, IsByTests}
-use Rattle.gl_app.specs.Halts.{AnswersHalt, IsTested, halt_stop}
+use Rattle.gl_app.specs.ByTests.{IsByTests}
 use Rattle.gl_app.specs.Promise.{Promise, reading}
 use Rattle.gl_app.specs.Run.{Ends, HasAnswered, IsStopped, Stops}
-use Rattle.gl_app.specs.Score.{IsBegun, IsScore, IsScored, score_promise, statements_of_all, text_so_far}
-use Rattle.gl_app.specs.Scoring.{IsDayDone, IsDayStopped}
+use Rattle.gl_app.specs.Score.{IsScore, score_promise}
 use Rattle.gl_app.specs.Statuses.{status_of}
-use Rattle.gl_app.specs.Words.{DayNames}
-use Rattle.gl_app.proofs.Appended.{HasAppended-none, HasAppended-reads, HasAppended-then}
-use Rattle.gl_app.proofs.Flights.{all_texts, part_after}
-
--- calls that only read, one after the other
-pub reads_twice : (x y z : Told) → OnlyReads None x y → OnlyReads None y z → OnlyReads None x z
-reads_twice x y z one two = record {
-  folder = two.folder ∙ one.folder;
-  said = two.said ∙ one.said;
-  outputs = two.outputs ∙ one.outputs;
-  faults = two.faults ∙ one.faults;
-}
 
 -- a first part of a first part is one
 part_of : (k count : ℕ) (whole : List ℕ) → (n : ℕ) × (take k (take count whole) ≡ take n whole)

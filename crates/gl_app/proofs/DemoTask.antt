@@ -29,12 +29,12 @@ use Rattle.gl_task.specs.Values.{day_of, file_name, kind_of, list_word_of, recen
 use Rattle.gl_task.specs.declared.error.TaskError.{TaskError}
 use Rattle.gl_task.specs.declared.task.Task.{Task}
 use Rattle.gl_text.specs.Digits.{number_of}
-use Rattle.gl_app.specs.declared.day_files.DayFiles.{DayFiles}
-use Rattle.gl_app.specs.declared.refusal.Refusal.{Refusal}
-use Rattle.gl_app.specs.DayFiles.{IfPassed, IsAirspaceFor, IsDayOf, IsEmptyAirspace, IsRefusedFor, IsScoreTested, IsTaskIn, Tested, task_cause}
+use Rattle.gl_files.specs.declared.day_files.DayFiles.{DayFiles}
+use Rattle.gl_files.specs.declared.refusal.Refusal.{Refusal}
+use Rattle.gl_files.specs.DayFiles.{IfPassed, IsAirspaceFor, IsDayOf, IsEmptyAirspace, IsRefusedFor, IsScoreTested, IsTaskIn, Tested, task_cause}
+use Rattle.gl_files.proofs.DayPasses.{listed_then, new_then, ok_or_err, small_then, task_passed}
+use Rattle.gl_files.proofs.Readings.{document_same, table_refused}
 use Rattle.gl_app.specs.Demo.{HasJust, demo_names}
-use Rattle.gl_app.proofs.DayPasses.{listed_then, new_then, ok_or_err, small_then, task_passed}
-use Rattle.gl_app.proofs.Readings.{document_same, table_refused}
 
 -- the table of the task
 unfoldable pub demo_table : Members

@@ -1,27 +1,16 @@
 -- A right answer without a result says one line.
-use Rattle.std.proofs.Common.{◌≡◌, refl, sym, subst, ℕ, zero, suc, ◌/◌, ◌%◌, Bool, true, false, not, ◌==◌, if◌then◌else◌, List, [], ◌∷◌, ◌++◌, codes, arith}
-use Rattle.std.specs.List.{list_all}
-use Rattle.std.specs.Cmp.{first_so, second_so}
+use Rattle.std.proofs.Common.{◌≡◌, refl, sym, subst, ℕ, zero, suc, ◌/◌, ◌%◌, true, false, ◌==◌, if◌then◌else◌, List, [], ◌∷◌, ◌++◌, codes, arith}
 use Rattle.std.specs.Fmt.{decimal, digits, digits_onto, digit_glyph}
 use Rattle.std.proofs.lemmas.Bool.Decides.{nat_tests}
 use Rattle.std.proofs.lemmas.List.Folds.{list_all-append}
-use Rattle.std.proofs.lemmas.List.Sums.{AllPass-from_list_all, list_all-from_AllPass}
-use Rattle.std.proofs.lemmas.List.Elements.{All-contains, All-weaker}
-use Rattle.gl_app.specs.declared.refusal.Cause.{Cause}
-use Rattle.gl_app.specs.declared.refusal.Cause.TheVariants.{NotListed, Listed, TooLarge, NotIgc, NoDate, TooManyFixes, NoFix, NotToml, NoKey, WrongValue, NumberTwice, TooManyItems, WrongAirspace, TooMuchAirspace, WrongStep, TooManySteps, NoHeading, WrongProof, ProofCut, WrongDay, NoNearHeading, WrongNearProof, NearProofCut}
-use Rattle.gl_app.specs.declared.refusal.Cause.TheVariants.{NoListHeading, NoSheetHeading, WrongListLine, WrongRecord}
+use Rattle.std.proofs.lemmas.List.Sums.{AllPass-from_list_all}
+use Rattle.std.proofs.lemmas.List.Elements.{All-contains}
+use Rattle.gl_words.proofs.Unbroken.{is_inside, is_unbroken}
+use Rattle.gl_files.specs.declared.refusal.Cause.{Cause}
+use Rattle.gl_files.specs.declared.refusal.Cause.TheVariants.{NotListed, Listed, TooLarge, NotIgc, NoDate, TooManyFixes, NoFix, NotToml, NoKey, WrongValue, NumberTwice, TooManyItems, WrongAirspace, TooMuchAirspace, WrongStep, TooManySteps, NoHeading, WrongProof, ProofCut, WrongDay, NoNearHeading, WrongNearProof, NearProofCut, NoListHeading, NoSheetHeading, WrongListLine, WrongRecord}
+use Rattle.gl_files.specs.Refusals.{Parts, Place, Nowhere, AtLine, AtRecord, AtKey, parts_of, place_text, line_with, refusal_line, file_refusal}
 use Rattle.gl_app.specs.Answer.{Answer, refused}
-use Rattle.gl_app.specs.Refusals.{Parts, Place, Nowhere, AtLine, AtRecord, AtKey, parts_of, place_text, line_with, refusal_line, file_refusal}
 use Rattle.gl_app.specs.Texts.{IsLine, wrong_line}
-use Rattle.gl_app.specs.Words.{is_dots, is_file_name, is_name_byte}
-
--- the byte isn't LF
-abbrev pub is_inside : ℕ → Bool
-is_inside b = not (b == 10)
-
--- no byte of the text is LF
-abbrev pub is_unbroken : List ℕ → Bool
-is_unbroken text = list_all is_inside text
 
 -- such a text and an LF are one line
 pub line_of : (text : List ℕ) → is_unbroken text ≡ true → IsLine (text ++ 10 ∷ [])
@@ -30,17 +19,6 @@ line_of text inside = record {
   unbroken = λ has. let no : is_inside 10 ≡ true = All-contains (λ b. is_inside b ≡ true) text 10 (AllPass-from_list_all is_inside text inside) has in cc;
   ended = refl;
 }
-
--- nor is a byte of a name
-is_inside-name_byte : (b : ℕ) → is_name_byte b ≡ true → is_inside b ≡ true
-is_inside-name_byte b named = grind arith
-
--- a file's name has no LF
-pub is_unbroken-file : (file : List ℕ) → is_file_name file ≡ true → is_unbroken file ≡ true
-unfolding is_file_name
-is_unbroken-file file named =
-    let bytes : list_all is_name_byte file ≡ true = second_so _ _ (first_so _ (not (is_dots file)) named) in
-    list_all-from_AllPass is_inside file (All-weaker (λ b. is_name_byte b ≡ true) (λ b. is_inside b ≡ true) is_inside-name_byte file (AllPass-from_list_all is_name_byte file bytes))
 
 -- a line of unbroken parts is one line
 parts_are_line : (parts : Parts) (file : List ℕ) → is_unbroken parts.kind ≡ true → is_unbroken (decimal parts.number) ≡ true → is_unbroken (place_text parts.place) ≡ true → is_unbroken file ≡ true → IsLine (line_with parts file)

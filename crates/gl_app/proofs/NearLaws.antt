@@ -17,24 +17,20 @@ use Rattle.gl_near.specs.declared.answer.NearVerdict.{NearVerdict}
 use Rattle.gl_near.specs.declared.answer.NearVerdict.TheVariants.{Yes, Pair, Total, Extra, Place, Cell, Open}
 use Rattle.gl_near.specs.declared.found.NearBest.{NearBest}
 use Rattle.gl_near.specs.declared.found.NearWhy.{NearWhy}
-use Rattle.gl_app.specs.declared.refusal.Refusal.{Refusal}
+use Rattle.gl_words.specs.Words.{NearWords}
+use Rattle.gl_words.proofs.Unbroken.{is_unbroken, HasUnbrokenNear}
+use Rattle.gl_files.specs.declared.refusal.Refusal.{Refusal}
+use Rattle.gl_files.specs.FileTests.{AllPass, FirstFails, IsRecordingOf, most_proof_bytes}
+use Rattle.gl_files.specs.NearFiles.{AreNearRead, IsNearSeen, NearSeen, near_check_tests, near_tests}
+use Rattle.gl_files.proofs.FileTests.{AreNamed, none_fails}
 use Rattle.gl_app.specs.declared.status.Status.{Status}
 use Rattle.gl_app.specs.declared.status.Status.TheVariants as status
 use Rattle.gl_app.specs.Answer.{Answer, refused}
-use Rattle.gl_app.specs.FileTests.{AllPass, FirstFails, IsRecordingOf, most_proof_bytes}
 use Rattle.gl_app.specs.Near.{IsNear, IsNearBegun, IsNearCheck, IsNearChecked, IsNearFolder, IsNearFound, IsNearestSaid, box_of_verdict, near_check_promise, near_promise, pairs_of, verdict_answer, word_of_verdict}
-use Rattle.gl_app.specs.NearFiles.{AreNearRead, IsNearSeen, NearSeen, near_check_tests, near_tests}
 use Rattle.gl_app.specs.Texts.{IsLine, wrong_line}
-use Rattle.gl_app.specs.Words.{NearWords}
-use Rattle.gl_app.proofs.FileTests.{AreNamed, by_tests_line, by_tests_passes, by_tests_result, none_fails}
-use Rattle.gl_app.proofs.LineTexts.{is_unbroken, wrong_is_line}
+use Rattle.gl_app.proofs.ByTests.{by_tests_line, by_tests_passes, by_tests_result}
+use Rattle.gl_app.proofs.LineTexts.{wrong_is_line}
 use Rattle.gl_app.proofs.Promises.{IsLawful, IsPart, done_no_refusal, some_result}
-
--- the names of the files have no LF
-pub record HasUnbrokenNear (words : NearWords) : Type 0 where
-  pub flight : is_unbroken words.flight ≡ true
-  pub other : is_unbroken words.other ≡ true
-  pub proof : is_unbroken words.proof ≡ true
 
 near_named : (words : NearWords) → HasUnbrokenNear words → (seen : NearSeen) → AreNamed (near_tests words seen)
 near_named words named seen = (named.flight, (named.other, (named.proof, (named.flight, (named.flight, (named.other, (named.other, tt)))))))

@@ -15,22 +15,22 @@ use Rattle.gl_near.specs.declared.found.NearBest.{NearBest}
 use Rattle.gl_near.specs.declared.found.NearWhy.{NearWhy}
 use Rattle.gl_sphere.specs.PlaceText.{place_of, place_of_text}
 use Rattle.gl_sphere.specs.declared.place.Grid.{Grid}
+use Rattle.gl_words.specs.Words.{NearWords, PointWords}
+use Rattle.gl_files.specs.declared.halt.Halt.{Halt}
+use Rattle.gl_files.specs.declared.halt.Halt.TheVariants.{Refused, Stopped}
+use Rattle.gl_files.specs.FileTests.{HasTested}
+use Rattle.gl_files.specs.Halts.{halt_stop}
+use Rattle.gl_files.specs.NearFiles.{AreNearCheckRead, AreNearRead, IsNearSeen, near_check_tests, near_tests}
+use Rattle.gl_files.proofs.ReadsTwice.{reads_twice}
+use Rattle.gl_tally.specs.Appending.{HasAppended, HasAppendedPart, HasGiven}
+use Rattle.gl_tally.proofs.Appended.{HasAppended-none, HasAppended-reads, HasAppended-then}
+use Rattle.gl_tally.proofs.Flights.{part_after}
 use Rattle.gl_app.specs.declared.answer.Answer as code
-use Rattle.gl_app.specs.declared.halt.Halt.{Halt}
-use Rattle.gl_app.specs.declared.halt.Halt.TheVariants.{Refused, Stopped}
 use Rattle.gl_app.specs.declared.status.Status.TheVariants.{Done}
-use Rattle.gl_app.specs.Answer.{Answer, answer_of}
-use Rattle.gl_app.specs.Appending.{HasAppended, HasAppendedPart, HasGiven}
-use Rattle.gl_app.specs.FileTests.{HasTested}
-use Rattle.gl_app.specs.Halts.{AnswersHalt, halt_stop}
+use Rattle.gl_app.specs.Answer.{Answer, answer_of, AnswersHalt}
 use Rattle.gl_app.specs.Near.{IsNear, IsNearCheck, IsNearestFix, IsNearestSaid, IsPointText, near_check_promise, near_promise, point_promise, pair_text, pairs_of, verdict_answer}
-use Rattle.gl_app.specs.NearFiles.{AreNearCheckRead, AreNearRead, IsNearSeen, near_check_tests, near_tests}
 use Rattle.gl_app.specs.OfFile.{IsOfFile}
 use Rattle.gl_app.specs.Run.{HasAnswered, IsStopped}
-use Rattle.gl_app.specs.Words.{NearWords, PointWords}
-use Rattle.gl_app.proofs.Appended.{HasAppended-none, HasAppended-reads, HasAppended-then}
-use Rattle.gl_app.proofs.Commanded.{reads_twice}
-use Rattle.gl_app.proofs.Flights.{part_after}
 
 -- what a search says of the pairs of two recordings
 pub nearest_said : (one pairing : Pairing) (best : Option NearBest) (boxes : List (List (ℕ × ℕ) × NearWhy)) (said proof : List ℕ) → one ≡ pairing → IsLeast one (total_of best) → IsCertificate one best boxes → said ≡ pair_text best → IsTextOf proof best boxes → IsNearestSaid pairing (record { status = Done; said = said; appended = proof })

@@ -1,31 +1,15 @@
 -- A command that says something of one recording: its tests, and its laws.
-use Rattle.std.proofs.Common.{◌≡◌, refl, ap, ℕ, inl, inr, true, List, Option, None, Ok, Err}
-use Rattle.gl_desk.specs.Desk.{FilesByName, IsSeenIn, ListsNames}
+use Rattle.std.proofs.Common.{◌≡◌, refl, ap, ℕ, inl, true, List, Option, Ok}
+use Rattle.gl_desk.specs.Desk.{FilesByName, IsSeenIn}
 use Rattle.gl_igc.specs.declared.recording.Recording.{Recording}
-use Rattle.gl_day.specs.Flight.{most_bytes}
-use Rattle.gl_app.specs.declared.halt.Halt.{Halt}
-use Rattle.gl_app.specs.declared.halt.Halt.TheVariants.{Refused, Stopped}
-use Rattle.gl_app.specs.declared.refusal.Refusal.{Refusal}
+use Rattle.gl_words.proofs.Unbroken.{is_unbroken}
+use Rattle.gl_files.specs.FileTests.{HasTested}
+use Rattle.gl_files.specs.FlightFile.{IsFlightRead, flight_tests}
 use Rattle.gl_app.specs.declared.status.Status.TheVariants.{Done}
 use Rattle.gl_app.specs.Answer.{Answer, saying}
-use Rattle.gl_app.specs.FileTests.{HasReadFile, HasTested, IsNeeded, IsRecordingOf, RecordingText}
-use Rattle.gl_app.specs.OfFile.{IsFlightRead, IsOfFile, IsSaidOf, flight_tests, of_file_promise}
-use Rattle.gl_app.proofs.DayTests.{not_listed}
-use Rattle.gl_app.proofs.FileTests.{by_tests_line, by_tests_passes, by_tests_result, some_text_fails, some_text_passes}
-use Rattle.gl_app.proofs.LineTexts.{is_unbroken}
+use Rattle.gl_app.specs.OfFile.{IsOfFile, IsSaidOf, of_file_promise}
+use Rattle.gl_app.proofs.ByTests.{by_tests_line, by_tests_passes, by_tests_result}
 use Rattle.gl_app.proofs.Promises.{IsLawful, done_no_refusal, reading_lawful}
-
--- the file isn't listed
-pub file_missing : (folder : Option FilesByName) (names : List (List ℕ)) (file : List ℕ) (halt : Halt) → ListsNames folder names → IsNeeded names file (Err halt) → HasTested (λ seen. IsSeenIn folder file seen) (flight_tests file) IsFlightRead (Err halt)
-file_missing folder names file (Refused refusal) lists (none, same) =
-    (None, not_listed folder names file lists none, inl (ap (λ (r : Refusal). r.file) same, (refl, ap (λ (r : Refusal). r.cause) same)))
-file_missing folder names file (Stopped stop) lists needed = tt
-
--- it is listed, and was read or refused
-pub file_tested : (folder : Option FilesByName) (file : List ℕ) (result : _) → HasReadFile {X = Recording} (RecordingText None) most_bytes folder file (IsRecordingOf None) result → HasTested (λ seen. IsSeenIn folder file seen) (flight_tests file) IsFlightRead result
-file_tested folder file (Ok recording) (seen, is, passes, reads) = (seen, is, (some_text_passes (RecordingText None) most_bytes file seen passes, passes), reads)
-file_tested folder file (Err (Refused refusal)) (seen, is, fails) = (seen, is, inr (some_text_fails (RecordingText None) most_bytes file seen refusal fails, fails))
-file_tested folder file (Err (Stopped stop)) read = tt
 
 -- the answer for a file that passed
 pub flight_answered : (IsRight : Recording → List ℕ → Type 0) (folder : Option FilesByName) (file : List ℕ) (recording : Recording) (text : List ℕ)

@@ -10,16 +10,18 @@ use Rattle.gl_proof.specs.declared.version.Version.TheVariants.{Two}
 use Rattle.gl_task.specs.declared.task.Entrant.{Entrant}
 use Rattle.gl_day.specs.Flight.{IsFlight, StewardRules}
 use Rattle.gl_day.specs.Laws.Sheets.{sheet_of-one}
-use Rattle.gl_app.specs.declared.day_files.DayFiles.{DayFiles}
+use Rattle.gl_words.specs.Words.{DayNames}
+use Rattle.gl_files.specs.declared.day_files.DayFiles.{DayFiles}
+use Rattle.gl_files.specs.DayFiles.{Tested}
+use Rattle.gl_files.proofs.DayPasses.{seen_alone}
+use Rattle.gl_files.proofs.OneDay.{tests_one}
+use Rattle.gl_tally.specs.Alike.{AreAlike}
+use Rattle.gl_tally.specs.Scored.{IsScored, Scored, flights_of_all, statements_of_all}
+use Rattle.gl_tally.proofs.Flights.{zip-append}
+use Rattle.gl_tally.proofs.OneFlight.{IsOneFlight, flight_one}
 use Rattle.gl_app.specs.Answer.{Answer, refused}
-use Rattle.gl_app.specs.DayFiles.{Tested}
-use Rattle.gl_app.specs.Laws.{AreAlike, AreProofsAlike, HasOneAnswer}
-use Rattle.gl_app.specs.Score.{IsDayScored, IsScore, IsScored, Scored, flights_of_all, statements_of_all}
-use Rattle.gl_app.specs.Words.{DayNames}
-use Rattle.gl_app.proofs.DayPasses.{seen_alone}
-use Rattle.gl_app.proofs.Flights.{zip-append}
-use Rattle.gl_app.proofs.OneDay.{tests_one}
-use Rattle.gl_app.proofs.OneFlight.{IsOneFlight, flight_one}
+use Rattle.gl_app.specs.Laws.{AreProofsAlike, HasOneAnswer}
+use Rattle.gl_app.specs.Score.{IsDayScored, IsScore}
 
 -- two answers end and say the same, and append proofs that are alike
 pub record IsOneAnswer (one other : Answer) : Type 0 where

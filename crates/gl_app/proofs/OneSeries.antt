@@ -15,16 +15,16 @@ use Rattle.gl_series.specs.declared.error.ListError.TheVariants as list
 use Rattle.gl_series.specs.declared.error.SheetError.{SheetError}
 use Rattle.gl_series.specs.declared.error.SheetError.TheVariants as sheet
 use Rattle.gl_series.specs.declared.series.Series.{Series}
-use Rattle.gl_app.specs.declared.refusal.Cause.{Cause}
-use Rattle.gl_app.specs.declared.refusal.Refusal.{Refusal}
+use Rattle.gl_words.specs.Words.{SeriesWords}
+use Rattle.gl_files.specs.declared.refusal.Cause.{Cause}
+use Rattle.gl_files.specs.declared.refusal.Refusal.{Refusal}
+use Rattle.gl_files.specs.FileTests.{AllPass, Fails, FileTest, FirstFails, IsNoText, Kind, Reads, SeriesListText, SheetText, list_cause, sheet_cause}
+use Rattle.gl_files.specs.SeriesFiles.{AreDaysSeen, DaySeen, IsDaySeen, IsListRead, IsSeriesSeen, IsSheetRead, SeriesSeen, day_tests, series_tests}
+use Rattle.gl_files.proofs.FileTests.{none_fails}
+use Rattle.gl_files.proofs.SeriesTests.{days_fit, list_fits}
 use Rattle.gl_app.specs.declared.status.Status.TheVariants.{Done}
 use Rattle.gl_app.specs.Answer.{Answer, refused, saying}
-use Rattle.gl_app.specs.FileTests.{AllPass, Fails, FileTest, FirstFails, IsNoText, Kind, Reads, SeriesListText, SheetText, list_cause, sheet_cause}
 use Rattle.gl_app.specs.Series.{HasOneSeries, IsAddedUp}
-use Rattle.gl_app.specs.SeriesFiles.{AreDaysSeen, DaySeen, IsDaySeen, IsListRead, IsSeriesSeen, IsSheetRead, SeriesSeen, day_tests, series_tests}
-use Rattle.gl_app.specs.Words.{SeriesWords}
-use Rattle.gl_app.proofs.FileTests.{none_fails}
-use Rattle.gl_app.proofs.SeriesTests.{days_fit, list_fits}
 
 -- a text is refused for one cause
 no_list_memory : (error : ListError) (cause : Cause) → list_cause error ≡ Some cause → error ≡ list.Memory → ⊥

@@ -1,19 +1,15 @@
 -- The laws of `replay`.
-use Rattle.std.proofs.Common.{◌≡◌, ap, inl, true, Option}
+use Rattle.std.proofs.Common.{◌≡◌, ap, inl, Option}
 use Rattle.gl_desk.specs.Desk.{FilesByName}
+use Rattle.gl_words.specs.Words.{ReplayWords}
+use Rattle.gl_words.proofs.Unbroken.{HasUnbrokenFiles}
+use Rattle.gl_files.specs.ReplayFiles.{IsReplaySeen, ReplaySeen, replay_tests}
+use Rattle.gl_files.proofs.FileTests.{AreNamed}
 use Rattle.gl_app.specs.declared.status.Status.TheVariants.{Done}
 use Rattle.gl_app.specs.Answer.{Answer}
 use Rattle.gl_app.specs.Replay.{IsReplay, IsReplayed, replay_promise}
-use Rattle.gl_app.specs.ReplayFiles.{IsReplaySeen, ReplaySeen, replay_tests}
-use Rattle.gl_app.specs.Words.{ReplayWords}
-use Rattle.gl_app.proofs.FileTests.{AreNamed, by_tests_line, by_tests_passes, by_tests_result}
-use Rattle.gl_app.proofs.LineTexts.{is_unbroken}
+use Rattle.gl_app.proofs.ByTests.{by_tests_line, by_tests_passes, by_tests_result}
 use Rattle.gl_app.proofs.Promises.{IsLawful, done_no_refusal, reading_lawful}
-
--- the names of the files have no LF
-pub record HasUnbrokenFiles (words : ReplayWords) : Type 0 where
-  pub flight : is_unbroken words.flight ≡ true
-  pub schedule : is_unbroken words.schedule ≡ true
 
 replay_named : (words : ReplayWords) → HasUnbrokenFiles words → (seen : ReplaySeen) → AreNamed (replay_tests words seen)
 replay_named words named seen = (named.flight, (named.schedule, (named.flight, (named.flight, (named.schedule, (named.schedule, tt))))))

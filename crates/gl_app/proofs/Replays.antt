@@ -9,13 +9,13 @@ use Rattle.gl_plain.specs.declared.found.Best.{Best}
 use Rattle.gl_plain.specs.declared.replayed.Replayed.{Replayed}
 use Rattle.gl_plain.specs.declared.schedule.Step.{Step}
 use Rattle.gl_plain.specs.Replayed.{IsReplay}
+use Rattle.gl_words.specs.Words.{ReplayWords}
+use Rattle.gl_files.specs.FileTests.{HasTested}
+use Rattle.gl_files.specs.ReplayFiles.{AreReplayRead, IsReplaySeen, replay_tests}
 use Rattle.gl_app.specs.declared.status.Status.TheVariants.{Done}
 use Rattle.gl_app.specs.Answer.{saying}
 use Rattle.gl_app.specs.Best.{IsBestText}
-use Rattle.gl_app.specs.FileTests.{HasTested}
 use Rattle.gl_app.specs.Replay.{IsReplay as IsReplayAnswer, IsReplayOf, IsReplayText, closed_line}
-use Rattle.gl_app.specs.ReplayFiles.{AreReplayRead, IsReplaySeen, replay_tests}
-use Rattle.gl_app.specs.Words.{ReplayWords}
 
 -- a goal with a legal tuple has a best one
 pub some_best : (rule : Rule) (best : Option Best) (tuple : List ℕ) → IsNone best ↔ HasNoLegal rule → IsLegal rule tuple → best ≡ None → ⊥

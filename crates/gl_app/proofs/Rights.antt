@@ -5,9 +5,11 @@ use Rattle.std.proofs.Math.Seq.{take-length}
 use Rattle.gl_desk.specs.Desk.{AppendedByName, FilesByName, FileTakes, Told, file_of, followed_by, output_of}
 use Rattle.gl_desk.specs.declared.error.DeskError.{DeskError}
 use Rattle.gl_day.specs.Flight.{StewardRules}
+use Rattle.gl_words.specs.Words.{Badge, BadgeCheck, Check, Command, Demo, Free, Near, NearCheck, Point, Replay, Score, Series, Triangle}
+use Rattle.gl_words.proofs.CommandNames.{HasUnbrokenNames}
+use Rattle.gl_tally.specs.Appending.{HasGiven, IsAppended}
 use Rattle.gl_app.specs.declared.status.Status.TheVariants.{Done, Refused, Words}
 use Rattle.gl_app.specs.Answer.{Answer}
-use Rattle.gl_app.specs.Appending.{HasGiven, IsAppended}
 use Rattle.gl_app.specs.Free.{IsFreeText}
 use Rattle.gl_app.specs.Near.{IsPointText}
 use Rattle.gl_app.specs.Promise.{Promise}
@@ -15,10 +17,8 @@ use Rattle.gl_app.specs.Run.{Ends, Gives, GivesBegun, IsStopped, SaidLine, Stops
 use Rattle.gl_app.specs.Statuses.{stop_at}
 use Rattle.gl_app.specs.Texts.{IsLine, usage_line}
 use Rattle.gl_app.specs.Triangle.{IsTriangleText}
-use Rattle.gl_app.specs.Words.{Badge, BadgeCheck, Check, Command, Demo, Free, Near, NearCheck, Point, Replay, Score, Series, Triangle}
 use Rattle.gl_app.proofs.BadgeLaws.{badge_check_lawful, badge_lawful}
 use Rattle.gl_app.proofs.CheckLaws.{check_lawful}
-use Rattle.gl_app.proofs.CommandNames.{HasUnbrokenNames}
 use Rattle.gl_app.proofs.DemoLaws.{demo_lawful}
 use Rattle.gl_app.proofs.LineTexts.{line_of}
 use Rattle.gl_app.proofs.NearLaws.{near_check_lawful, near_lawful}

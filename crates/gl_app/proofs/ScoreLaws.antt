@@ -2,13 +2,15 @@
 use Rattle.std.proofs.Common.{◌≢◌, inl, List, ℕ, Option, None, Some, Ok, Err}
 use Rattle.gl_desk.specs.Desk.{FilesByName}
 use Rattle.gl_day.specs.Flight.{StewardRules}
+use Rattle.gl_words.specs.Words.{DayNames}
+use Rattle.gl_words.proofs.Unbroken.{AreUnbroken}
+use Rattle.gl_files.proofs.DayPasses.{score_not_refused}
+use Rattle.gl_tally.proofs.Completing.{begun_either}
 use Rattle.gl_app.specs.declared.status.Status.TheVariants.{Refused}
 use Rattle.gl_app.specs.Answer.{Answer}
 use Rattle.gl_app.specs.Score.{IsScore, IsScoreBegun, PassesScore, score_promise}
-use Rattle.gl_app.specs.Words.{DayNames}
-use Rattle.gl_app.proofs.Completing.{begun_either}
-use Rattle.gl_app.proofs.DayLines.{AreUnbroken, score_line}
-use Rattle.gl_app.proofs.DayPasses.{score_not_refused}
+use Rattle.gl_app.proofs.DayLines.{score_line}
+use Rattle.gl_app.proofs.PartOfDay.{part_of_day}
 use Rattle.gl_app.proofs.Promises.{IsLawful, IsPart, IsResult, done_no_refusal, refuses}
 
 score_result : (folder : Option FilesByName) (stewards : List StewardRules) (names : DayNames) (answer : Answer) → IsScore folder stewards names answer → IsResult answer.status
@@ -25,7 +27,7 @@ told_passes (Some files) stewards names passes answer right = score_passes files
 
 score_part : (folder : Option FilesByName) (stewards : List StewardRules) (names : DayNames) (text : List ℕ) → IsScoreBegun folder names text → IsPart (score_promise folder stewards names) text
 score_part folder stewards names text (day, tested, begun) =
-    let part = begun_either folder day stewards text begun begun.part in
+    let part = part_of_day folder day stewards text (begun_either folder day stewards text begun begun.part) in
     record { answer = part.answer; right = (Ok day, tested, part.right); count = part.count; is = part.is }
 
 pub score_lawful : (folder : Option FilesByName) (stewards : List StewardRules) (names : DayNames) → AreUnbroken names → IsLawful (score_promise folder stewards names)

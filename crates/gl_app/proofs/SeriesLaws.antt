@@ -13,15 +13,17 @@ use Rattle.gl_series.specs.declared.day.DaySheet.{DaySheet}
 use Rattle.gl_series.specs.declared.entry.Entry.{Entry}
 use Rattle.gl_series.specs.declared.entry.Entry.TheVariants.{Day, Team}
 use Rattle.gl_series.specs.declared.series.Series.{Series}
+use Rattle.gl_words.specs.Words.{SeriesWords}
+use Rattle.gl_words.proofs.Unbroken.{is_inside, is_unbroken}
+use Rattle.gl_files.specs.FileTests.{HasTested}
+use Rattle.gl_files.specs.SeriesFiles.{AreDaysSeen, AreSeriesRead, DaySeen, IsDaySeen, IsListRead, IsSeriesSeen, SeriesSeen, day_tests, series_tests}
+use Rattle.gl_files.proofs.FileTests.{AreNamed, refusal_named}
 use Rattle.gl_app.specs.declared.status.Status.TheVariants.{Done}
 use Rattle.gl_app.specs.Answer.{Answer, saying}
-use Rattle.gl_app.specs.FileTests.{HasTested}
 use Rattle.gl_app.specs.Series.{IsAddedUp, IsSeries, IsStandingText, series_promise}
-use Rattle.gl_app.specs.SeriesFiles.{AreDaysSeen, AreSeriesRead, DaySeen, IsDaySeen, IsListRead, IsSeriesSeen, SeriesSeen, day_tests, series_tests}
 use Rattle.gl_app.specs.Texts.{IsLine}
-use Rattle.gl_app.specs.Words.{SeriesWords}
-use Rattle.gl_app.proofs.FileTests.{AreNamed, by_tests_passes, by_tests_result, refusal_named}
-use Rattle.gl_app.proofs.LineTexts.{is_inside, is_unbroken, said_by}
+use Rattle.gl_app.proofs.ByTests.{by_tests_passes, by_tests_result}
+use Rattle.gl_app.proofs.LineTexts.{said_by}
 use Rattle.gl_app.proofs.Promises.{IsLawful, done_no_refusal, reading_lawful}
 
 -- the name of a day's file has no LF

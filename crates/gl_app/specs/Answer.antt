@@ -1,10 +1,14 @@
 -- An answer of a run.
-use Rattle.std.specs.Prelude.{ℕ, List, []}
+use Rattle.std.specs.Prelude.{ℕ, List, [], ◌≡◌, Result, Ok, Err}
+use Rattle.gl_desk.specs.declared.error.DeskError.{DeskError}
+use Rattle.gl_desk.specs.declared.error.DeskError.TheVariants.{Memory}
+use Rattle.gl_files.specs.declared.refusal.Cause.{Cause}
+use Rattle.gl_files.specs.declared.halt.Halt.{Halt}
+use Rattle.gl_files.specs.declared.halt.Halt.TheVariants as halt
+use Rattle.gl_files.specs.Refusals.{refusal_line, file_refusal}
 use Rattle.gl_app.specs.declared.answer.Answer as code
 use Rattle.gl_app.specs.declared.status.Status.{Status}
 use Rattle.gl_app.specs.declared.status.Status.TheVariants.{Refused}
-use Rattle.gl_app.specs.declared.refusal.Cause.{Cause}
-use Rattle.gl_app.specs.Refusals.{refusal_line, file_refusal}
 
 -- the status that a run ends with, what it says, and what it appends to the file that its command
 -- writes
@@ -29,3 +33,12 @@ answer_of answer = saying answer.status answer.text.items
 abbrev pub answer_with : code.Answer → List ℕ → Answer
 answer_with answer text =
     record { status = answer.status; said = answer.text.items; appended = text }
+
+-- the answer to what ended a command before its own: the line of a refusal, or what stopped it; want
+-- of memory can come in place of the line
+abbrev pub AnswersHalt : Halt → Result code.Answer DeskError → Type 0
+AnswersHalt (halt.Refused refusal) (Ok answer) =
+    answer_of answer ≡ refused refusal.file refusal.cause
+AnswersHalt (halt.Refused refusal) (Err stop) = stop ≡ Memory
+AnswersHalt (halt.Stopped stop) (Ok answer) = ⊥
+AnswersHalt (halt.Stopped stop) (Err error) = error ≡ stop

@@ -1,27 +1,23 @@
 -- The right answer of `check`.
-use Rattle.std.specs.Prelude.{◌≡◌, ◌≢◌, ℕ, ◌≤◌, List, [], ◌∷◌, ◌++◌, Option, Some, Ok, MatchResult, length, None}
+use Rattle.std.specs.Prelude.{◌≡◌, ◌≢◌, ℕ, ◌≤◌, List, Option, Some, Ok, MatchResult, length, None}
 use Rattle.gl_desk.specs.Desk.{FilesByName}
 use Rattle.gl_proof.specs.declared.proof.Proof.{Proof}
-use Rattle.gl_proof.specs.Claim.{Statement}
 use Rattle.gl_proof.specs.Text.{statements_of}
-use Rattle.gl_task.specs.declared.task.Entrant.{Entrant}
 use Rattle.gl_day.specs.declared.fault.Checked.{Checked}
 use Rattle.gl_day.specs.declared.fault.Checked.TheVariants.{Accepted, Refused}
 use Rattle.gl_day.specs.declared.fault.NotProved.{NotProved}
-use Rattle.gl_day.specs.Checked.{IsChecked, IsNotProved}
 use Rattle.gl_day.specs.Fault.{box_of_fault, word_of}
 use Rattle.gl_day.specs.Flight.{StewardRules}
-use Rattle.gl_app.specs.declared.day_files.DayFiles.{DayFiles}
+use Rattle.gl_words.specs.Words.{DayNames}
+use Rattle.gl_files.specs.declared.day_files.DayFiles.{DayFiles}
+use Rattle.gl_files.specs.DayFiles.{IfPassed, IsCheckTested, Tested}
+use Rattle.gl_files.specs.FileTests.{most_proof_bytes}
+use Rattle.gl_tally.specs.DayChecked.{IsDayChecked}
 use Rattle.gl_app.specs.declared.status.Status.TheVariants as status
 use Rattle.gl_app.specs.Answer.{Answer, refused, saying}
-use Rattle.gl_day.specs.Asked.{Expected}
-use Rattle.gl_app.specs.Asked.{AreAsked}
-use Rattle.gl_app.specs.DayFiles.{IfPassed, IsCheckTested, Tested}
-use Rattle.gl_app.specs.FileTests.{most_proof_bytes}
 use Rattle.gl_app.specs.Promise.{IsTold, Promise}
 use Rattle.gl_app.specs.Score.{IsScore}
 use Rattle.gl_app.specs.Texts.{accepted_line, wrong_line}
-use Rattle.gl_app.specs.Words.{DayNames}
 
 -- the line for a proof that isn't that of its day, about the first claim that is wrong
 abbrev pub not_proved_line : NotProved → List ℕ
@@ -31,24 +27,6 @@ not_proved_line wrong = wrong_line wrong.claim (word_of wrong.fault) (box_of_fau
 abbrev pub checked_answer : Checked → Answer
 checked_answer (Accepted claims) = saying status.Done (accepted_line claims)
 checked_answer (Refused wrong) = saying status.NotProved (not_proved_line wrong)
-
--- what is said of a proof by the claims that are expected of some entrants: where others follow, a
--- claim is wrong; else the proof has exactly these claims, or doesn't
-abbrev pub IsSaidBehind : List Entrant → List Expected → List Statement → Checked → Type 0
-IsSaidBehind [] expected statements said = IsChecked expected statements said
-IsSaidBehind (entrant ∷ others) expected statements said =
-    (wrong : NotProved) × (said ≡ Refused wrong) × IsNotProved expected statements wrong
-
--- What is said of a proof by the files of a folder: the claims are compared entrant by entrant, up
--- to the first that is wrong.
-pub record IsDayChecked (folder : Option FilesByName) (day : DayFiles)
-    (statements : List Statement) (said : Checked) : Type 0 where
-  pub entrants : List Entrant
-  pub others : List Entrant
-  pub are : day.task.entrants ≡ entrants ++ others
-  pub expected : List Expected
-  pub asked : AreAsked folder day.task day.airspace entrants expected
-  pub is : IsSaidBehind others expected statements said
 
 -- what is said of the proof that the folder has, where the files pass the tests, or the first
 -- refusal; the proof has at most so many bytes

@@ -8,13 +8,13 @@ use Rattle.gl_proof.specs.Claim.{Statement}
 use Rattle.gl_proof.specs.Text.{IsTextOf}
 use Rattle.gl_proof.specs.declared.version.Version.TheVariants.{Two}
 use Rattle.gl_day.specs.Flight.{StewardRules}
-use Rattle.gl_app.specs.declared.day_files.DayFiles.{DayFiles}
+use Rattle.gl_words.specs.Words.{DayNames}
+use Rattle.gl_files.specs.declared.day_files.DayFiles.{DayFiles}
+use Rattle.gl_files.specs.DayFiles.{IsScoreTested}
 use Rattle.gl_app.specs.declared.status.Status.TheVariants.{Done}
 use Rattle.gl_app.specs.Answer.{Answer, saying}
-use Rattle.gl_app.specs.DayFiles.{IsScoreTested}
 use Rattle.gl_app.specs.Promise.{IsTold, Promise, reading}
 use Rattle.gl_app.specs.Score.{IsDayScored}
-use Rattle.gl_app.specs.Words.{DayNames}
 
 -- the folder has these files, and no other
 pub record HasJust (files : List (List ℕ × List ℕ)) (folder : FilesByName) : Type 0 where

@@ -6,15 +6,10 @@ use Rattle.gl_proof.specs.Claim.{Statement}
 use Rattle.gl_proof.specs.Text.{IsTextOf}
 use Rattle.gl_proof.specs.declared.version.Version.TheVariants.{Two}
 use Rattle.gl_day.specs.Flight.{StewardRules}
+use Rattle.gl_words.specs.Words.{DayNames}
+use Rattle.gl_tally.specs.Alike.{AreAlike}
 use Rattle.gl_app.specs.Answer.{Answer}
 use Rattle.gl_app.specs.Score.{IsScore}
-use Rattle.gl_app.specs.Words.{DayNames}
-
--- two claims are one but for the fixes that they choose and the boxes that show that none are better
-pub record AreAlike (one other : Statement) : Type 0 where
-  pub number : one.number ≡ other.number
-  pub kind : one.kind ≡ other.kind
-  pub total : one.total ≡ other.total
 
 -- in two proofs each claim is one, but for the choice of its fixes and its boxes
 abbrev pub AreProofsAlike : List ℕ → List ℕ → Type 0

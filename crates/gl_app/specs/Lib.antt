@@ -1,7 +1,4 @@
-pub mod Words
-pub mod Refusals
 pub mod Answer
-pub mod Pouring
 pub mod Promise
 pub mod Statuses
 pub mod Demo
@@ -13,31 +10,15 @@ pub mod Free
 pub mod Triangle
 pub mod Course
 pub mod Run
-pub mod Command
-pub mod BadgeWords
-pub mod BadgeFiles
 pub mod Badge
-pub mod NearWords
-pub mod NearFiles
 pub mod Near
-pub mod ReplayWords
-pub mod ReplayFiles
 pub mod Replay
-pub mod SeriesWords
-pub mod SeriesFiles
 pub mod Series
-pub mod DayNames
-pub mod Halts
-pub mod FileTests
-pub mod DayFiles
-pub mod Appending
-pub mod Asked
 pub mod Check
 pub mod Score
-pub mod Scoring
 pub mod Shelf
 pub mod Laws
-pub mod Lines
+pub mod ByTests
 pub use Rattle.gl_desk.specs.Desk
 pub use Rattle.gl_goal.specs.Free as FreeGoal
 pub use Rattle.gl_goal.specs.Triangle as TriangleGoal

@@ -15,14 +15,15 @@ use Rattle.gl_near.specs.declared.found.NearWhy.{NearWhy}
 use Rattle.gl_sphere.specs.Place.{written_vector}
 use Rattle.gl_sphere.specs.PlaceText.{place_of, place_of_text}
 use Rattle.gl_sphere.specs.declared.place.Grid.{Grid}
+use Rattle.gl_words.specs.Words.{NearWords, PointWords}
+use Rattle.gl_files.specs.FileTests.{most_proof_bytes}
+use Rattle.gl_files.specs.NearFiles.{AreNearCheckRead, AreNearRead, IsNearSeen, NearSeen, near_check_tests, near_tests}
 use Rattle.gl_app.specs.declared.status.Status.TheVariants as status
 use Rattle.gl_app.specs.Answer.{Answer, saying}
-use Rattle.gl_app.specs.FileTests.{IsByTests, PassByTests, most_proof_bytes}
-use Rattle.gl_app.specs.NearFiles.{AreNearCheckRead, AreNearRead, IsNearSeen, NearSeen, near_check_tests, near_tests}
+use Rattle.gl_app.specs.ByTests.{IsByTests, PassByTests}
 use Rattle.gl_app.specs.OfFile.{of_file_promise}
 use Rattle.gl_app.specs.Promise.{IsTold, Promise}
 use Rattle.gl_app.specs.Texts.{accepted_line, distance_text, no_pair, wrong_line}
-use Rattle.gl_app.specs.Words.{NearWords, PointWords}
 
 -- what is said of the least distance: its metres, and the numbers of a pair that has it; or that no
 -- pair fits

@@ -7,14 +7,14 @@ use Rattle.gl_goal.specs.Rule.{Rule}
 use Rattle.gl_igc.specs.declared.recording.Recording.{Recording}
 use Rattle.gl_plain.specs.Machine.{IsAfter, State, closed_in}
 use Rattle.gl_plain.specs.declared.schedule.Step.{Step}
+use Rattle.gl_words.specs.Words.{ReplayWords}
+use Rattle.gl_files.specs.ReplayFiles.{AreReplayRead, IsReplaySeen, ReplaySeen, replay_tests}
 use Rattle.gl_app.specs.declared.status.Status.TheVariants.{Done}
 use Rattle.gl_app.specs.Answer.{Answer, saying}
 use Rattle.gl_app.specs.Best.{IsBestText}
-use Rattle.gl_app.specs.FileTests.{IsByTests, PassByTests}
+use Rattle.gl_app.specs.ByTests.{IsByTests, PassByTests}
 use Rattle.gl_app.specs.Free.{whole_free_goal}
 use Rattle.gl_app.specs.Promise.{Promise, reading}
-use Rattle.gl_app.specs.ReplayFiles.{AreReplayRead, IsReplaySeen, ReplaySeen, replay_tests}
-use Rattle.gl_app.specs.Words.{ReplayWords}
 
 -- the line with the number of the boxes that workers closed by their steps
 unfoldable pub closed_line : ℕ → List ℕ

@@ -4,11 +4,12 @@ use Rattle.gl_desk.specs.Answers.{CountsFaults}
 use Rattle.gl_desk.specs.Desk.{FilesByName, Told, followed_by}
 use Rattle.gl_desk.specs.declared.error.DeskError.{DeskError}
 use Rattle.gl_day.specs.Flight.{StewardRules}
+use Rattle.gl_words.specs.Words.{Badge, BadgeCheck, Check, Command, Demo, Free, Near, NearCheck, Point, Replay, Score, Series, Triangle, command_of}
+use Rattle.gl_tally.specs.Appending.{HasGiven, IsAppended}
 use Rattle.gl_app.specs.declared.answer.Answer as code
 use Rattle.gl_app.specs.declared.status.Status.{Status}
 use Rattle.gl_app.specs.declared.status.Status.TheVariants.{Done, Refused, Words}
 use Rattle.gl_app.specs.Answer.{Answer, answer_with}
-use Rattle.gl_app.specs.Appending.{HasGiven, IsAppended}
 use Rattle.gl_app.specs.Badge.{badge_check_promise, badge_promise}
 use Rattle.gl_app.specs.Check.{check_promise}
 use Rattle.gl_app.specs.Demo.{demo_promise}
@@ -21,7 +22,6 @@ use Rattle.gl_app.specs.Series.{series_promise}
 use Rattle.gl_app.specs.Statuses.{stop_at}
 use Rattle.gl_app.specs.Texts.{IsLine}
 use Rattle.gl_app.specs.Triangle.{triangle_promise}
-use Rattle.gl_app.specs.Words.{Badge, BadgeCheck, Check, Command, Demo, Free, Near, NearCheck, Point, Replay, Score, Series, Triangle, command_of}
 
 -- The promise of a command, or of words of no form. A further command has its line here.
 abbrev pub promise_of : Option FilesByName → List StewardRules → Option Command → Promise

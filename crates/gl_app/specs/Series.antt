@@ -7,12 +7,12 @@ use Rattle.gl_series.specs.Totals.{IsStanding}
 use Rattle.gl_series.specs.declared.day.DaySheet.{DaySheet}
 use Rattle.gl_series.specs.declared.series.Series as list
 use Rattle.gl_series.specs.declared.standing.Standing.{Standing}
+use Rattle.gl_words.specs.Words.{SeriesWords}
+use Rattle.gl_files.specs.SeriesFiles.{IsListRead, IsSeriesSeen, IsSheetRead, SeriesSeen, series_tests}
 use Rattle.gl_app.specs.declared.status.Status.TheVariants.{Done}
 use Rattle.gl_app.specs.Answer.{Answer, saying}
-use Rattle.gl_app.specs.FileTests.{IsByTests, PassByTests}
+use Rattle.gl_app.specs.ByTests.{IsByTests, PassByTests}
 use Rattle.gl_app.specs.Promise.{Promise, reading}
-use Rattle.gl_app.specs.SeriesFiles.{IsListRead, IsSeriesSeen, IsSheetRead, SeriesSeen, series_tests}
-use Rattle.gl_app.specs.Words.{SeriesWords}
 
 -- The text of the standing after some days, of which so many are left out for each pilot.
 abbrev pub IsStandingText : list.Series → List DaySheet → ℕ → List ℕ → Type 0

@@ -3,22 +3,20 @@ ghost use Rattle.std.specs.List.{flat_map};
 ghost use Rattle.gl_proof.specs.Claim.{claim_text, statement_of};
 ghost use Rattle.gl_proof.specs.Text.{proof_text};
 ghost use Rattle.gl_proof.specs.declared.version.Version.TheVariants.{Two};
-ghost use Rattle.gl_app.specs.Appending.{HasAppended, HasAppendedPart};
+ghost use Rattle.gl_words.specs.BadgeWords.{badge_seen};
+ghost use Rattle.gl_tally.specs.Appending.{HasAppended, HasAppendedPart};
 ghost use Rattle.gl_app.specs.Badge.{badge_promise};
-ghost use Rattle.gl_app.specs.BadgeWords.{badge_seen};
 ghost use Rattle.gl_app.specs.Run.{HasAnswered, IsStopped};
 
-use crate::answer::Answer;
-use crate::appending::append_piece;
-use crate::badge_files::test_badge_files;
-use crate::badge_words::BadgeWords;
-use crate::line::answer_halt;
-use crate::scoring::append_claim;
+use crate::answer::{Answer, answer_halt};
 use crate::status::Status;
 use gl_badge::prove_badges;
 use gl_day::{end_line, heading_line};
 use gl_desk::{Desk, DeskError, Name};
+use gl_files::test_badge_files;
 use gl_proof::Claim;
+use gl_tally::{append_claim, append_piece};
+use gl_words::BadgeWords;
 use std::alloc::Global;
 
 /// Appends the lines of claims to a proof, one claim after the other. After an error a first part of

@@ -1,16 +1,15 @@
 ghost use Rattle.std.specs.Prelude.{IfOk};
 ghost use Rattle.gl_desk.specs.Answers.{OnlyReads, stop_of};
+ghost use Rattle.gl_words.specs.BadgeWords.{badge_seen};
 ghost use Rattle.gl_app.specs.Answer.{answer_of};
 ghost use Rattle.gl_app.specs.Badge.{IsBadgeCheck};
-ghost use Rattle.gl_app.specs.BadgeWords.{badge_seen};
 
-use crate::answer::Answer;
-use crate::badge_files::test_badge_check_files;
-use crate::badge_words::BadgeWords;
-use crate::checking::checked_answer;
-use crate::line::answer_halt;
+use crate::answer::{Answer, answer_halt};
+use crate::check::checked_answer;
 use gl_badge::check_badges;
 use gl_desk::{Desk, DeskError};
+use gl_files::test_badge_check_files;
+use gl_words::BadgeWords;
 use std::alloc::Global;
 
 /// The answer of `badgecheck FILE PROOF`: whether the proof is that of the flight's badge claims.

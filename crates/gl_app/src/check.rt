@@ -1,20 +1,19 @@
-ghost use Rattle.std.specs.Prelude.{IfOk};
+ghost use Rattle.std.specs.Prelude.{◌≡◌, IfOk};
 ghost use Rattle.gl_desk.specs.Answers.{OnlyReads, stop_of};
+ghost use Rattle.gl_words.specs.DayNames.{names_seen};
+ghost use Rattle.gl_files.specs.Halts.{IsTested, halt_stop};
 ghost use Rattle.gl_app.specs.Answer.{answer_of};
-ghost use Rattle.gl_app.specs.Check.{IsCheck, IsProofChecked};
-ghost use Rattle.gl_app.specs.DayNames.{names_seen};
-ghost use Rattle.gl_app.specs.Halts.{IsTested, halt_stop};
+ghost use Rattle.gl_app.specs.Check.{IsCheck, IsProofChecked, checked_answer};
 
-use crate::answer::Answer;
-use crate::checking::{check_claims, checked_answer};
-use crate::day_files::test_check_files;
-use crate::day_names::DayNames;
-use crate::file_tests::MOST_PROOF_BYTES;
-use crate::halt::Halt;
-use crate::line::answer_halt;
+use crate::answer::{Answer, answer_halt};
+use crate::status::Status;
+use crate::texts::{accepted_line, wrong_line};
 use gl_day::Checked;
 use gl_desk::{Desk, DeskError};
-use std::alloc::Global;
+use gl_files::{Halt, MOST_PROOF_BYTES, test_check_files};
+use gl_tally::check_claims;
+use gl_words::DayNames;
+use std::alloc::{AllocError, Global};
 
 /// What is said of a proof by the files of its day: that its claims are accepted, or the first that
 /// is wrong. A proof of more than `most` bytes is refused.
@@ -31,6 +30,27 @@ pub fn check_proof<D: Desk>(
     let names = desk.names(alloc)?;
     let (files, proof) = test_check_files(alloc, desk, &names, day, most)?;
     Ok(check_claims(alloc, desk, &names, &files, proof.claims.as_slice())?)
+}
+
+/// The answer that says what was found.
+pub fn checked_answer(alloc: Global, said: Checked) -> Result<Answer, AllocError>
+    ensures { IfOk result (λ answer. answer_of answer ≡ checked_answer said) }
+{
+    match said {
+        Checked::Accepted { claims } => Ok(Answer {
+            status: Status::Done,
+            text: accepted_line(alloc, claims)?,
+        }),
+        Checked::Refused(wrong) => Ok(Answer {
+            status: Status::NotProved,
+            text: wrong_line(
+                alloc,
+                wrong.claim,
+                wrong.fault.word(),
+                wrong.fault.box_number(),
+            )?,
+        }),
+    }
 }
 
 /// The answer of `check TASK PROOF`: whether the proof is that of the day.

@@ -1,22 +1,20 @@
 ghost use Rattle.std.specs.Prelude.{◌≡◌, IfErr, IfOk};
 ghost use Rattle.gl_near.specs.Pairs.{pairing_of};
-ghost use Rattle.gl_app.specs.Near.{IsNearestFix, IsNearestSaid, near_promise, pair_text, pairs_of};
-ghost use Rattle.gl_app.specs.NearWords.{near_seen};
-ghost use Rattle.gl_app.specs.Run.{HasAnswered, IsStopped};
+ghost use Rattle.gl_words.specs.NearWords.{near_seen};
 ghost use Rattle.gl_app.specs.declared.status.Status.TheVariants.{Done};
+ghost use Rattle.gl_app.specs.Near.{IsNearestFix, IsNearestSaid, near_promise, pair_text, pairs_of};
+ghost use Rattle.gl_app.specs.Run.{HasAnswered, IsStopped};
 
-use crate::answer::Answer;
-use crate::apart::Apart;
-use crate::appending::append_piece;
-use crate::line::answer_halt;
-use crate::near_files::test_near_files;
-use crate::near_words::NearWords;
+use crate::answer::{Answer, answer_halt};
 use crate::status::Status;
 use crate::texts::{distance_lines, no_pair};
 use gl_desk::{Desk, DeskError};
+use gl_files::test_near_files;
 use gl_igc::Recording;
 use gl_near::{NearBest, NearClaim, Pairs, nearest_fix, search_near, write_near};
 use gl_sphere::{Grid, vector};
+use gl_tally::append_piece;
+use gl_words::{Apart, NearWords};
 use std::alloc::{AllocError, Global};
 
 /// The pairs of the fixes of two recordings that are at most so many seconds apart.

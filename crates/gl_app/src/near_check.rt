@@ -1,21 +1,19 @@
 ghost use Rattle.std.specs.Prelude.{◌≡◌, IfOk};
 ghost use Rattle.gl_desk.specs.Answers.{OnlyReads, stop_of};
 ghost use Rattle.gl_near.specs.Verdict.{IsCheckedAs};
+ghost use Rattle.gl_words.specs.NearWords.{near_seen};
 ghost use Rattle.gl_app.specs.Answer.{answer_of};
 ghost use Rattle.gl_app.specs.Near.{IsNearCheck, box_of_verdict, pairs_of, verdict_answer, word_of_verdict};
-ghost use Rattle.gl_app.specs.NearWords.{near_seen};
 
-use crate::answer::Answer;
-use crate::apart::Apart;
-use crate::line::answer_halt;
+use crate::answer::{Answer, answer_halt};
 use crate::near::pairs_of;
-use crate::near_files::test_near_check_files;
-use crate::near_words::NearWords;
 use crate::status::Status;
 use crate::texts::{accepted_line, wrong_line};
 use gl_desk::{Desk, DeskError};
+use gl_files::test_near_check_files;
 use gl_igc::Recording;
 use gl_near::{NearClaim, NearVerdict, check_near};
+use gl_words::{Apart, NearWords};
 use std::alloc::{AllocError, Global};
 
 /// The word for what is wrong with a claim; it is empty where nothing is.

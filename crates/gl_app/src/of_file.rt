@@ -1,21 +1,16 @@
 ghost use Rattle.std.specs.Prelude.{IfOk};
 ghost use Rattle.gl_desk.specs.Answers.{OnlyReads, stop_of};
-ghost use Rattle.gl_desk.specs.Desk.{HasFile, IsSeenIn, ListsNames};
 ghost use Rattle.gl_app.specs.Answer.{answer_of};
 ghost use Rattle.gl_app.specs.Course.{IsTextOf};
-ghost use Rattle.gl_app.specs.FileTests.{HasTested};
-ghost use Rattle.gl_app.specs.Halts.{halt_stop};
-ghost use Rattle.gl_app.specs.OfFile.{IsFlightRead, IsOfFile, flight_tests};
+ghost use Rattle.gl_app.specs.OfFile.{IsOfFile};
 
-use crate::answer::Answer;
-use crate::file_tests::{need, read_recording};
+use crate::answer::{Answer, answer_halt};
 use crate::free::free_of_recording;
-use crate::halt::Halt;
-use crate::line::answer_halt;
 use crate::near::point_of_recording;
 use crate::status::Status;
 use crate::triangle::triangle_of_recording;
 use gl_desk::{Desk, DeskError, Name};
+use gl_files::test_flight;
 use gl_igc::Recording;
 use gl_sphere::Grid;
 use std::alloc::{AllocError, Global};
@@ -44,23 +39,6 @@ fn text_of_recording(
         Course::Triangle => triangle_of_recording(alloc, recording),
         Course::Point(place) => point_of_recording(alloc, recording, place),
     }
-}
-
-/// The recording of a file that passes its tests: FILE is of the folder's names; it has at most
-/// 16,777,216 bytes; it is a recording.
-fn test_flight<D: Desk>(
-    alloc: Global,
-    desk: &mut D,
-    names: &[Name],
-    file: &Name,
-) -> Result<Recording, Halt>
-    requires { ListsNames (D.told desk.old).folder names.now }
-    ensures tested { HasTested (λ seen. IsSeenIn (D.told desk.old).folder file.now seen)
-        (flight_tests file.now) IsFlightRead result }
-    ensures reads { OnlyReads (halt_stop result) (D.told desk.old) (D.told desk.new) }
-{
-    need(names, file)?;
-    read_recording(alloc, desk, file, None)
 }
 
 /// The answer of a command for a recording's file.

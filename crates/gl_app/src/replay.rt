@@ -1,21 +1,19 @@
 ghost use Rattle.std.specs.Prelude.{◌≡◌, ◌≤◌, ◌++◌, IfOk, OnOk, length};
 ghost use Rattle.gl_desk.specs.Answers.{OnlyReads, stop_of};
+ghost use Rattle.gl_words.specs.ReplayWords.{replay_seen};
 ghost use Rattle.gl_app.specs.Answer.{answer_of};
 ghost use Rattle.gl_app.specs.Replay.{IsReplay, IsReplayOf, closed_line};
-ghost use Rattle.gl_app.specs.ReplayWords.{replay_seen};
 
-use crate::answer::Answer;
+use crate::answer::{Answer, answer_halt};
 use crate::best::best_lines;
-use crate::day_names::Workers;
 use crate::free::whole_free_goal;
-use crate::line::answer_halt;
-use crate::replay_files::test_replay_files;
-use crate::replay_words::ReplayWords;
 use crate::status::Status;
 use gl_desk::{Desk, DeskError};
+use gl_files::test_replay_files;
 use gl_igc::Recording;
 use gl_plain::{Step, replay};
 use gl_text::push_u64;
+use gl_words::{ReplayWords, Workers};
 use std::alloc::{AllocError, Global};
 
 /// Appends the line with the number of boxes that workers closed by their steps.

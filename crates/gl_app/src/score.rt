@@ -1,18 +1,17 @@
 ghost use Rattle.std.specs.Prelude.{◌≡◌, IfErr, IfOk, map};
 ghost use Rattle.gl_day.specs.Flight.{steward_rules};
-ghost use Rattle.gl_app.specs.DayNames.{names_seen};
+ghost use Rattle.gl_words.specs.DayNames.{names_seen};
 ghost use Rattle.gl_app.specs.Run.{HasAnswered, IsStopped};
 ghost use Rattle.gl_app.specs.Score.{score_promise};
 
-use crate::answer::Answer;
-use crate::day_files::test_score_files;
-use crate::day_names::DayNames;
-use crate::line::answer_halt;
-use crate::scoring::score_day;
+use crate::answer::{Answer, answer_halt};
 use crate::status::Status;
 use gl_day::Search;
 use gl_desk::{Desk, DeskError};
+use gl_files::test_score_files;
 use gl_steward::Steward;
+use gl_tally::score_day;
+use gl_words::DayNames;
 use std::alloc::Global;
 
 /// The answer of `score TASK PROOF WORKERS`: the sheet of the day. Its proof is appended to the file.

@@ -2,17 +2,16 @@ ghost use Rattle.std.specs.Prelude.{IfOk};
 ghost use Rattle.gl_desk.specs.Answers.{OnlyReads, stop_of};
 ghost use Rattle.gl_series.specs.SeriesList.{IsSeries};
 ghost use Rattle.gl_series.specs.Totals.{AreDays};
+ghost use Rattle.gl_words.specs.SeriesWords.{series_seen};
 ghost use Rattle.gl_app.specs.Answer.{answer_of};
 ghost use Rattle.gl_app.specs.Series.{IsStandingText, IsSeries as IsRightSeries};
-ghost use Rattle.gl_app.specs.SeriesWords.{series_seen};
 
-use crate::answer::Answer;
-use crate::line::answer_halt;
-use crate::series_files::test_series_files;
-use crate::series_words::SeriesWords;
+use crate::answer::{Answer, answer_halt};
 use crate::status::Status;
 use gl_desk::{Desk, DeskError};
+use gl_files::test_series_files;
 use gl_series::{DaySheet, Series, series_text, totals};
+use gl_words::SeriesWords;
 use std::alloc::{AllocError, Global};
 
 /// The text of the standing after some days, where so many are left out for each pilot.

@@ -1,5 +1,5 @@
 use Rattle.std.proofs.lemmas.Result.{err_from_is_err_and}
-use Rattle.gl_app.specs.BadgeWords.{badge_seen}
+use Rattle.gl_words.specs.BadgeWords.{badge_seen}
 use Rattle.gl_app.proofs.Badges.{badge_refused, badge_right, badge_stopped}
 use Rattle.gl_app.proofs.badge.badge.Goals as goal
 

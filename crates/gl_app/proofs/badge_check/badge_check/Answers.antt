@@ -1,8 +1,8 @@
 use Rattle.std.proofs.Common.{subst, Option, Ok}
 use Rattle.gl_desk.specs.Desk.{FilesByName}
-use Rattle.gl_app.specs.BadgeFiles.{AreBadgeCheckRead, IsBadgeSeen, badge_check_tests}
-use Rattle.gl_app.specs.BadgeWords.{badge_seen}
-use Rattle.gl_app.specs.FileTests.{HasTested}
+use Rattle.gl_words.specs.BadgeWords.{badge_seen}
+use Rattle.gl_files.specs.BadgeFiles.{AreBadgeCheckRead, IsBadgeSeen, badge_check_tests}
+use Rattle.gl_files.specs.FileTests.{HasTested}
 use Rattle.gl_app.proofs.Badges.{badge_check_right}
 use Rattle.gl_app.proofs.badge_check.badge_check.Goals as goal
 

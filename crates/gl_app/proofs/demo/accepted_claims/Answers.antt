@@ -1,15 +1,15 @@
 use Rattle.std.proofs.Common.{◌≡◌, sym, ap, subst, ℕ, List, Ok, Err, Some, length}
 use Rattle.gl_day.specs.declared.fault.Checked.{Checked}
 use Rattle.gl_day.specs.declared.fault.Checked.TheVariants as checked
-use Rattle.gl_app.specs.declared.halt.Halt.{Halt}
+use Rattle.gl_words.specs.DayNames.{names_seen}
+use Rattle.gl_files.specs.declared.halt.Halt.{Halt}
+use Rattle.gl_files.specs.DayFiles.{Tested}
+use Rattle.gl_files.specs.Halts.{IsTested}
+use Rattle.gl_files.proofs.DayPasses.{ok_or_err}
 use Rattle.gl_app.specs.Check.{IsProofChecked}
-use Rattle.gl_app.specs.DayFiles.{Tested}
-use Rattle.gl_app.specs.DayNames.{names_seen}
 use Rattle.gl_app.specs.Demo.{IsCountOf}
-use Rattle.gl_app.specs.Halts.{IsTested}
 use Rattle.gl_app.specs.Shelf.{folder_on}
 use Rattle.gl_app.proofs.Accepting.{FoundAccepted, scored_found}
-use Rattle.gl_app.proofs.DayPasses.{ok_or_err}
 use Rattle.gl_app.proofs.demo.accepted_claims.Goals as goal
 use Rattle.gl_app.proofs.demo.accepted_claims.Goals.{in-Ok-Accepted, in-Err-Stopped}
 

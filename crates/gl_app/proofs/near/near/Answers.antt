@@ -1,7 +1,7 @@
 use Rattle.std.proofs.Common.{ℕ, List, subst}
 use Rattle.std.proofs.lemmas.Result.{err_from_is_err_and}
-use Rattle.gl_app.specs.Appending.{HasAppended, HasAppendedPart}
-use Rattle.gl_app.specs.NearWords.{near_seen}
+use Rattle.gl_words.specs.NearWords.{near_seen}
+use Rattle.gl_tally.specs.Appending.{HasAppended, HasAppendedPart}
 use Rattle.gl_app.proofs.Nears.{near_refused, near_right, near_stopped}
 use Rattle.gl_app.proofs.near.near.Goals as goal
 

@@ -1,8 +1,8 @@
 use Rattle.std.proofs.Common.{subst, Option, Ok}
 use Rattle.gl_desk.specs.Desk.{FilesByName}
-use Rattle.gl_app.specs.FileTests.{HasTested}
-use Rattle.gl_app.specs.NearFiles.{AreNearCheckRead, IsNearSeen, near_check_tests}
-use Rattle.gl_app.specs.NearWords.{near_seen}
+use Rattle.gl_words.specs.NearWords.{near_seen}
+use Rattle.gl_files.specs.FileTests.{HasTested}
+use Rattle.gl_files.specs.NearFiles.{AreNearCheckRead, IsNearSeen, near_check_tests}
 use Rattle.gl_app.proofs.Nears.{near_check_right}
 use Rattle.gl_app.proofs.near_check.near_check.Goals as goal
 

@@ -1,8 +1,8 @@
 use Rattle.std.proofs.Common.{subst, Option, Ok}
 use Rattle.gl_desk.specs.Desk.{FilesByName, IsSeenIn}
+use Rattle.gl_files.specs.FileTests.{HasTested}
+use Rattle.gl_files.specs.FlightFile.{IsFlightRead, flight_tests}
 use Rattle.gl_app.specs.Course.{IsTextOf}
-use Rattle.gl_app.specs.FileTests.{HasTested}
-use Rattle.gl_app.specs.OfFile.{IsFlightRead, flight_tests}
 use Rattle.gl_app.proofs.OfFileLaws.{flight_answered}
 use Rattle.gl_app.proofs.of_file.answer_of_file.Goals as goal
 

@@ -1,10 +1,10 @@
 use Rattle.std.proofs.Common.{subst, List, Option, Ok}
 use Rattle.gl_desk.specs.Desk.{FilesByName}
 use Rattle.gl_plain.specs.declared.schedule.Step.{Step}
-use Rattle.gl_app.specs.FileTests.{HasTested}
+use Rattle.gl_words.specs.ReplayWords.{replay_seen}
+use Rattle.gl_files.specs.FileTests.{HasTested}
+use Rattle.gl_files.specs.ReplayFiles.{AreReplayRead, IsReplaySeen, replay_tests}
 use Rattle.gl_app.specs.Replay.{IsReplayOf}
-use Rattle.gl_app.specs.ReplayFiles.{AreReplayRead, IsReplaySeen, replay_tests}
-use Rattle.gl_app.specs.ReplayWords.{replay_seen}
 use Rattle.gl_app.proofs.Replays.{replay_answered}
 use Rattle.gl_app.proofs.replay.replay_schedule.Goals as goal
 

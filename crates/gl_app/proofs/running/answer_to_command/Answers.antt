@@ -1,12 +1,12 @@
-use Rattle.gl_app.specs.BadgeWords.{badge_seen}
-use Rattle.gl_app.specs.DayNames.{names_seen}
+use Rattle.gl_words.specs.BadgeWords.{badge_seen}
+use Rattle.gl_words.specs.DayNames.{names_seen}
+use Rattle.gl_words.specs.NearWords.{near_seen, point_seen}
+use Rattle.gl_words.specs.ReplayWords.{replay_seen}
+use Rattle.gl_words.specs.SeriesWords.{series_seen}
 use Rattle.gl_app.specs.Demo.{demo_promise}
 use Rattle.gl_app.specs.Free.{free_promise}
-use Rattle.gl_app.specs.NearWords.{near_seen, point_seen}
 use Rattle.gl_app.specs.Replay.{replay_promise}
-use Rattle.gl_app.specs.ReplayWords.{replay_seen}
 use Rattle.gl_app.specs.Series.{series_promise}
-use Rattle.gl_app.specs.SeriesWords.{series_seen}
 use Rattle.gl_app.specs.Triangle.{triangle_promise}
 use Rattle.gl_app.proofs.Badges.{badge_checked}
 use Rattle.gl_app.proofs.Commanded.{check_right, reads_right, unread_right}

@@ -1,9 +1,9 @@
 use Rattle.std.proofs.Common.{Err, Option, subst}
 use Rattle.gl_desk.specs.Desk.{FilesByName}
-use Rattle.gl_app.specs.FileTests.{HasTested}
+use Rattle.gl_words.specs.SeriesWords.{series_seen}
+use Rattle.gl_files.specs.FileTests.{HasTested}
+use Rattle.gl_files.specs.SeriesFiles.{AreSeriesRead, IsSeriesSeen, series_tests}
 use Rattle.gl_app.specs.Series.{IsAddedUp}
-use Rattle.gl_app.specs.SeriesFiles.{AreSeriesRead, IsSeriesSeen, series_tests}
-use Rattle.gl_app.specs.SeriesWords.{series_seen}
 use Rattle.gl_app.proofs.Commanded.{halt_answered}
 use Rattle.gl_app.proofs.series.series.Goals as goal
 

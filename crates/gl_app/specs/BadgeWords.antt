@@ -1,6 +1,0 @@
--- What `badge` and `badgecheck` are given in the code.
-use Rattle.gl_app.specs.declared.badge_words.BadgeWords as code
-use Rattle.gl_app.specs.Words.{BadgeWords}
-
-abbrev pub badge_seen : code.BadgeWords → BadgeWords
-badge_seen given = record { flight = given.flight.now; proof = given.proof.now }

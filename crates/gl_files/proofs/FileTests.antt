@@ -1,0 +1,120 @@
+-- What holds of any tests of files.
+use Rattle.std.proofs.Common.{◌≡◌, ◌≢◌, ◌∙◌, refl, sym, ap, ℕ, inl, inr, true, arith, List, [], ◌∷◌, ◌++◌, Option, None, Some, Result, Ok, Err, Vec}
+use Rattle.std.specs.Prelude.{IsSome}
+use Rattle.std.specs.declared.alloc.Global.{Global}
+use Rattle.gl_desk.specs.Desk.{FilesByName}
+use Rattle.gl_igc.specs.Reading.{Reading, recording_of}
+use Rattle.gl_igc.specs.declared.error.IgcError.{IgcError}
+use Rattle.gl_igc.specs.declared.error.IgcError.TheVariants as igc
+use Rattle.gl_near.proofs.Reading.{text_refused}
+use Rattle.gl_plain.proofs.StepLines.{schedule_told}
+use Rattle.gl_proof.proofs.Unique as proof
+use Rattle.gl_series.proofs.Lines.{list_told}
+use Rattle.gl_series.proofs.Sheets.{sheet_told}
+use Rattle.gl_words.proofs.Unbroken.{is_unbroken}
+use Rattle.gl_files.specs.declared.halt.Halt.{Halt}
+use Rattle.gl_files.specs.declared.halt.Halt.TheVariants.{Refused, Stopped}
+use Rattle.gl_files.specs.declared.refusal.Cause.{Cause}
+use Rattle.gl_files.specs.declared.refusal.Refusal.{Refusal}
+use Rattle.gl_files.specs.FileTests.{AllPass, Fails, NearProofText, ProofText, SeriesListText, SheetText, list_cause, near_proof_cause, proof_cause, sheet_cause, FileTest, FirstFails, HasRead, HasReadFile, IsNoText, IsText, Kind, Listed, Passes, Reads, RecordingText, ScheduleText, Small, Unlisted, file_of, recording_cause, schedule_cause, text_tests}
+use Rattle.gl_files.specs.Halts.{AreBytes, RefusesFor}
+
+-- no text is of a kind and isn't
+text_or_not : (kind : Kind) (text : List ℕ) (cause : Cause) → IsText kind text → IsNoText kind text cause → ⊥
+text_or_not (RecordingText day) text cause (reading, reads) (error, told, why) =
+    let e : ◌≡◌ {A = Result Reading IgcError} (Ok reading) (Err error) = sym reads ∙ told in cc
+text_or_not ScheduleText text cause (steps, is) (error, told, why) =
+    let e : ◌≡◌ {A = Option Cause} None (Some cause) = sym (ap schedule_cause (schedule_told text steps error is told)) ∙ why in cc
+text_or_not ProofText text cause (version, statements, is) (error, told, why) =
+    let e : ◌≡◌ {A = Option Cause} None (Some cause) = sym (ap proof_cause (proof.text_refused text statements error is told)) ∙ why in cc
+text_or_not NearProofText text cause (best, boxes, is) (error, told, why) =
+    let e : ◌≡◌ {A = Option Cause} None (Some cause) = sym (ap near_proof_cause (text_refused text best boxes error is told)) ∙ why in cc
+text_or_not SeriesListText text cause (series, is) (error, told, why) =
+    let e : ◌≡◌ {A = Option Cause} None (Some cause) = sym (ap list_cause (list_told text series error is told)) ∙ why in cc
+text_or_not SheetText text cause (day, is) (error, told, why) =
+    let e : ◌≡◌ {A = Option Cause} None (Some cause) = sym (ap sheet_cause (sheet_told text day error is told)) ∙ why in cc
+
+-- no test passes and fails
+passes_or_fails : (test : FileTest) (cause : Cause) → Passes test → Fails test cause → ⊥
+passes_or_fails (Listed file None) cause passes fails = cc
+passes_or_fails (Listed file (Some bytes)) cause passes (none, why) = cc
+passes_or_fails (Unlisted file None) cause passes (some, why) = cc
+passes_or_fails (Unlisted file (Some bytes)) cause passes fails = cc
+passes_or_fails (Small most file None) cause passes fails = absurd passes
+passes_or_fails (Small most file (Some bytes)) cause passes (more, why) = omega (arith, passes, more)
+passes_or_fails (Reads kind file None) cause passes fails = absurd passes
+passes_or_fails (Reads kind file (Some bytes)) cause passes fails = text_or_not kind bytes cause passes fails
+
+-- where all pass none is the first that fails
+pub none_fails : (tests : List FileTest) (refusal : Refusal) → AllPass tests → FirstFails tests refusal → ⊥
+none_fails [] refusal passes fails = absurd fails
+none_fails (test ∷ tests) refusal passes (inl (file, fails)) = passes_or_fails test refusal.cause passes.0 fails
+none_fails (test ∷ tests) refusal passes (inr (pass, fails)) = none_fails tests refusal passes.1 fails
+
+-- the first that fails of some tests, and of those behind them
+pub fails_in_front : (front back : List FileTest) (refusal : Refusal) → FirstFails front refusal → FirstFails (front ++ back) refusal
+fails_in_front [] back refusal fails = absurd fails
+fails_in_front (test ∷ front) back refusal (inl fails) = inl fails
+fails_in_front (test ∷ front) back refusal (inr (pass, fails)) = inr (pass, fails_in_front front back refusal fails)
+
+pub fails_behind : (front back : List FileTest) (refusal : Refusal) → AllPass front → FirstFails back refusal → FirstFails (front ++ back) refusal
+fails_behind [] back refusal passes fails = fails
+fails_behind (test ∷ front) back refusal passes fails = inr (passes.0, fails_behind front back refusal passes.1 fails)
+
+pub all_pass : (front back : List FileTest) → AllPass front → AllPass back → AllPass (front ++ back)
+all_pass [] back front behind = behind
+all_pass (test ∷ tests) back front behind = (front.0, all_pass tests back front.1 behind)
+
+-- a file whose text was tested is listed
+pub some_text_fails : (kind : Kind) (most : ℕ) (file : List ℕ) (seen : Option (List ℕ)) (refusal : Refusal) → FirstFails (text_tests kind most file seen) refusal → IsSome seen
+some_text_fails kind most file None refusal (inl (same, fails)) = absurd fails.0
+some_text_fails kind most file None refusal (inr (passes, fails)) = absurd passes
+some_text_fails kind most file (Some text) refusal fails = refl
+
+pub some_text_passes : (kind : Kind) (most : ℕ) (file : List ℕ) (seen : Option (List ℕ)) → AllPass (text_tests kind most file seen) → IsSome seen
+some_text_passes kind most file None passes = absurd passes.0
+some_text_passes kind most file (Some text) passes = refl
+
+-- the files of tests have names without an LF
+abbrev pub AreNamed : List FileTest → Type 0
+AreNamed [] = Unit {0}
+AreNamed (test ∷ tests) = (is_unbroken (file_of test) ≡ true) × AreNamed tests
+
+pub refusal_named : (tests : List FileTest) (refusal : Refusal) → AreNamed tests → FirstFails tests refusal → is_unbroken refusal.file ≡ true
+refusal_named [] refusal named fails = absurd fails
+refusal_named (test ∷ tests) refusal named (inl (file, fails)) = ap is_unbroken file ∙ named.0
+refusal_named (test ∷ tests) refusal named (inr (pass, fails)) = refusal_named tests refusal named.1 fails
+
+-- a text that is no recording, and one that is no schedule
+no_recording : {X : Type 0} (day : _) (file text : List ℕ) (error : IgcError) (cause : Cause) (halt : Halt) (IsOf : List ℕ → X → Type 0)
+    → recording_of text day ≡ Err error → recording_cause error ≡ Some cause → RefusesFor file (Some cause) halt → HasRead (RecordingText day) file text IsOf (Err halt)
+no_recording day file text error cause (Refused refusal) IsOf told why same =
+    (ap (λ (r : Refusal). r.file) same, (error, told, why ∙ ap (λ (r : Refusal). Some r.cause) (sym same)))
+no_recording day file text error cause (Stopped stop) IsOf told why same = tt
+
+stopped_read : {X : Type 0} (kind : Kind) (file text : List ℕ) (halt : Halt) (IsOf : List ℕ → X → Type 0) → RefusesFor file None halt → HasRead kind file text IsOf (Err halt)
+stopped_read kind file text (Refused refusal) IsOf wanting = absurd (cc)
+stopped_read kind file text (Stopped stop) IsOf wanting = tt
+
+pub recording_refused : {X : Type 0} (day : _) (file text : List ℕ) (error : IgcError) (halt : Halt) (IsOf : List ℕ → X → Type 0)
+    → (error ≢ igc.Memory → recording_of text day ≡ Err error) → RefusesFor file (recording_cause error) halt → HasRead (RecordingText day) file text IsOf (Err halt)
+recording_refused day file text igc.NotIgc halt IsOf told refused = no_recording day file text igc.NotIgc _ halt IsOf (told (λ memory. cc)) refl refused
+recording_refused day file text igc.NoDate halt IsOf told refused = no_recording day file text igc.NoDate _ halt IsOf (told (λ memory. cc)) refl refused
+recording_refused day file text (igc.WrongDay other) halt IsOf told refused = no_recording day file text (igc.WrongDay other) _ halt IsOf (told (λ memory. cc)) refl refused
+recording_refused day file text (igc.TooManyFixes line) halt IsOf told refused = no_recording day file text (igc.TooManyFixes line) _ halt IsOf (told (λ memory. cc)) refl refused
+recording_refused day file text igc.NoFix halt IsOf told refused = no_recording day file text igc.NoFix _ halt IsOf (told (λ memory. cc)) refl refused
+recording_refused day file text igc.Memory halt IsOf told refused = stopped_read (RecordingText day) file text halt IsOf refused
+
+-- a file whose bytes weren't read
+pub bytes_refused : {X : Type 0} (folder : Option FilesByName) (kind : Kind) (file : List ℕ) (most : ℕ) (halt : Halt) (IsOf : List ℕ → X → Type 0)
+    → AreBytes folder file most (Err halt) → HasReadFile kind most folder file IsOf (Err halt)
+bytes_refused folder kind file most (Refused refusal) IsOf refused =
+    (Some refused.0.0, refused.0.2, inl (ap (λ (r : Refusal). r.file) refused.1, (refused.0.1, ap (λ (r : Refusal). r.cause) refused.1)))
+bytes_refused folder kind file most (Stopped stop) IsOf refused = tt
+
+-- a file whose bytes were read
+pub bytes_read : {X : Type 0} (folder : Option FilesByName) (kind : Kind) (file : List ℕ) (most : ℕ) (bytes : Vec ℕ Global) (result : Result X Halt) (IsOf : List ℕ → X → Type 0)
+    → AreBytes folder file most (Ok bytes) → HasRead kind file bytes.items IsOf result → HasReadFile kind most folder file IsOf result
+bytes_read folder kind file most bytes (Ok x) IsOf read is = (Some bytes.items, read.0, (read.1, (is.0, tt)), is.1)
+bytes_read folder kind file most bytes (Err (Refused refusal)) IsOf read is = (Some bytes.items, read.0, inr (read.1, inl is))
+bytes_read folder kind file most bytes (Err (Stopped stop)) IsOf read is = tt

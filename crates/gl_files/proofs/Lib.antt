@@ -1,0 +1,14 @@
+pub mod BadgeTests
+pub mod DayPasses
+pub mod DayRefusals
+pub mod DayTests
+pub mod FileTests
+pub mod FlightTests
+pub mod NearTests
+pub mod OneDay
+pub mod Pourings
+pub mod Readings
+pub mod ReadsTwice
+pub mod ReplayTests
+pub mod SeriesTests
+pub mod TaskSame

@@ -1,0 +1,211 @@
+-- The tests of the files of `series`, one after the other.
+use Rattle.std.proofs.Common.{◌≡◌, ◌∙◌, refl, sym, ap, subst, ℕ, ◌+◌, ◌<◌, ◌≤◌, inl, inr, List, [], ◌∷◌, ◌++◌, get_or, length, take, drop, Option, None, Some, Result, Ok, Err, Vec, arith}
+use Rattle.std.specs.Prelude.{IsSomeAnd}
+use Rattle.std.specs.List.{AllByRecursion, AllZip, flat_map}
+use Rattle.std.specs.declared.alloc.Global.{Global}
+use Rattle.std.proofs.lemmas.List.{take-append-drop, take_all, take_more}
+use Rattle.gl_desk.specs.Desk.{FilesByName, IsSeenIn, ListsNames}
+use Rattle.gl_day.specs.Flight.{most_bytes}
+use Rattle.gl_series.proofs.Lines.{list_told}
+use Rattle.gl_series.specs.SeriesList.{IsList, IsRefused, IsSeries}
+use Rattle.gl_series.specs.SheetText.{IsRefusedSheet, IsSheetOf}
+use Rattle.gl_series.specs.declared.day.DaySheet.{DaySheet}
+use Rattle.gl_series.specs.declared.error.ListError.{ListError}
+use Rattle.gl_series.specs.declared.error.ListError.TheVariants as list
+use Rattle.gl_series.specs.declared.error.SheetError.{SheetError}
+use Rattle.gl_series.specs.declared.error.SheetError.TheVariants as sheet
+use Rattle.gl_series.specs.declared.series.Series.{Series}
+use Rattle.gl_series.specs.Totals.{AreDays, IsDay}
+use Rattle.std.proofs.lemmas.List.Elements.{All-from_recursion}
+use Rattle.std.proofs.lemmas.Slice.Zip.{AllZip-long}
+use Rattle.gl_words.specs.Words.{SeriesWords}
+use Rattle.gl_files.specs.declared.halt.Halt.{Halt}
+use Rattle.gl_files.specs.declared.halt.Halt.TheVariants.{Refused, Stopped}
+use Rattle.gl_files.specs.declared.refusal.Cause.{Cause}
+use Rattle.gl_files.specs.declared.refusal.Refusal.{Refusal}
+use Rattle.gl_files.specs.FileTests.{AllPass, FileTest, FirstFails, HasRead, HasReadFile, HasTested, IsNeeded, Kind, SeriesListText, SheetText, list_cause, sheet_cause, text_tests}
+use Rattle.gl_files.specs.Halts.{RefusesFor}
+use Rattle.gl_files.specs.SeriesFiles.{AreSeriesRead, DaySeen, IsDaySeen, IsListRead, IsSeriesSeen, IsSheetRead, day_tests, series_tests, tests_of}
+use Rattle.gl_files.proofs.DayTests.{not_listed, seen_some}
+use Rattle.gl_files.proofs.FileTests.{all_pass, fails_behind, fails_in_front, some_text_fails, some_text_passes}
+
+-- a text that is no list
+no_list : (file text : List ℕ) (error : ListError) (cause : Cause) (halt : Halt) → IsRefused text error → list_cause error ≡ Some cause → RefusesFor file (Some cause) halt → HasRead SeriesListText file text IsList (Err halt)
+no_list file text error cause (Refused refusal) told why same =
+    (ap (λ (r : Refusal). r.file) same, (error, told, why ∙ ap (λ (r : Refusal). Some r.cause) (sym same)))
+no_list file text error cause (Stopped stop) told why same = tt
+
+no_memory : {X : Type 0} (kind : Kind) (file text : List ℕ) (halt : Halt) (IsOf : List ℕ → X → Type 0) → RefusesFor file None halt → HasRead kind file text IsOf (Err halt)
+no_memory kind file text (Refused refusal) IsOf wanting = absurd (cc)
+no_memory kind file text (Stopped stop) IsOf wanting = tt
+
+pub list_refused : (file text : List ℕ) (error : ListError) (halt : Halt) → IsRefused text error → RefusesFor file (list_cause error) halt → HasRead SeriesListText file text IsList (Err halt)
+list_refused file text list.Heading halt told refused = no_list file text list.Heading _ halt told refl refused
+list_refused file text (list.Line line) halt told refused = no_list file text (list.Line line) _ halt told refl refused
+list_refused file text list.Memory halt told refused = no_memory SeriesListText file text halt IsList refused
+
+-- a text that is no sheet
+no_sheet : (file text : List ℕ) (error : SheetError) (cause : Cause) (halt : Halt) → IsRefusedSheet text error → sheet_cause error ≡ Some cause → RefusesFor file (Some cause) halt → HasRead SheetText file text IsSheetOf (Err halt)
+no_sheet file text error cause (Refused refusal) told why same =
+    (ap (λ (r : Refusal). r.file) same, (error, told, why ∙ ap (λ (r : Refusal). Some r.cause) (sym same)))
+no_sheet file text error cause (Stopped stop) told why same = tt
+
+pub sheet_refused : (file text : List ℕ) (error : SheetError) (halt : Halt) → IsRefusedSheet text error → RefusesFor file (sheet_cause error) halt → HasRead SheetText file text IsSheetOf (Err halt)
+sheet_refused file text sheet.Heading halt told refused = no_sheet file text sheet.Heading _ halt told refl refused
+sheet_refused file text (sheet.Record number) halt told refused = no_sheet file text (sheet.Record number) _ halt told refl refused
+sheet_refused file text sheet.Memory halt told refused = no_memory SheetText file text halt IsSheetOf refused
+
+-- the list isn't among the names
+pub list_missing : (folder : Option FilesByName) (names : List (List ℕ)) (file : List ℕ) (halt : Halt) → ListsNames folder names → IsNeeded names file (Err halt)
+    → HasTested {X = Series} (λ seen. IsSeenIn folder file seen) (tests_of SeriesListText file) IsListRead (Err halt)
+list_missing folder names file (Refused refusal) lists (none, same) =
+    (None, not_listed folder names file lists none, inl (ap (λ (r : Refusal). r.file) same, (refl, ap (λ (r : Refusal). r.cause) same)))
+list_missing folder names file (Stopped stop) lists needed = tt
+
+list_read : (file : List ℕ) (seen : Option (List ℕ)) (series : Series) → AllPass (text_tests SeriesListText most_bytes file seen) → IsSomeAnd seen (λ text. IsList text series) → IsListRead seen series
+list_read file None series passes reads = absurd reads
+list_read file (Some text) series passes reads = (passes.0, reads)
+
+-- it is, and was read or refused
+pub list_tested : (folder : Option FilesByName) (file : List ℕ) (result : Result Series Halt) → HasReadFile SeriesListText most_bytes folder file IsList result
+    → HasTested (λ seen. IsSeenIn folder file seen) (tests_of SeriesListText file) IsListRead result
+list_tested folder file (Ok series) (seen, is, passes, reads) =
+    (seen, is, (some_text_passes SeriesListText most_bytes file seen passes, passes), list_read file seen series passes reads)
+list_tested folder file (Err (Refused refusal)) (seen, is, fails) = (seen, is, inr (some_text_fails SeriesListText most_bytes file seen refusal fails, fails))
+list_tested folder file (Err (Stopped stop)) read = tt
+
+-- the sheet of a day isn't among the names
+pub day_missing : (folder : Option FilesByName) (names : List (List ℕ)) (file : List ℕ) (halt : Halt) → ListsNames folder names → IsNeeded names file (Err halt)
+    → HasTested {X = DaySheet} (IsDaySeen folder file) day_tests IsSheetRead (Err halt)
+day_missing folder names file (Refused refusal) lists (none, same) =
+    (record { file = file; sheet = None }, (refl, not_listed folder names file lists none), inl (ap (λ (r : Refusal). r.file) same, (refl, ap (λ (r : Refusal). r.cause) same)))
+day_missing folder names file (Stopped stop) lists needed = tt
+
+-- it is, and was read or refused
+pub day_tested : (folder : Option FilesByName) (file : List ℕ) (result : Result DaySheet Halt) → HasReadFile SheetText most_bytes folder file IsSheetOf result
+    → HasTested (IsDaySeen folder file) day_tests IsSheetRead result
+day_tested folder file (Ok sheet) (seen, is, passes, reads) =
+    (record { file = file; sheet = seen }, (refl, is), (some_text_passes SheetText most_bytes file seen passes, passes), reads)
+day_tested folder file (Err (Refused refusal)) (seen, is, fails) =
+    (record { file = file; sheet = seen }, (refl, is), inr (some_text_fails SheetText most_bytes file seen refusal fails, fails))
+day_tested folder file (Err (Stopped stop)) read = tt
+
+-- these days passed, and have these sheets
+abbrev pub AreDaysTested : Option FilesByName → List (List ℕ) → List DaySheet → Type 0
+AreDaysTested folder names sheets =
+    (days : List DaySeen) × AllZip (IsDaySeen folder) names days × AllPass (flat_map day_tests days) × AllZip IsSheetRead days sheets
+
+zip_append : {A B : Type 0} (R : A → B → Type 0) (xs vs : List A) (ys ws : List B) → AllZip R xs ys → AllZip R vs ws → AllZip R (xs ++ vs) (ys ++ ws)
+zip_append R [] vs [] ws one other = other
+zip_append R [] vs (y ∷ ys) ws one other = absurd one
+zip_append R (x ∷ xs) vs [] ws one other = absurd one
+zip_append R (x ∷ xs) vs (y ∷ ys) ws one other = (one.0, zip_append R xs vs ys ws one.1 other)
+
+tests_append : (days more : List DaySeen) → flat_map day_tests (days ++ more) ≡ flat_map day_tests days ++ flat_map day_tests more
+tests_append [] more = refl
+tests_append (day ∷ days) more = λ i. tests_of SheetText day.file day.sheet ++ tests_append days more i
+
+-- what is seen of any days
+days_seen : (folder : Option FilesByName) (names : List (List ℕ)) → (days : List DaySeen) × AllZip (IsDaySeen folder) names days
+days_seen folder [] = ([], tt)
+days_seen folder (name ∷ names) =
+    let first = seen_some folder name in
+    let rest = days_seen folder names in
+    (record { file = name; sheet = first.0 } ∷ rest.0, ((refl, first.1), rest.1))
+
+next_name : (names : List (List ℕ)) (i : ℕ) (name : List ℕ) → i < length names → name ≡ get_or names i name → take (i + 1) names ≡ take i names ++ name ∷ []
+next_name names i name below item = take_more names i name below ∙ ap (λ (n : List ℕ). take i names ++ n ∷ []) (sym item)
+
+-- one day more passed
+pub days_more : (folder : Option FilesByName) (names : List (List ℕ)) (i : ℕ) (name : List ℕ) (sheets : List DaySheet) (sheet : DaySheet) → i < length names → name ≡ get_or names i name
+    → AreDaysTested folder (take i names) sheets → HasTested (IsDaySeen folder name) day_tests IsSheetRead (Ok sheet) → AreDaysTested folder (take (i + 1) names) (sheets ++ sheet ∷ [])
+days_more folder names i name sheets sheet below item (days, are, passes, reads) (day, is, pass, read) = (
+  days ++ day ∷ [],
+  subst (λ (l : List (List ℕ)). AllZip (IsDaySeen folder) l (days ++ day ∷ [])) (sym (next_name names i name below item)) (zip_append (IsDaySeen folder) (take i names) (name ∷ []) days (day ∷ []) are (is, tt)),
+  subst AllPass (sym (tests_append days (day ∷ []))) (all_pass (flat_map day_tests days) (day_tests day ++ []) passes (all_pass (day_tests day) [] pass tt)),
+  zip_append IsSheetRead days (day ∷ []) sheets (sheet ∷ []) reads (read, tt),
+)
+
+-- all passed
+pub days_all : (folder : Option FilesByName) (names : List (List ℕ)) (i : ℕ) (sheets : Vec DaySheet Global) → length names ≤ i → AreDaysTested folder (take i names) sheets.items
+    → HasTested (AllZip (IsDaySeen folder) names) (flat_map day_tests) (λ days (read : Vec DaySheet Global). AllZip IsSheetRead days read.items) (Ok sheets)
+days_all folder names i sheets last tested = subst (λ (l : List (List ℕ)). AreDaysTested folder l sheets.items) (take_all i names last) tested
+
+-- a day was refused, and those before it passed
+pub day_refused : (folder : Option FilesByName) (names : List (List ℕ)) (i : ℕ) (name : List ℕ) (sheets : List DaySheet) (halt : Halt) → i < length names → name ≡ get_or names i name
+    → AreDaysTested folder (take i names) sheets → HasTested {X = DaySheet} (IsDaySeen folder name) day_tests IsSheetRead (Err halt)
+    → HasTested {X = Vec DaySheet Global} (AllZip (IsDaySeen folder) names) (flat_map day_tests) (λ days read. AllZip IsSheetRead days read.items) (Err halt)
+day_refused folder names i name sheets (Refused refusal) below item (days, are, passes, reads) (day, is, fails) =
+    let rest = days_seen folder (drop (i + 1) names) in
+    let upto = subst (λ (l : List (List ℕ)). AllZip (IsDaySeen folder) l (days ++ day ∷ [])) (sym (next_name names i name below item)) (zip_append (IsDaySeen folder) (take i names) (name ∷ []) days (day ∷ []) are (is, tt)) in
+    let seen = (days ++ day ∷ []) ++ rest.0 in
+    let front = fails_behind (flat_map day_tests days) (day_tests day ++ []) refusal passes (fails_in_front (day_tests day) [] refusal fails) in (
+      seen,
+      subst (λ (l : List (List ℕ)). AllZip (IsDaySeen folder) l seen) (take-append-drop (i + 1) names) (zip_append (IsDaySeen folder) (take (i + 1) names) (drop (i + 1) names) (days ++ day ∷ []) rest.0 upto rest.1),
+      subst (λ (tests : List FileTest). FirstFails tests refusal) (sym (tests_append (days ++ day ∷ []) rest.0)) (fails_in_front (flat_map day_tests (days ++ day ∷ [])) (flat_map day_tests rest.0) refusal
+          (subst (λ (tests : List FileTest). FirstFails tests refusal) (sym (tests_append days (day ∷ []))) front)),
+    )
+day_refused folder names i name sheets (Stopped stop) below item tested refused = tt
+
+-- the list was refused: nothing is seen of days
+no_days : (file : List ℕ) (seen : Option (List ℕ)) (refusal : Refusal) → FirstFails (tests_of SeriesListText file seen) refusal → (series : Series) → IsListRead seen series → ⊥
+no_days file None refusal fails series read = absurd read
+no_days file (Some text) refusal (inl fails) series read = absurd (cc)
+no_days file (Some text) refusal (inr (listed, inl fails)) series read = omega (arith, read.0, fails.1.0)
+no_days file (Some text) refusal (inr (listed, inr (small, inl fails))) series read =
+    let told = fails.1 in
+    let e : ◌≡◌ {A = Option Cause} None (Some refusal.cause) = sym (ap list_cause (list_told text series told.0 read.1 told.1)) ∙ told.2 in cc
+no_days file (Some text) refusal (inr (listed, inr (small, inr (reads, none)))) series read = absurd none
+
+pub series_list_refused : (folder : Option FilesByName) (words : SeriesWords) (halt : Halt)
+    → HasTested {X = Series} (λ seen. IsSeenIn folder words.list seen) (tests_of SeriesListText words.list) IsListRead (Err halt)
+    → HasTested (IsSeriesSeen words folder) (series_tests words) AreSeriesRead (Err halt)
+series_list_refused folder words (Refused refusal) (seen, is, fails) =
+    (record { list = seen; days = [] }, (is, inr (no_days words.list seen refusal fails, refl)), fails_in_front (tests_of SeriesListText words.list seen) [] refusal fails)
+series_list_refused folder words (Stopped stop) tested = tt
+
+-- the list passed, and a day was refused
+pub series_day_refused : (folder : Option FilesByName) (words : SeriesWords) (series : Series) (halt : Halt)
+    → HasTested (λ seen. IsSeenIn folder words.list seen) (tests_of SeriesListText words.list) IsListRead (Ok series)
+    → HasTested {X = Vec DaySheet Global} (AllZip (IsDaySeen folder) series.days) (flat_map day_tests) (λ days read. AllZip IsSheetRead days read.items) (Err halt)
+    → HasTested (IsSeriesSeen words folder) (series_tests words) AreSeriesRead (Err halt)
+series_day_refused folder words series (Refused refusal) (seen, is, passes, read) (days, are, fails) =
+    (record { list = seen; days = days }, (is, inl (series, read, are)), fails_behind (tests_of SeriesListText words.list seen) (flat_map day_tests days) refusal passes fails)
+series_day_refused folder words series (Stopped stop) tested refused = tt
+
+-- all passed
+pub series_read : (folder : Option FilesByName) (words : SeriesWords) (series : Series) (sheets : Vec DaySheet Global)
+    → HasTested (λ seen. IsSeenIn folder words.list seen) (tests_of SeriesListText words.list) IsListRead (Ok series)
+    → HasTested (AllZip (IsDaySeen folder) series.days) (flat_map day_tests) (λ days (read : Vec DaySheet Global). AllZip IsSheetRead days read.items) (Ok sheets)
+    → HasTested (IsSeriesSeen words folder) (series_tests words) AreSeriesRead (Ok (series, sheets))
+series_read folder words series sheets (seen, is, passes, read) (days, are, pass, reads) =
+    (record { list = seen; days = days }, (is, inl (series, read, are)), all_pass (tests_of SeriesListText words.list seen) (flat_map day_tests days) passes pass, (read, reads))
+
+-- what was read fits what the totals ask for
+pub list_fits : (seen : Option (List ℕ)) (series : Series) → IsListRead seen series → IsSeries series
+list_fits None series read = absurd read
+list_fits (Some text) series read = subst IsSeries (sym read.1.says) read.1.reads.fit
+
+sheet_fits : (seen : Option (List ℕ)) (sheet : DaySheet) → IsSomeAnd seen (λ text. IsSheetOf text sheet) → IsDay sheet.rows
+sheet_fits None sheet read = absurd read
+sheet_fits (Some text) sheet read = read.reads.fit
+
+sheets_fit : (days : List DaySeen) (sheets : List DaySheet) → AllZip IsSheetRead days sheets → AllByRecursion (λ sheet. IsDay sheet.rows) sheets
+sheets_fit [] [] read = tt
+sheets_fit [] (sheet ∷ sheets) read = absurd read
+sheets_fit (day ∷ days) [] read = absurd read
+sheets_fit (day ∷ days) (sheet ∷ sheets) read = (sheet_fits day.sheet sheet read.0, sheets_fit days sheets read.1)
+
+pub days_fit : (folder : Option FilesByName) (series : Series) (days : List DaySeen) (sheets : List DaySheet) → IsSeries series → AllZip (IsDaySeen folder) series.days days → AllZip IsSheetRead days sheets → AreDays sheets
+days_fit folder series days sheets is are reads = record {
+  few = omega (arith, is.few_days, AllZip-long (IsDaySeen folder) series.days days are, AllZip-long IsSheetRead days sheets reads);
+  each = All-from_recursion (λ (sheet : DaySheet). IsDay sheet.rows) sheets (sheets_fit days sheets reads);
+}
+
+pub series_fit : (folder : Option FilesByName) (words : SeriesWords) (series : Series) (sheets : Vec DaySheet Global)
+    → HasTested (λ seen. IsSeenIn folder words.list seen) (tests_of SeriesListText words.list) IsListRead (Ok series)
+    → HasTested (AllZip (IsDaySeen folder) series.days) (flat_map day_tests) (λ days (read : Vec DaySheet Global). AllZip IsSheetRead days read.items) (Ok sheets)
+    → IsSeries series × AreDays sheets.items
+series_fit folder words series sheets (seen, is, passes, read) (days, are, pass, reads) =
+    let fits = list_fits seen series read in
+    (fits, days_fit folder series days sheets.items fits are reads)

@@ -1,0 +1,11 @@
+pub mod BadgeFiles
+pub mod DayFiles
+pub mod FileTests
+pub mod FlightFile
+pub mod Halts
+pub mod Lines
+pub mod NearFiles
+pub mod Pouring
+pub mod Refusals
+pub mod ReplayFiles
+pub mod SeriesFiles

@@ -1,0 +1,79 @@
+ghost use Rattle.gl_desk.specs.Answers.{OnlyReads};
+ghost use Rattle.gl_desk.specs.Desk.{HasFile, ListsNames};
+ghost use Rattle.gl_words.specs.BadgeWords.{badge_seen};
+ghost use Rattle.gl_files.specs.BadgeFiles.{AreBadgeCheckRead, IsBadgeRead, IsBadgeSeen, IsProofOfText, badge_check_tests, badge_tests};
+ghost use Rattle.gl_files.specs.FileTests.{HasRead, HasReadFile, HasTested, ProofText, most_proof_bytes};
+ghost use Rattle.gl_files.specs.Halts.{IsNoFault, halt_stop};
+
+use crate::day_files::{proof_cause, read_bytes};
+use crate::file_tests::{MOST_PROOF_BYTES, need, need_unlisted, read_recording};
+use crate::halt::{Halt, refusing_for};
+use gl_desk::{Desk, Name};
+use gl_igc::Recording;
+use gl_proof::{Proof, read_proof};
+use gl_words::BadgeWords;
+use std::alloc::Global;
+
+/// The proof of a text.
+fn badge_proof_in(alloc: Global, file: &Name, text: &[u8]) -> Result<Proof, Halt>
+    ensures read { HasRead ProofText file.now text.now IsProofOfText result }
+    ensures no_fault { IsNoFault result }
+{
+    match read_proof(alloc, text) {
+        Ok(proof) => Ok(proof),
+        Err(error) => Err(refusing_for(file, proof_cause(error))),
+    }
+}
+
+/// The proof of a listed file.
+fn read_badge_proof<D: Desk>(alloc: Global, desk: &mut D, file: &Name) -> Result<Proof, Halt>
+    requires { HasFile (D.told desk.old).folder file.now }
+    ensures read { HasReadFile ProofText most_proof_bytes (D.told desk.old).folder file.now
+        IsProofOfText result }
+    ensures reads { OnlyReads (halt_stop result) (D.told desk.old) (D.told desk.new) }
+{
+    let bytes = read_bytes(alloc, desk, file, MOST_PROOF_BYTES)?;
+    badge_proof_in(alloc, file, &bytes)
+}
+
+/// The recording that `badge` needs, where the files pass its tests.
+///
+/// The tests are made in this order: FILE is of the folder's names, and PROOF isn't; FILE has at
+/// most 16,777,216 bytes; it is a recording.
+pub fn test_badge_files<D: Desk>(
+    alloc: Global,
+    desk: &mut D,
+    names: &[Name],
+    words: BadgeWords<'_>,
+) -> Result<Recording, Halt>
+    requires { ListsNames (D.told desk.old).folder names.now }
+    ensures tested { HasTested (IsBadgeSeen (badge_seen words.entry) (D.told desk.old).folder)
+        (badge_tests (badge_seen words.entry)) IsBadgeRead result }
+    ensures reads { OnlyReads (halt_stop result) (D.told desk.old) (D.told desk.new) }
+{
+    need(names, words.flight)?;
+    need_unlisted(names, words.proof)?;
+    read_recording(alloc, desk, words.flight, None)
+}
+
+/// The recording and the proof that `badgecheck` needs, where the files pass its tests.
+///
+/// The tests are made in this order: FILE and PROOF are of the folder's names; FILE has at most
+/// 16,777,216 bytes; it is a recording; PROOF has at most 1,073,741,824 bytes; its text is a proof.
+pub fn test_badge_check_files<D: Desk>(
+    alloc: Global,
+    desk: &mut D,
+    names: &[Name],
+    words: BadgeWords<'_>,
+) -> Result<(Recording, Proof), Halt>
+    requires { ListsNames (D.told desk.old).folder names.now }
+    ensures tested { HasTested (IsBadgeSeen (badge_seen words.entry) (D.told desk.old).folder)
+        (badge_check_tests (badge_seen words.entry)) AreBadgeCheckRead result }
+    ensures reads { OnlyReads (halt_stop result) (D.told desk.old) (D.told desk.new) }
+{
+    need(names, words.flight)?;
+    need(names, words.proof)?;
+    let recording = read_recording(alloc, desk, words.flight, None)?;
+    let proof = read_badge_proof(alloc, desk, words.proof)?;
+    Ok((recording, proof))
+}

@@ -1,0 +1,28 @@
+use Rattle.std.proofs.Common.{◌≡◌, ◌∙◌, true, Err, None, Some, ap, rules, subst, w32, to_z, of_z, ℤ}
+use Rattle.std.proofs.lemmas.Int.{to_z-of_z}
+use Rattle.gl_igc.specs.Recording.{IsReadAs}
+use Rattle.gl_files.proofs.DayTests.{is_named}
+use Rattle.gl_tally.proofs.Flights.{entrant_seen}
+use Rattle.gl_tally.proofs.seeing.see_entrant.Goals as goal
+
+pub returns-then-not-contains-clause-seen : goal.returns-then-not-contains-clause-seen
+returns-then-not-contains-clause-seen g c =
+    (None, search rules, c.absent_flight.ensures)
+
+pub returns-in_ok-read_flight-in-Ok-clause-seen : goal.returns-in_ok-read_flight-in-Ok-clause-seen
+returns-in_ok-read_flight-in-Ok-clause-seen g c =
+    let has : c.contains.result ≡ true = search rules in
+    let listed = is_named c.args.names.now c.args.entrant.now.file c.contains.result c.contains.ensures.value has in
+    let read = c.in-Ok.ensures.read in
+    let date : ℤ = to_z w32 (of_z w32 c.args.task.now.date) in
+    let same : date ≡ c.args.task.now.date = to_z-of_z w32 c.args.task.now.date (search rules) in
+    let says = subst (λ (day : ℤ). IsReadAs read.bytes (Some day) c.in-Ok.read) same read.says in
+    let seen = c.in_ok-read_flight-in-Ok.ensures read.bytes read.small says in
+    (Some read.bytes, (listed, read.seen), entrant_seen c.args.task.now c.args.entrant.now read.bytes c.in_ok-read_flight-in-Ok.field-0 seen)
+
+pub returns-in-Err-TooLarge-clause-seen : goal.returns-in-Err-TooLarge-clause-seen
+returns-in-Err-TooLarge-clause-seen g c =
+    let has : c.contains.result ≡ true = search rules in
+    let listed = is_named c.args.names.now c.args.entrant.now.file c.contains.result c.contains.ensures.value has in
+    let large = c.read_recording_file.ensures.too_large (c.in-Err-TooLarge.is ∙ ap Err c.in-Err-TooLarge.field-0-is) in
+    (Some large.0, (listed, large.2), λ air stewards. c.large_flight.ensures air stewards large.0 large.1)

@@ -1,0 +1,6 @@
+pub mod Alike
+pub mod Appending
+pub mod Asked
+pub mod DayChecked
+pub mod Scored
+pub mod Scoring

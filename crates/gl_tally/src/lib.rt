@@ -1,0 +1,12 @@
+//! A day over a desk: its entrants are scored and its proof is appended, or a proof is compared with
+//! what its files ask for.
+#![tactic(auto)]
+
+mod appending;
+mod checking;
+mod scoring;
+mod seeing;
+
+pub use appending::append_piece;
+pub use checking::check_claims;
+pub use scoring::{append_claim, score_day};

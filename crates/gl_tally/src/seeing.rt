@@ -1,0 +1,35 @@
+ghost use Rattle.std.specs.Prelude.{ℕ, List, Option, IfOk};
+ghost use Rattle.gl_desk.specs.Answers.{OnlyReads, stop_of};
+ghost use Rattle.gl_tally.specs.Asked.{HaveFiles, IsEntrantSeen, IsSeenAmong};
+
+use gl_day::{Seen, absent_flight, large_flight, read_flight};
+use gl_desk::{Desk, DeskError, Name, ReadError};
+use gl_files::read_recording_file;
+use gl_task::{Entrant, Task};
+use std::alloc::Global;
+
+/// What is seen of an entrant's file, which is one of the folder's names or isn't there. A file
+/// that is missing, too large or no recording of the day refuses nothing: it is the entrant's.
+pub fn see_entrant<D: Desk>(
+    alloc: Global,
+    desk: &mut D,
+    names: &[Name],
+    task: &Task,
+    entrant: &Entrant,
+) -> Result<Seen, DeskError>
+    requires { HaveFiles (D.told desk.old).folder names.now }
+    ensures seen { IfOk result (λ seen. (there : Option (List ℕ))
+        × IsSeenAmong names.now (D.told desk.old).folder entrant.now.file there
+        × IsEntrantSeen task.now entrant.now there seen) }
+    ensures reads { OnlyReads (stop_of result) (D.told desk.old) (D.told desk.new) }
+{
+    if !names.contains(&entrant.file) {
+        return Ok(Seen::Refused(absent_flight(task, entrant)));
+    }
+    match read_recording_file(alloc, desk, &entrant.file, Some(task.date)) {
+        Ok(read) => Ok(read_flight(task, entrant, read)?),
+        Err(ReadError::TooLarge) => Ok(Seen::Refused(large_flight(task, entrant))),
+        Err(ReadError::Fault) => Err(DeskError::Failed),
+        Err(ReadError::Memory) => Err(DeskError::Memory),
+    }
+}

@@ -1,0 +1,3 @@
+pub mod CommandNames
+pub mod DayNumbers
+pub mod Unbroken

@@ -1,0 +1,7 @@
+pub mod BadgeWords
+pub mod Command
+pub mod DayNames
+pub mod NearWords
+pub mod ReplayWords
+pub mod SeriesWords
+pub mod Words

@@ -1,0 +1,28 @@
+ghost use Rattle.std.specs.Prelude.{◌≡◌, option_map};
+ghost use Rattle.gl_words.specs.BadgeWords.{badge_seen};
+ghost use Rattle.gl_words.specs.Words.{badge_form};
+
+use crate::command::is_file_name;
+use gl_desk::Name;
+
+/// What `badge` and `badgecheck` are given.
+#[derive(Clone, Copy, Debug)]
+pub struct BadgeWords<'a> {
+    /// The file of the recording.
+    pub flight: &'a Name,
+    /// The file of the proof.
+    pub proof: &'a Name,
+}
+
+/// What is given in `badge FILE PROOF`, or behind another first word.
+pub fn read_badge_words<'a>(first: &str, words: &'a [Name]) -> Option<BadgeWords<'a>>
+    ensures { option_map badge_seen result ≡ badge_form first.now words.now }
+{
+    match words {
+        [word, flight, proof]
+            if word.as_str() == first && is_file_name(flight) && is_file_name(proof) => {
+            Some(BadgeWords { flight, proof })
+        }
+        _ => None,
+    }
+}
