@@ -26,6 +26,6 @@ mod triangle;
 
 pub use gl_words::worker_count;
 pub use laws::{one_answer, one_series};
-pub use program::run_program;
+pub use program::{carry_out_words, run_program};
 pub use running::{run, run_single};
 pub use status::Status;

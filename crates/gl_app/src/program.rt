@@ -1,16 +1,16 @@
-ghost use Rattle.std.specs.Prelude.{◌≡◌, IfOk, drop, map};
+ghost use Rattle.std.specs.Prelude.{◌≡◌, IfOk, OnErr, drop, map};
 ghost use Rattle.std.specs.Process.{exit_status};
 ghost use Rattle.std.specs.String.{string_bytes};
 ghost use Rattle.std.specs.Vec.Iter.{into_iter_items};
-ghost use Rattle.gl_day.specs.Flight.{steward_rules};
-ghost use Rattle.gl_app.specs.Endings.{IsEnding, number_of_ending};
+ghost use Rattle.gl_app.specs.Endings.{IsEnding, number_of_ending, program_stewards};
+ghost use Rattle.gl_app.specs.Run.{IsRun};
 ghost use Rattle.gl_app.specs.declared.program.Ending.{Ending};
 
 use crate::running::run;
 use crate::status::Status;
 use gl_desk::{Desk, HostDesk, Name};
 use gl_pool::OpenGate;
-use gl_steward::Steward;
+use gl_steward::{Ceiling, EngineNoise, Steward};
 use std::alloc::{AllocError, Global};
 use std::env;
 use std::env::Args;
@@ -64,6 +64,24 @@ fn names(alloc: Global, mut words: Args) -> Result<Vec<Name>, AllocError>
     names_of(alloc, words)
 }
 
+/// Carries out a command with the program's two stewards, that of the ceiling and that of the engine.
+/// The only error is want of memory for them.
+fn run_with_stewards<Rt: Threads + Wait + Sync, D: Desk>(
+    rt: &Rt,
+    alloc: Global,
+    words: &[Name],
+    desk: &mut D,
+) -> Result<Status, AllocError>
+    ensures ran { IfOk result (λ status. IsRun words.now program_stewards program_stewards
+        status (D.told desk.old) (D.told desk.new)) }
+    ensures untouched { OnErr result (D.told desk.new ≡ D.told desk.old) }
+{
+    let mut stewards: Vec<Box<dyn Steward>> = Vec::new(alloc);
+    stewards.push(Box::new(alloc, Ceiling::new())?)?;
+    stewards.push(Box::new(alloc, EngineNoise::new())?)?;
+    Ok(run(rt, alloc, words, desk, &OpenGate, &mut stewards))
+}
+
 /// Carries out the words that the system gives, of which the first is the program's own name, and
 /// says how the program ends. Where there are no words nothing is read, written or said.
 fn ending_of<Rt: Threads + Wait + Sync, D: Desk>(
@@ -71,12 +89,8 @@ fn ending_of<Rt: Threads + Wait + Sync, D: Desk>(
     alloc: Global,
     words: io::Result<Args>,
     desk: &mut D,
-    stewards: &mut Vec<Box<dyn Steward>>,
 ) -> Ending
-    ensures { IsEnding words
-        (map (λ s. steward_rules (opening s) (fed s) (owed s)) stewards.old.items)
-        (map (λ s. steward_rules (opening s) (fed s) (owed s)) stewards.new.items)
-        result (D.told desk.old) (D.told desk.new) }
+    ensures { IsEnding words result (D.told desk.old) (D.told desk.new) }
 {
     let words = match words {
         Ok(words) => words,
@@ -86,38 +100,34 @@ fn ending_of<Rt: Threads + Wait + Sync, D: Desk>(
     let Ok(names) = names(alloc, words) else {
         return Ending::NoMemory;
     };
-    Ending::Ran(run(rt, alloc, &names, desk, &OpenGate, stewards))
+    match run_with_stewards(rt, alloc, &names, desk) {
+        Ok(status) => Ending::Ran(status),
+        Err(_) => Ending::NoMemory,
+    }
 }
 
-/// Carries out the words that the system gives, and answers what the program ends with.
-fn carry_out_words<Rt: Threads + Wait + Sync, D: Desk>(
+/// All that the program does, over any desk: carries out the words that the system gives, with the
+/// program's stewards, and answers the number of the status that the run ended with.
+pub fn carry_out_words<Rt: Threads + Wait + Sync, D: Desk>(
     rt: &Rt,
     alloc: Global,
     words: io::Result<Args>,
     desk: &mut D,
-    stewards: &mut Vec<Box<dyn Steward>>,
 ) -> ExitCode
-    ensures { (ending : Ending) × IsEnding words
-        (map (λ s. steward_rules (opening s) (fed s) (owed s)) stewards.old.items)
-        (map (λ s. steward_rules (opening s) (fed s) (owed s)) stewards.new.items)
-        ending (D.told desk.old) (D.told desk.new)
+    ensures { (ending : Ending) × IsEnding words ending (D.told desk.old) (D.told desk.new)
         × (exit_status result ≡ number_of_ending ending) }
 {
-    ending_of(rt, alloc, words, desk, stewards).exit_code()
+    ending_of(rt, alloc, words, desk).exit_code()
 }
 
-/// The program: hands the words of the system, the current folder, the standard output and the
-/// stewards to a run, and ends with its status as a number.
+/// The program: carries out the words of the system over the current folder and the standard output.
 pub fn run_program<Rt: Files + Print + Env + AllocGlobal + Threads + Wait + Sync + Drop>(
     rt: Rt,
-    stewards: &mut Vec<Box<dyn Steward>>,
 ) -> ExitCode
-    ensures status { (ending : Ending) × (exit_status result ≡ number_of_ending ending) }
-    ensures kept { map (λ s. steward_rules (opening s) (fed s) (owed s)) stewards.new.items
-        ≡ map (λ s. steward_rules (opening s) (fed s) (owed s)) stewards.old.items }
+    ensures { (ending : Ending) × (exit_status result ≡ number_of_ending ending) }
 {
     let alloc = rt.alloc();
     let words = env::args(&rt);
     let mut desk = HostDesk::new(&rt);
-    carry_out_words(&rt, alloc, words, &mut desk, stewards)
+    carry_out_words(&rt, alloc, words, &mut desk)
 }

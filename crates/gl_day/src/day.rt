@@ -6,7 +6,7 @@ ghost use Rattle.gl_day.specs.Day.{AreRows, IsSheetOf, performances_of, row_of};
 
 use crate::flight::Flight;
 use gl_points::{Day, Performance, day, net, score};
-use gl_sheet::{Row, sheet};
+use gl_sheet::{Row, SheetError, sheet};
 use gl_task::Task;
 use std::alloc::{AllocError, Global};
 
@@ -63,9 +63,8 @@ pub fn day_rows(alloc: Global, flights: &[Flight]) -> Result<Vec<Row>, AllocErro
     Ok(rows)
 }
 
-/// The sheet of a day, as text, from the flights of all entrants in the task's order. The only error is
-/// want of memory.
-pub fn sheet_of(alloc: Global, task: &Task, flights: &[Flight]) -> Result<Vec<u8>, AllocError>
+/// The sheet of a day, as text, from the flights of all entrants in the task's order.
+pub fn sheet_of(alloc: Global, task: &Task, flights: &[Flight]) -> Result<Vec<u8>, SheetError>
     requires { length flights.now ≡ length task.now.entrants }
     ensures { IfOk result (λ text. IsSheetOf task.now flights.now text.items) }
 {

@@ -1,12 +1,10 @@
 //! The program over a folder in which the proof can't be made, since a folder has its name, as a test: the
-//! gate runs it and wants the status of a fault. No steward is called.
+//! gate runs it and wants the status of a fault.
 #![tactic(auto)]
 
 use gl_app::run_program;
-use gl_steward::Steward;
 use std::process::ExitCode;
 
 fn main(rt: HostRuntime) -> ExitCode {
-    let mut stewards: Vec<Box<dyn Steward>> = Vec::new(rt.alloc());
-    run_program(rt, &mut stewards)
+    run_program(rt)
 }

@@ -2,10 +2,12 @@
 #![tactic(auto)]
 
 mod columns;
+mod error;
 pub mod laws;
 mod line;
 mod row;
 mod text;
 
+pub use error::SheetError;
 pub use row::{Listed, Outcome, Row};
 pub use text::sheet;

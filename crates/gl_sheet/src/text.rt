@@ -8,31 +8,22 @@ ghost use Rattle.gl_sheet.specs.Line.{line_of};
 ghost use Rattle.gl_sheet.specs.Sheet.{IsSheet};
 
 use crate::columns::{push_flight, push_lists, push_points, push_standing};
+use crate::error::SheetError;
 use crate::line::{Line, in_order};
 use crate::row::Row;
-use csv::{ByteRecord, Error, WriterBuilder};
+use csv::{ByteRecord, WriterBuilder};
 use gl_task::Task;
 use std::alloc::{AllocError, Global};
 
 /// The text of a line with these fields, as csv's default writer makes it.
-fn written(alloc: Global, columns: &ByteRecord) -> Result<Vec<u8>, Error>
+fn line_text(alloc: Global, columns: &ByteRecord) -> Result<Vec<u8>, SheetError>
     ensures { IfOk result (λ text. text.items ≡ row_text default_writer (fields_of columns.now)) }
 {
     let mut writer = WriterBuilder::new().from_writer(Vec::new(alloc));
     writer.write_byte_record(columns)?;
     match writer.into_inner() {
         Ok(text) => Ok(text),
-        Err(error) => Err(error.into_error()),
-    }
-}
-
-/// The text of a line with these fields. Writing into memory fails for want of memory alone.
-fn line_text(alloc: Global, columns: &ByteRecord) -> Result<Vec<u8>, AllocError>
-    ensures { IfOk result (λ text. text.items ≡ row_text default_writer (fields_of columns.now)) }
-{
-    match written(alloc, columns) {
-        Ok(text) => Ok(text),
-        Err(_) => Err(AllocError),
+        Err(error) => Err(error.into_error().into()),
     }
 }
 
@@ -85,7 +76,7 @@ fn columns(alloc: Global, rows: &[Row], line: &Line) -> Result<ByteRecord, Alloc
 }
 
 /// The text of an entrant's line.
-fn entrant_text(alloc: Global, rows: &[Row], line: &Line) -> Result<Vec<u8>, AllocError>
+fn entrant_text(alloc: Global, rows: &[Row], line: &Line) -> Result<Vec<u8>, SheetError>
     requires { length rows.now ≤ most_entrants }
     ensures { IfOk result (λ text.
         text.items
@@ -95,7 +86,7 @@ fn entrant_text(alloc: Global, rows: &[Row], line: &Line) -> Result<Vec<u8>, All
 }
 
 /// The text of the heading and of these lines.
-fn text_of(alloc: Global, rows: &[Row], lines: &[Line]) -> Result<Vec<u8>, AllocError>
+fn text_of(alloc: Global, rows: &[Row], lines: &[Line]) -> Result<Vec<u8>, SheetError>
     requires { length rows.now ≤ most_entrants }
     ensures { IfOk result (λ text.
         text.items
@@ -110,8 +101,8 @@ fn text_of(alloc: Global, rows: &[Row], lines: &[Line]) -> Result<Vec<u8>, Alloc
 }
 
 /// The sheet of a day, as text: the heading and a line for each entrant, by points. The rows are
-/// those of the task's entrants, in their order. The only error is want of memory.
-pub fn sheet(alloc: Global, task: &Task, rows: &[Row]) -> Result<Vec<u8>, AllocError>
+/// those of the task's entrants, in their order.
+pub fn sheet(alloc: Global, task: &Task, rows: &[Row]) -> Result<Vec<u8>, SheetError>
     requires { length rows.now ≡ length task.now.entrants }
     ensures { IfOk result (λ text. IsSheet task.now.entrants rows.now text.items) }
 {

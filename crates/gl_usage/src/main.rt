@@ -1,12 +1,10 @@
 //! The program by words that are no command, as a test: the gate runs it and wants the usage line and
-//! its status. No steward is called.
+//! its status.
 #![tactic(auto)]
 
 use gl_app::run_program;
-use gl_steward::Steward;
 use std::process::ExitCode;
 
 fn main(rt: HostRuntime) -> ExitCode {
-    let mut stewards: Vec<Box<dyn Steward>> = Vec::new(rt.alloc());
-    run_program(rt, &mut stewards)
+    run_program(rt)
 }

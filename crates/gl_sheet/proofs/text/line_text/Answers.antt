@@ -1,6 +1,6 @@
 use Rattle.std.proofs.Common.{◌≢◌, ◌∙◌}
 use Rattle.csv.specs.declared.writer.QuoteStyle.TheVariants as style
-use Rattle.gl_sheet.proofs.text.written.Goals as goal
+use Rattle.gl_sheet.proofs.text.line_text.Goals as goal
 
 pub returns-in-Ok : goal.returns-in-Ok
 returns-in-Ok c =
