@@ -1,5 +1,6 @@
 -- What is taken from a task of a SeeYou file.
-use Rattle.std.specs.Prelude.{◌≡◌, ℕ, ◌≤◌, ◌+◌, List, [], ◌∷◌, length, slice_get, true, Option, None, Some, ℤ, pos, ◌+ℤ◌, ◌≤ℤ◌, ⊤}
+use Rattle.std.specs.Prelude.{◌≡◌, ℕ, ◌≤◌, ◌+◌, List, [], ◌∷◌, length, slice_get, true, Option, None, Some, ℤ, pos, ◌+ℤ◌, ◌≤ℤ◌, ⊤, ◌||◌, is_some, Bool, false}
+use Rattle.std.specs.List.{list_any}
 use Rattle.gl_bearing.specs.Opposite.{IsOpposite}
 use Rattle.gl_sphere.specs.Distance.{squared_chord, written_distance}
 use Rattle.gl_sphere.specs.Place.{written_vector}
@@ -11,6 +12,8 @@ use Rattle.gl_sphere.specs.declared.place.Grid.{Grid}
 use Rattle.gl_draft.specs.declared.draft.Draft.{Draft}
 use Rattle.gl_draft.specs.declared.draft.Finish as code_finish
 use Rattle.gl_draft.specs.declared.draft.Finish.TheVariants.{Ring, Gate}
+use Rattle.gl_draft.specs.declared.draft.Kind as code_kind
+use Rattle.gl_draft.specs.declared.draft.Kind.TheVariants.{Area, Racing}
 use Rattle.gl_draft.specs.declared.draft.Part as code_part
 use Rattle.gl_draft.specs.declared.draft.Part.TheVariants.{Circle, Sector}
 use Rattle.gl_draft.specs.declared.draft.Sector as code_sector
@@ -113,8 +116,19 @@ pub record IsCourseOf (task : CupTask) (start : Start) (zones : List Zone) (fini
   pub last_is : slice_get task.points (length zones + 1) ≡ Some last
   pub finish_is : IsFinishOf last_turn last finish
 
--- all that is taken from a task: its course, and when the start opens
+-- a task of areas has a time, or a zone that is said to be an area
+abbrev pub is_area_task : CupTask → Bool
+is_area_task task =
+    list_any (λ (point : CupPoint). point.zone.is_area) task.points || is_some task.time
+
+-- the kind of a task that is one of areas or isn't; the time of one of areas is its minimum
+abbrev pub kind_by : Bool → Option ℕ → code_kind.Kind
+kind_by true time = Area time
+kind_by false time = Racing
+
+-- all that is taken from a task: its kind, its course, and when the start opens
 pub record IsDraftOf (task : CupTask) (draft : Draft) : Type 0 where
+  pub kind_is : draft.kind ≡ kind_by (is_area_task task) task.time
   pub course : IsCourseOf task draft.start draft.zones draft.finish
   pub opens : draft.opens ≡ task.opens
 

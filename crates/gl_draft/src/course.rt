@@ -1,5 +1,7 @@
 ghost use Rattle.std.specs.Prelude.{◌≡◌, ◌+◌, ◌≤◌, IfErr, IfOk, length};
-ghost use Rattle.gl_draft.specs.Taken.{AreZonesFrom, IsCourseOf, IsFinishOf, IsStartOf, IsZoneAt};
+ghost use Rattle.std.specs.List.{list_any};
+ghost use Rattle.gl_cup.specs.declared.point.CupPoint.{CupPoint};
+ghost use Rattle.gl_draft.specs.Taken.{AreZonesFrom, IsCourseOf, IsFinishOf, IsStartOf, IsZoneAt, is_area_task, kind_by};
 ghost use Rattle.gl_draft.specs.Causes.{IsNoFault};
 
 use crate::draft::{Finish, Kind, Start, Zone};
@@ -90,14 +92,25 @@ pub fn course_of(alloc: Global, task: &CupTask) -> Result<Course, Cause>
     })
 }
 
-/// The kind of a task: of areas where it has a time, or a zone that is said to be an area.
-pub fn kind_of(task: &CupTask) -> Kind {
-    let is_area = task
-        .points
-        .as_slice()
-        .iter()
-        .any(|point| point.zone.is_area);
-    if is_area || task.time.is_some() {
+/// Whether one of some points has a zone that is said to be an area.
+fn has_area(points: &[CupPoint]) -> bool
+    ensures { result ≡ list_any (λ (point : CupPoint). point.zone.is_area) points.now }
+{
+    points.iter().any(|point| point.zone.is_area)
+}
+
+/// Whether a task is one of areas: it has a time, or a zone that is said to be an area.
+fn is_area_task(task: &CupTask) -> bool
+    ensures { result ≡ is_area_task task.now }
+{
+    has_area(task.points.as_slice()) || task.time.is_some()
+}
+
+/// The kind of a task.
+pub fn kind_of(task: &CupTask) -> Kind
+    ensures { result ≡ kind_by (is_area_task task.now) task.now.time }
+{
+    if is_area_task(task) {
         Kind::Area { minimum: task.time }
     } else {
         Kind::Racing

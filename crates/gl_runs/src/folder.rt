@@ -20,6 +20,32 @@ pub fn short(alloc: Global, most: u64) -> Result<MemDesk, AllocError> {
     MemDesk::short(alloc, Vec::new(alloc), Vec::new(alloc), most.max(1))
 }
 
+/// A folder with the same files, whose call with this number fails, counted behind those that put the
+/// files there. None fails if it is 0.
+pub fn twin(alloc: Global, desk: &mut MemDesk, failing: u64) -> Result<MemDesk> {
+    let names = desk.names(alloc)?;
+    let before = if failing == 0 { 0 } else { names.len() as u64 };
+    let mut made = fresh(alloc, before.saturating_add(failing))?;
+    for name in &names {
+        made.append(alloc, name, desk.file(name).unwrap_or(b""))?;
+    }
+    Ok(made)
+}
+
+/// A folder with the same files, but for one, which has this text.
+pub fn twin_but(alloc: Global, desk: &mut MemDesk, one: &Name, text: &str) -> Result<MemDesk> {
+    let names = desk.names(alloc)?;
+    let mut made = fresh(alloc, 0)?;
+    for name in &names {
+        if name == one {
+            made.append(alloc, name, text.as_bytes())?;
+        } else {
+            made.append(alloc, name, desk.file(name).unwrap_or(b""))?;
+        }
+    }
+    Ok(made)
+}
+
 /// The text, in which `\n` and `\r` stand for the ends of lines.
 fn unescaped(alloc: Global, text: &str) -> Result<String, AllocError> {
     text.replace(alloc, "\\n", "\n")?

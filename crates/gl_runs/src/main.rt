@@ -4,10 +4,13 @@
 #![tactic(auto)]
 
 mod folder;
+mod in_turn;
 mod runs;
+mod severe;
 
 use anyhow::{Result, bail};
 use gl_desk::MemDesk;
+use in_turn::Often;
 use runs::Line;
 use std::io;
 
@@ -32,6 +35,11 @@ fn main(rt: HostRuntime) -> Result<()> {
         let (word, rest) = line.split_once(' ').unwrap_or((line, ""));
         if let Some(line) = Line::read(word, rest) {
             let told = runs::run(&rt, rt.alloc(), &mut desk, line)?;
+            println!(rt; "{told}")?;
+            continue;
+        }
+        if let Some(line) = Often::read(word, rest) {
+            let told = in_turn::run(&rt, rt.alloc(), &mut desk, line)?;
             println!(rt; "{told}")?;
             continue;
         }

@@ -1,3 +1,4 @@
+use crate::severe::Severe;
 use anyhow::{Context, Result};
 use gl_app::Status;
 use gl_desk::{MemDesk, Name};
@@ -32,6 +33,9 @@ pub enum Line<'a> {
     /// `among WORDS | LINE | LINE`: how it ended, the first line of what it said, and whether the rest
     /// of it is one of these lines.
     Among(&'a str, &'a str),
+    /// `severe WORDS`: how it ended with a steward that always owes the greatest number, and what it
+    /// said.
+    Severe(&'a str),
 }
 
 impl<'a> Line<'a> {
@@ -42,6 +46,7 @@ impl<'a> Line<'a> {
             "count" => Some(Line::Count(rest)),
             "bare" => Some(Line::Bare(rest)),
             "first" => Some(Line::First(rest)),
+            "severe" => Some(Line::Severe(rest)),
             "among" => {
                 let (words, lines) = rest.split_once(" | ")?;
                 Some(Line::Among(words, lines))
@@ -57,6 +62,7 @@ impl<'a> Line<'a> {
             | Line::Count(words)
             | Line::Bare(words)
             | Line::First(words)
+            | Line::Severe(words)
             | Line::Among(words, _) => words,
         }
     }
@@ -64,24 +70,28 @@ impl<'a> Line<'a> {
 
 /// How a run ended.
 #[derive(Drop)]
-struct Ended {
-    status: Status,
-    said: String,
+pub struct Ended {
+    pub status: Status,
+    pub said: String,
     /// How many calls of the desk it made.
-    calls: u64,
+    pub calls: u64,
 }
 
-/// Runs the words of a line, with the two stewards of the program, or with none if the line wants none.
-fn end_of<Rt: Threads + Wait + Sync>(
+/// Runs the words of a line, with the two stewards of the program, or with those that the line wants.
+pub fn end_of<Rt: Threads + Wait + Sync>(
     rt: &Rt,
     alloc: Global,
     desk: &mut MemDesk,
     line: Line<'_>,
 ) -> Result<Ended> {
     let mut stewards: Vec<Box<dyn Steward>> = Vec::new(alloc);
-    if !matches!(line, Line::Bare(_)) {
-        stewards.push(Box::new(alloc, Ceiling::new())?)?;
-        stewards.push(Box::new(alloc, EngineNoise::new())?)?;
+    match line {
+        Line::Bare(_) => {}
+        Line::Severe(_) => stewards.push(Box::new(alloc, Severe)?)?,
+        _ => {
+            stewards.push(Box::new(alloc, Ceiling::new())?)?;
+            stewards.push(Box::new(alloc, EngineNoise::new())?)?;
+        }
     }
     let calls = desk.calls();
     let length = desk.printed().len();
@@ -125,6 +135,9 @@ pub fn run<Rt: Threads + Wait + Sync>(
             format!(in alloc; "{words}: {status:?} {said:?} by {calls} calls")?
         }
         Line::Bare(_) => format!(in alloc; "{words} without stewards: {status:?} {said:?}")?,
+        Line::Severe(_) => {
+            format!(in alloc; "{words} with a severe steward: {status:?} {said:?}")?
+        }
         Line::First(_) => {
             let first = said.lines().next().unwrap_or("");
             format!(in alloc; "{words}: {status:?} {first:?} first")?
