@@ -1,5 +1,6 @@
-pub mod Kept
-pub mod Goings
-pub mod Gathers
-pub mod Edges
 pub mod Chords
+pub mod Edges
+pub mod Gathers
+pub mod Goings
+pub mod Kept
+pub mod SameAirspace

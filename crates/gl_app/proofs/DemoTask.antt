@@ -10,7 +10,7 @@ use Rattle.toml.proofs.OnLiterals.{toml_on_literals}
 use Rattle.toml.specs.Data.{Members, no_members}
 use Rattle.toml.specs.Parse.{parse_document}
 use Rattle.gl_airspace.specs.declared.volume.Airspace.{Airspace}
-use Rattle.gl_day.specs.Flight.{most_bytes}
+use Rattle.gl_desk.specs.Limits.{most_bytes}
 use Rattle.gl_demo.specs.Day.{entrant_file, generated_files}
 use Rattle.gl_demo.specs.Recording.{recording_name}
 use Rattle.gl_demo.specs.Task.{task_file_name, task_text}
@@ -21,12 +21,13 @@ use Rattle.gl_sphere.specs.Place.{written_vector}
 use Rattle.gl_sphere.specs.PlaceText.{angle_of, latitude_of, longitude_of, place_of_text, signed_by}
 use Rattle.gl_sphere.specs.Product.{product, scaled, with_sign_of}
 use Rattle.gl_sphere.specs.Sine.{half_turn_sine, quarter_sine, radians, sine_sum, sine_term, written_cosine, written_sine}
-use Rattle.gl_task.specs.Keys.{first_failed, said}
-use Rattle.gl_task.specs.Places.{grid_at, grid_of_text, is_same_vector, other_point}
-use Rattle.gl_task.specs.Reading.{IsDocument, IsReadFrom}
-use Rattle.gl_task.specs.Tests.{course_tests, day_tests, entrant_tests, entrants_tests, finish_tests, head_tests, lists_tests, numbered_tests, part_tests, people_tests, pilot_tests, plan_tests, rules_tests, start_tests, tests, way_tests, word_tests, zone_tests, zones_tests}
-use Rattle.gl_task.specs.Values.{day_of, file_name, kind_of, list_word_of, recent_day}
-use Rattle.gl_task.specs.declared.error.TaskError.{TaskError}
+use Rattle.gl_task_file.specs.Keys.{first_failed, said}
+use Rattle.gl_task_file.specs.Places.{grid_at, grid_of_text, other_point}
+use Rattle.gl_task.specs.SamePoint.{is_same_vector}
+use Rattle.gl_task_file.specs.Reading.{IsDocument, IsReadFrom}
+use Rattle.gl_task_file.specs.Tests.{course_tests, day_tests, entrant_tests, entrants_tests, finish_tests, head_tests, lists_tests, numbered_tests, part_tests, people_tests, pilot_tests, plan_tests, rules_tests, start_tests, tests, way_tests, word_tests, zone_tests, zones_tests}
+use Rattle.gl_task_file.specs.Values.{day_of, file_name, kind_of, list_word_of, recent_day}
+use Rattle.gl_task_file.specs.declared.error.TaskError.{TaskError}
 use Rattle.gl_task.specs.declared.task.Task.{Task}
 use Rattle.gl_text.specs.Digits.{number_of}
 use Rattle.gl_files.specs.declared.day_files.DayFiles.{DayFiles}

@@ -11,7 +11,7 @@ use Rattle.gl_proof.specs.declared.claim.ClaimKind.{ClaimKind}
 use Rattle.gl_task.specs.declared.task.Entrant.{Entrant}
 use Rattle.gl_task.specs.declared.task.Task.{Task}
 use Rattle.gl_day.specs.Expected.{expected_of}
-use Rattle.gl_day.specs.Flight.{most_bytes}
+use Rattle.gl_desk.specs.Limits.{most_bytes}
 
 -- a claim that a proof has to have: the number of an entrant, a kind and a goal
 abbrev pub Expected : Type 0

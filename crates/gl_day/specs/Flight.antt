@@ -27,12 +27,9 @@ use Rattle.gl_day.specs.declared.flight.Seen.TheVariants as seen
 use Rattle.gl_sheet.specs.declared.row.Outcome.{Outcome}
 use Rattle.gl_day.specs.declared.totals.Totals.{Totals}
 use Rattle.gl_sheet.specs.declared.row.Outcome.TheVariants.{Finished, Outlanded, NoStart, NotLaunched, Refused}
+use Rattle.gl_desk.specs.Limits.{most_bytes}
 use Rattle.gl_day.specs.Expected.{Proves, expected_of}
 use Rattle.gl_day.specs.Totals.{AreTotals, claimed_total, column, is_distance, is_free, is_triangle}
-
--- the most bytes that a recording may have
-abbrev pub most_bytes : ℕ
-most_bytes = 16_777_216
 
 -- A steward by its rules: the list that it opens a flight with, what a fix makes of a list, and what
 -- is owed for a list.

@@ -2,7 +2,8 @@ ghost use Rattle.std.specs.Prelude.{◌≡◌, ◌<◌, ◌≤◌, ℕ, List, []
 ghost use Rattle.gl_airspace.specs.declared.volume.Airspace.{Airspace};
 ghost use Rattle.gl_igc.specs.Recording.{IsReadAs};
 ghost use Rattle.gl_task.specs.Limits.{greatest_handicap};
-ghost use Rattle.gl_day.specs.Flight.{IsFlight, IsSeen, IsUnjudged, StewardRules, most_bytes};
+ghost use Rattle.gl_day.specs.Flight.{IsFlight, IsSeen, IsUnjudged, StewardRules};
+ghost use Rattle.gl_desk.specs.Limits.{most_bytes};
 ghost use Rattle.gl_day.specs.Totals.{column};
 
 use gl_igc::{IgcError, Recording};
@@ -10,9 +11,6 @@ use gl_points::Performance;
 use gl_sheet::{Listed, Outcome};
 use gl_task::{Entrant, Task};
 use std::alloc::AllocError;
-
-/// The most bytes that a recording may have.
-pub const MOST_BYTES: u64 = 16_777_216;
 
 /// The number by which a larger one is refused.
 const TOO_LARGE: u32 = 7;

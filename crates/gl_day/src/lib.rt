@@ -17,7 +17,7 @@ pub use claim::{claim_of, claim_of_found};
 pub use day::{day_rows, sheet_of};
 pub use fault::{Checked, Fault, NotProved};
 pub use finish::finish_flight;
-pub use flight::{Flight, MOST_BYTES, Seen, absent_flight, large_flight, read_flight};
+pub use flight::{Flight, Seen, absent_flight, large_flight, read_flight};
 pub use frame::{end_line, heading_line};
 pub use search::{Alone, Search};
 pub use totals::Totals;

@@ -22,5 +22,5 @@ pub use host::HostDesk;
 pub use mem::MemDesk;
 pub use name::Name;
 pub use pouring::pour;
-pub use read::read_all;
+pub use read::{MOST_BYTES, read_all};
 pub use taker::Taker;

@@ -9,6 +9,9 @@ use crate::pouring::pour;
 use crate::taker::Taker;
 use std::alloc::{AllocError, Global};
 
+/// The most bytes of any file that is read but a proof: 16 MiB.
+pub const MOST_BYTES: u64 = 16_777_216;
+
 /// The bytes of a file, as far as they were read.
 #[derive(Drop)]
 struct Gathered {

@@ -4,8 +4,8 @@ use Rattle.gl_cup.specs.declared.error.CupError.{CupError}
 use Rattle.gl_cup.specs.declared.error.CupError.TheVariants as cup
 use Rattle.gl_desk.specs.declared.error.DeskError.{DeskError}
 use Rattle.gl_desk.specs.declared.error.DeskError.TheVariants as desk
-use Rattle.gl_task.specs.declared.error.TaskError.{TaskError}
-use Rattle.gl_task.specs.declared.error.TaskError.TheVariants as task
+use Rattle.gl_task_file.specs.declared.error.TaskError.{TaskError}
+use Rattle.gl_task_file.specs.declared.error.TaskError.TheVariants as task
 use Rattle.gl_draft.specs.declared.answer.Status.{Status}
 use Rattle.gl_draft.specs.declared.answer.Status.TheVariants as status
 use Rattle.gl_draft.specs.declared.refusal.Cause as code

@@ -4,13 +4,13 @@ use Rattle.std.specs.List.{list_any}
 use Rattle.gl_sphere.specs.Place.{written_vector}
 use Rattle.gl_sphere.specs.declared.place.Grid.{Grid}
 use Rattle.gl_sphere.specs.declared.place.Vec3.{Vec3}
-use Rattle.gl_task.specs.Reading.{IsReadFrom, IsRefusalOf}
+use Rattle.gl_task_file.specs.Reading.{IsReadFrom, IsRefusalOf}
 use Rattle.gl_task.specs.declared.day_type.Finish as task_finish
 use Rattle.gl_task.specs.declared.day_type.Finish.TheVariants as finish
 use Rattle.gl_task.specs.declared.day_type.Kind as task_kind
 use Rattle.gl_task.specs.declared.day_type.Kind.TheVariants as kind
-use Rattle.gl_task.specs.declared.error.TaskError.{TaskError}
-use Rattle.gl_task.specs.declared.error.TaskError.TheVariants.{Memory}
+use Rattle.gl_task_file.specs.declared.error.TaskError.{TaskError}
+use Rattle.gl_task_file.specs.declared.error.TaskError.TheVariants.{Memory}
 use Rattle.gl_task.specs.declared.task.Entrant as task_entrant
 use Rattle.gl_task.specs.declared.task.Task.{Task}
 use Rattle.gl_zone.specs.declared.line.Line as zone_line

@@ -11,14 +11,14 @@ ghost use Rattle.gl_draft.specs.Words.{asked_by, words_of};
 use crate::answer::Status;
 use crate::course::{Course, course_of, kind_of};
 use crate::draft::Draft;
-use crate::folder::{Date, MOST_BYTES, Recordings, read_recordings};
+use crate::folder::{Date, Recordings, read_recordings};
 use crate::refusal::Cause;
 use crate::refusal_line::refusal_line;
 use crate::remarks::remarks;
 use crate::text::draft_text;
 use crate::words::{USAGE, Words, read_words};
 use gl_cup::{CupTask, read_cup};
-use gl_desk::{Desk, DeskError, Name, ReadError, read_all};
+use gl_desk::{Desk, DeskError, MOST_BYTES, Name, ReadError, read_all};
 use gl_igc::Items;
 use std::alloc::{AllocError, Global};
 

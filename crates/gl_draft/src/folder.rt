@@ -8,12 +8,9 @@ use crate::entrant::Entrant;
 use crate::form::{is_file_name, is_name, is_number};
 use crate::heading::{Heading, read_heading};
 use crate::refusal::Cause;
-use gl_desk::{Desk, DeskError, Name, ReadError, read_all};
+use gl_desk::{Desk, DeskError, MOST_BYTES, Name, ReadError, read_all};
 use gl_igc::{IgcError, read_igc};
 use std::alloc::{AllocError, Global};
-
-/// The most bytes of a file that is read.
-pub const MOST_BYTES: u64 = 16_777_216;
 
 /// What the recordings of a folder say.
 #[derive(Debug, Drop)]

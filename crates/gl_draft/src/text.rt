@@ -1,6 +1,6 @@
 ghost use Rattle.std.specs.Prelude.{◌≡◌, ◌≢◌, true, IfOk, IfErr, OnOk};
-ghost use Rattle.gl_task.specs.Reading.{IsReadFrom, IsRefusalOf};
-ghost use Rattle.gl_task.specs.declared.error.TaskError.TheVariants.{Memory};
+ghost use Rattle.gl_task_file.specs.Reading.{IsReadFrom, IsRefusalOf};
+ghost use Rattle.gl_task_file.specs.declared.error.TaskError.TheVariants.{Memory};
 ghost use Rattle.gl_draft.specs.Causes.{IsNoFault};
 ghost use Rattle.gl_draft.specs.Draft.{HasDraft, IsDraftText, IsNoTask};
 ghost use Rattle.gl_draft.specs.Line.{filled_text, is_open};
@@ -11,7 +11,8 @@ use crate::draft::Draft;
 use crate::line::{Line, any_open, filled_text, marked_text};
 use crate::refusal::Cause;
 use crate::way::{say_day, say_entrant, say_finish, say_start, say_zone};
-use gl_task::{Task, TaskError, read_task};
+use gl_task::Task;
+use gl_task_file::{TaskError, read_task};
 use std::alloc::{AllocError, Global};
 
 /// The lines of a draft, behind some that are there.

@@ -5,17 +5,17 @@ use Rattle.gl_airspace.specs.Airspace.{IsAirspace}
 use Rattle.gl_airspace.specs.declared.error.AirError.{AirError}
 use Rattle.gl_airspace.specs.declared.volume.Airspace.{Airspace}
 use Rattle.gl_desk.specs.Desk.{FilesByName, IsSeenIn}
-use Rattle.gl_day.specs.Laws.Airspaces.{airspace_same, no_volumes_same}
+use Rattle.gl_airspace.proofs.SameAirspace.{airspace_same, no_volumes_same}
 use Rattle.gl_proof.proofs.Unique.{text_refused, text_unique}
 use Rattle.gl_proof.specs.Claim.{Statement}
 use Rattle.gl_proof.specs.Text.{IsTextOf, statements_of}
 use Rattle.gl_proof.specs.declared.version.Version.{Version}
 use Rattle.gl_lines.specs.declared.error.ProofError.{ProofError}
 use Rattle.gl_proof.specs.declared.proof.Proof.{Proof}
-use Rattle.gl_task.specs.Reading.{IsReadFrom}
-use Rattle.gl_task.specs.declared.error.TaskError.{TaskError}
+use Rattle.gl_task_file.specs.Reading.{IsReadFrom}
+use Rattle.gl_task_file.specs.declared.error.TaskError.{TaskError}
 use Rattle.gl_task.specs.declared.task.Task.{Task}
-use Rattle.gl_day.specs.Flight.{most_bytes}
+use Rattle.gl_desk.specs.Limits.{most_bytes}
 use Rattle.gl_words.specs.Words.{DayNames}
 use Rattle.gl_files.specs.declared.day_files.DayFiles.{DayFiles}
 use Rattle.gl_files.specs.declared.refusal.Cause.{Cause}

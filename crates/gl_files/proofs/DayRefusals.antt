@@ -10,7 +10,7 @@ use Rattle.gl_desk.specs.Desk.{FilesByName}
 use Rattle.gl_proof.specs.declared.proof.Proof.{Proof}
 use Rattle.gl_task.specs.Forms as forms
 use Rattle.gl_task.specs.declared.task.Task.{Task}
-use Rattle.gl_day.specs.Flight.{most_bytes}
+use Rattle.gl_desk.specs.Limits.{most_bytes}
 use Rattle.gl_words.specs.Words.{DayNames}
 use Rattle.gl_words.proofs.Unbroken.{is_inside, is_unbroken, AreUnbroken}
 use Rattle.gl_files.specs.declared.day_files.DayFiles.{DayFiles}

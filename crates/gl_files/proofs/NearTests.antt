@@ -8,7 +8,7 @@ use Rattle.gl_lines.specs.declared.error.ProofError.{ProofError}
 use Rattle.gl_lines.specs.declared.error.ProofError.TheVariants as proof
 use Rattle.gl_near.specs.Line.{near_grammar}
 use Rattle.gl_near.specs.declared.claim.NearClaim.{NearClaim}
-use Rattle.gl_day.specs.Flight.{most_bytes}
+use Rattle.gl_desk.specs.Limits.{most_bytes}
 use Rattle.gl_words.specs.Words.{NearWords}
 use Rattle.gl_files.specs.declared.halt.Halt.{Halt}
 use Rattle.gl_files.specs.declared.halt.Halt.TheVariants.{Refused, Stopped}

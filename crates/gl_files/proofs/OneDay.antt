@@ -7,14 +7,14 @@ use Rattle.gl_airspace.specs.Volumes as volumes
 use Rattle.gl_airspace.specs.declared.error.AirError.{AirError}
 use Rattle.gl_airspace.specs.declared.error.AirError.TheVariants as air
 use Rattle.gl_airspace.specs.declared.volume.Airspace.{Airspace}
-use Rattle.gl_day.specs.Flight.{most_bytes}
-use Rattle.gl_day.specs.Laws.Airspaces.{airspace_same, no_volumes_same}
+use Rattle.gl_desk.specs.Limits.{most_bytes}
+use Rattle.gl_airspace.proofs.SameAirspace.{airspace_same, no_volumes_same}
 use Rattle.gl_desk.specs.Desk.{FilesByName}
-use Rattle.gl_task.specs.Keys.{first_failed}
-use Rattle.gl_task.specs.Reading.{FailsFirst, IsDocument, IsRefusalOf}
-use Rattle.gl_task.specs.Tests.{tests}
-use Rattle.gl_task.specs.declared.error.TaskError.{TaskError}
-use Rattle.gl_task.specs.declared.error.TaskError.TheVariants as task
+use Rattle.gl_task_file.specs.Keys.{first_failed}
+use Rattle.gl_task_file.specs.Reading.{FailsFirst, IsDocument, IsRefusalOf}
+use Rattle.gl_task_file.specs.Tests.{tests}
+use Rattle.gl_task_file.specs.declared.error.TaskError.{TaskError}
+use Rattle.gl_task_file.specs.declared.error.TaskError.TheVariants as task
 use Rattle.gl_task.specs.declared.task.Task.{Task}
 use Rattle.gl_words.specs.Words.{DayNames}
 use Rattle.gl_files.specs.declared.day_files.DayFiles.{DayFiles}

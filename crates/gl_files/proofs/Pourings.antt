@@ -6,7 +6,7 @@ use Rattle.gl_desk.specs.declared.error.ReadError.TheVariants as reading
 use Rattle.gl_igc.specs.Recording.{reading_of}
 use Rattle.gl_igc.specs.declared.error.IgcError.{IgcError}
 use Rattle.gl_igc.specs.declared.recording.Recording.{Recording}
-use Rattle.gl_day.specs.Flight.{most_bytes}
+use Rattle.gl_desk.specs.Limits.{most_bytes}
 use Rattle.gl_files.specs.declared.halt.Halt.{Halt}
 use Rattle.gl_files.specs.declared.halt.Halt.TheVariants.{Refused, Stopped}
 use Rattle.gl_files.specs.FileTests.{HasReadFile, IsRecordingOf, RecordingText, recording_cause}

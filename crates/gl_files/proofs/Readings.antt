@@ -7,12 +7,12 @@ use Rattle.gl_airspace.specs.Volumes.{Refusal, readings_of, refusal_of}
 use Rattle.gl_airspace.specs.declared.error.AirError.{AirError}
 use Rattle.gl_airspace.specs.declared.error.AirError.TheVariants as air
 use Rattle.gl_airspace.specs.declared.volume.Airspace.{Airspace}
-use Rattle.gl_task.specs.Keys.{Test, first_failed, said}
-use Rattle.gl_task.specs.Values.{file_name}
-use Rattle.gl_task.specs.Reading.{FailsFirst, IsDocument, IsReadFrom, IsRefusalOf}
-use Rattle.gl_task.specs.Tests.{tests}
-use Rattle.gl_task.specs.declared.error.TaskError.{TaskError}
-use Rattle.gl_task.specs.declared.error.TaskError.TheVariants as task
+use Rattle.gl_task_file.specs.Keys.{Test, first_failed, said}
+use Rattle.gl_task_file.specs.Values.{file_name}
+use Rattle.gl_task_file.specs.Reading.{FailsFirst, IsDocument, IsReadFrom, IsRefusalOf}
+use Rattle.gl_task_file.specs.Tests.{tests}
+use Rattle.gl_task_file.specs.declared.error.TaskError.{TaskError}
+use Rattle.gl_task_file.specs.declared.error.TaskError.TheVariants as task
 use Rattle.gl_task.specs.declared.task.Task.{Task}
 
 -- a text has one table

@@ -7,7 +7,7 @@ use Rattle.gl_plain.specs.Schedule.{IsRefused}
 use Rattle.gl_plain.specs.declared.error.StepError.{StepError}
 use Rattle.gl_plain.specs.declared.error.StepError.TheVariants as step
 use Rattle.gl_plain.specs.declared.schedule.Step.{Step}
-use Rattle.gl_day.specs.Flight.{most_bytes}
+use Rattle.gl_desk.specs.Limits.{most_bytes}
 use Rattle.gl_words.specs.Words.{ReplayWords}
 use Rattle.gl_files.specs.declared.halt.Halt.{Halt}
 use Rattle.gl_files.specs.declared.halt.Halt.TheVariants.{Refused, Stopped}

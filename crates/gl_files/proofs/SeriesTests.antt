@@ -5,7 +5,7 @@ use Rattle.std.specs.List.{AllByRecursion, AllZip, flat_map}
 use Rattle.std.specs.declared.alloc.Global.{Global}
 use Rattle.std.proofs.lemmas.List.{take-append-drop, take_all, take_more}
 use Rattle.gl_desk.specs.Desk.{FilesByName, IsSeenIn, ListsNames}
-use Rattle.gl_day.specs.Flight.{most_bytes}
+use Rattle.gl_desk.specs.Limits.{most_bytes}
 use Rattle.gl_series.proofs.Lines.{list_told}
 use Rattle.gl_series.specs.SeriesList.{IsList, IsRefused, IsSeries}
 use Rattle.gl_series.specs.SheetText.{IsRefusedSheet, IsSheetOf}

@@ -24,12 +24,12 @@ use Rattle.gl_task.specs.declared.task.PilotStart.{PilotStart}
 use Rattle.gl_task.specs.declared.task.Start.{Start}
 use Rattle.gl_task.specs.declared.task.Task.{Task}
 use Rattle.gl_task.specs.Forms.{is_file_name, is_number, is_name}
-use Rattle.gl_task.specs.Keys.{table_at, table_of}
+use Rattle.gl_task_file.specs.Keys.{table_at, table_of}
 use Rattle.gl_task.specs.Limits.{first_day, greatest_altitude, greatest_handicap, greatest_noise, last_day, last_second, longest_wait, most_entrants, most_points, most_zones, widest_window}
-use Rattle.gl_task.specs.Meaning.{Each, IsEntrant, IsFinishOf, IsKind, IsLine, IsPart, IsPilotStart, IsRulesOf, IsSector, IsStart, IsTask, IsZone}
+use Rattle.gl_task_file.specs.Meaning.{Each, IsEntrant, IsFinishOf, IsKind, IsLine, IsPart, IsPilotStart, IsRulesOf, IsSector, IsStart, IsTask, IsZone}
 use Rattle.gl_task.specs.Numbers.{all_differ}
 use Rattle.gl_task.specs.Ranges.{has_minimum, has_width_and_way, is_in_range, is_round_its_centre}
-use Rattle.gl_task.specs.Reading.{IsReadFrom}
+use Rattle.gl_task_file.specs.Reading.{IsReadFrom}
 use Rattle.gl_files.proofs.Readings.{document_same}
 
 -- what a key says is one thing

@@ -4,7 +4,7 @@ use Rattle.gl_desk.specs.Desk.{FilesByName, IsSeenIn}
 use Rattle.gl_igc.specs.declared.recording.Recording.{Recording}
 use Rattle.gl_proof.specs.declared.proof.Proof.{Proof}
 use Rattle.gl_proof.specs.Text.{IsTextOf, statements_of}
-use Rattle.gl_day.specs.Flight.{most_bytes}
+use Rattle.gl_desk.specs.Limits.{most_bytes}
 use Rattle.gl_words.specs.Words.{BadgeWords}
 use Rattle.gl_files.specs.FileTests.{FileTest, Listed, ProofText, RecordingText, Unlisted, most_proof_bytes, text_tests}
 use Rattle.gl_files.specs.FlightFile.{IsFlightRead}

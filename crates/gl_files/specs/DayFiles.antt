@@ -11,11 +11,11 @@ use Rattle.gl_proof.specs.Refusal.{IsRefused}
 use Rattle.gl_proof.specs.Text.{IsTextOf, statements_of}
 use Rattle.gl_lines.specs.declared.error.ProofError.{ProofError}
 use Rattle.gl_proof.specs.declared.proof.Proof.{Proof}
-use Rattle.gl_task.specs.Reading.{IsReadFrom, IsRefusalOf}
-use Rattle.gl_task.specs.declared.error.TaskError.{TaskError}
-use Rattle.gl_task.specs.declared.error.TaskError.TheVariants as task
+use Rattle.gl_task_file.specs.Reading.{IsReadFrom, IsRefusalOf}
+use Rattle.gl_task_file.specs.declared.error.TaskError.{TaskError}
+use Rattle.gl_task_file.specs.declared.error.TaskError.TheVariants as task
 use Rattle.gl_task.specs.declared.task.Task.{Task}
-use Rattle.gl_day.specs.Flight.{most_bytes}
+use Rattle.gl_desk.specs.Limits.{most_bytes}
 use Rattle.gl_words.specs.Words.{DayNames}
 use Rattle.gl_files.specs.declared.day_files.DayFiles.{DayFiles}
 use Rattle.gl_files.specs.declared.refusal.Cause.{Cause}

@@ -1,7 +1,7 @@
 -- The file of a command that is given one recording: its tests in their order, and what they give.
 use Rattle.std.specs.Prelude.{ℕ, List, ◌∷◌, Option, None, IsSomeAnd}
 use Rattle.gl_igc.specs.declared.recording.Recording.{Recording}
-use Rattle.gl_day.specs.Flight.{most_bytes}
+use Rattle.gl_desk.specs.Limits.{most_bytes}
 use Rattle.gl_files.specs.FileTests.{FileTest, IsRecordingOf, Listed, RecordingText, text_tests}
 
 -- the file is listed; it isn't too large; it is a recording

@@ -7,7 +7,7 @@ use Rattle.gl_igc.specs.declared.recording.Recording.{Recording}
 use Rattle.gl_near.specs.Certificate.{box_of}
 use Rattle.gl_near.specs.Line.{IsTextOf}
 use Rattle.gl_near.specs.declared.claim.NearClaim.{NearClaim}
-use Rattle.gl_day.specs.Flight.{most_bytes}
+use Rattle.gl_desk.specs.Limits.{most_bytes}
 use Rattle.gl_words.specs.Words.{NearWords}
 use Rattle.gl_files.specs.FileTests.{FileTest, IsRecordingOf, Listed, NearProofText, RecordingText, Unlisted, most_proof_bytes, text_tests}
 

@@ -3,7 +3,7 @@ use Rattle.std.specs.Prelude.{◌≡◌, ℕ, ◌≤◌, ◌⊎◌, List, [], �
 use Rattle.std.specs.List.{AllZip, flat_map}
 use Rattle.std.specs.declared.alloc.Global.{Global}
 use Rattle.gl_desk.specs.Desk.{FilesByName, IsSeenIn}
-use Rattle.gl_day.specs.Flight.{most_bytes}
+use Rattle.gl_desk.specs.Limits.{most_bytes}
 use Rattle.gl_series.specs.SeriesList.{IsList}
 use Rattle.gl_series.specs.SheetText.{IsSheetOf}
 use Rattle.gl_series.specs.declared.day.DaySheet.{DaySheet}

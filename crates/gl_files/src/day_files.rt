@@ -8,10 +8,10 @@ ghost use Rattle.gl_files.specs.Halts.{AreBytes, IsNoFault, IsTested, halt_stop}
 use crate::halt::{Halt, refusing, refusing_for, unread};
 use crate::refusal::Cause;
 use gl_airspace::{AirError, Airspace, empty, read_openair};
-use gl_day::MOST_BYTES;
-use gl_desk::{Desk, Name, read_all};
+use gl_desk::{Desk, MOST_BYTES, Name, read_all};
 use gl_proof::{Proof, ProofError, read_proof};
-use gl_task::{Task, TaskError, read_task};
+use gl_task::Task;
+use gl_task_file::{TaskError, read_task};
 use gl_words::DayNames;
 use std::alloc::Global;
 

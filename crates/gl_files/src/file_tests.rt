@@ -1,7 +1,7 @@
 ghost use Rattle.std.specs.Prelude.{◌≡◌};
 ghost use Rattle.gl_desk.specs.Answers.{OnlyReads};
 ghost use Rattle.gl_desk.specs.Desk.{HasFile};
-ghost use Rattle.gl_day.specs.Flight.{most_bytes};
+ghost use Rattle.gl_desk.specs.Limits.{most_bytes};
 ghost use Rattle.gl_files.specs.FileTests.{HasReadFile, IsNeeded, IsRecordingOf, IsUnused, RecordingText, recording_cause};
 ghost use Rattle.gl_files.specs.Halts.{IsNoFault, halt_stop};
 

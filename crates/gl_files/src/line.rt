@@ -4,7 +4,7 @@ ghost use Rattle.gl_files.specs.Lines.{parts_seen, place_seen};
 
 use crate::refusal::Cause;
 use gl_desk::Name;
-use gl_task::Key;
+use gl_task_file::Key;
 use gl_text::push_u64;
 use std::alloc::{AllocError, Global};
 

@@ -1,7 +1,7 @@
 ghost use Rattle.gl_desk.specs.Answers.{OnlyReads};
 ghost use Rattle.gl_desk.specs.Desk.{HasFile, ListsNames};
 ghost use Rattle.std.specs.Prelude.{◌≡◌, Some};
-ghost use Rattle.gl_day.specs.Flight.{most_bytes};
+ghost use Rattle.gl_desk.specs.Limits.{most_bytes};
 ghost use Rattle.gl_words.specs.NearWords.{near_seen};
 ghost use Rattle.gl_files.specs.FileTests.{HasRead, HasReadFile, HasTested, IsRecordingOf, NearProofText, RecordingText, most_proof_bytes, near_proof_cause};
 ghost use Rattle.gl_files.specs.Halts.{IsNoFault, halt_stop};

@@ -1,12 +1,11 @@
 ghost use Rattle.std.specs.Prelude.{◌≡◌, ◌≤◌, Err, IfOk, length};
-ghost use Rattle.gl_day.specs.Flight.{most_bytes};
+ghost use Rattle.gl_desk.specs.Limits.{most_bytes};
 ghost use Rattle.gl_desk.specs.Answers.{OnlyReads, reading_stop};
 ghost use Rattle.gl_desk.specs.Desk.{HasFile, IsLongerThan, IsSeenIn};
 ghost use Rattle.gl_igc.specs.Pieces.{StandsForText, task_day_of};
 ghost use Rattle.gl_files.specs.Pouring.{IsFileRead, day_tag};
 
-use gl_day::MOST_BYTES;
-use gl_desk::{Desk, Name, ReadError, Taker, pour};
+use gl_desk::{Desk, MOST_BYTES, Name, ReadError, Taker, pour};
 use gl_igc::{IgcError, IgcReader, Recording};
 use std::alloc::{AllocError, Global};
 

@@ -1,5 +1,5 @@
 use gl_desk::Name;
-use gl_task::Key;
+use gl_task_file::Key;
 
 /// Why a file is refused.
 #[derive(Clone, Copy, Debug)]

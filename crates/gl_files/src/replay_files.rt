@@ -1,7 +1,7 @@
 ghost use Rattle.std.specs.Prelude.{◌≡◌, ◌≤◌, IfOk, length};
 ghost use Rattle.gl_desk.specs.Answers.{OnlyReads};
 ghost use Rattle.gl_desk.specs.Desk.{HasFile, ListsNames};
-ghost use Rattle.gl_day.specs.Flight.{most_bytes};
+ghost use Rattle.gl_desk.specs.Limits.{most_bytes};
 ghost use Rattle.gl_words.specs.ReplayWords.{replay_seen};
 ghost use Rattle.gl_files.specs.FileTests.{HasRead, HasReadFile, HasTested, ScheduleText, schedule_cause};
 ghost use Rattle.gl_files.specs.Halts.{IsNoFault, halt_stop};
@@ -11,8 +11,7 @@ use crate::day_files::read_bytes;
 use crate::file_tests::{need, read_recording};
 use crate::halt::{Halt, refusing_for};
 use crate::refusal::Cause;
-use gl_day::MOST_BYTES;
-use gl_desk::{Desk, Name};
+use gl_desk::{Desk, MOST_BYTES, Name};
 use gl_igc::Recording;
 use gl_plain::{Step, StepError, read_steps};
 use gl_words::ReplayWords;

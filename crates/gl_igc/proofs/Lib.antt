@@ -5,7 +5,10 @@ pub mod GroupLemmas
 pub mod LawLemmas
 pub mod PieceLemmas
 pub mod ProgressLemmas
+pub mod Ranges
 pub mod ReaderLemmas
+pub mod Readings
 pub mod SecondsLemmas
 pub mod ShiftLemmas
 pub mod TrackLemmas
+pub mod Used

@@ -10,6 +10,7 @@ pub mod Finishing
 pub mod Fronts
 pub mod Lines
 pub mod Numbers
+pub mod OneList
 pub mod OneOutcome
 pub mod Order
 pub mod Ranges

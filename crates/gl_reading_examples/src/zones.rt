@@ -2,14 +2,11 @@
 // written from the formulas alone.
 ghost use Rattle.std.specs.Prelude.{◌≡◌, ◌<◌, ◌≤◌};
 ghost use Rattle.gl_sphere.specs.Range.{IsWithin};
-ghost use Rattle.gl_zone.specs.Limits.{greatest_length, least_length, most_parts, whole_turn};
+ghost use Rattle.gl_zone.specs.Limits.{greatest_length, most_parts, whole_turn};
 
 use gl_igc::{Fix, Items};
 use gl_sphere::{Grid, east, north, vector};
-use gl_zone::{
-    Cylinder, GREATEST_LENGTH, LEAST_LENGTH, Line, MOST_PARTS, Part, Sector, WHOLE_TURN, Zone,
-    crossing, holds, side,
-};
+use gl_zone::{Cylinder, Line, MOST_PARTS, Part, Sector, WHOLE_TURN, Zone, crossing, holds, side};
 use std::test::Fail;
 
 /// The origin of the places: latitude 0 and longitude 0.
@@ -50,8 +47,6 @@ fn fix_at(second: i32, grid: Grid) -> Fix
 
 /// The constants are the numbers of the definitions.
 fn constants()
-    ensures greatest_length { GREATEST_LENGTH ≡ greatest_length }
-    ensures least_length { LEAST_LENGTH ≡ least_length }
     ensures most_parts { MOST_PARTS ≡ most_parts }
     ensures whole_turn { WHOLE_TURN ≡ whole_turn }
 {}

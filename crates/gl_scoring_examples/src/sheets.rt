@@ -1,7 +1,8 @@
 // The expected text was written by a program in another language with that language's own CSV
 // writer, and by hand.
 use gl_sheet::{Listed, Outcome, Row, sheet};
-use gl_task::{Task, TaskError, read_task};
+use gl_task::Task;
+use gl_task_file::{TaskError, read_task};
 use std::alloc::Global;
 use std::test::Fail;
 

@@ -4,4 +4,5 @@ pub mod Estimates
 pub mod LongDivision
 pub mod Negated
 pub mod Roots
+pub mod SamePlaces
 pub mod Vectors

@@ -29,7 +29,8 @@ use Rattle.gl_day.specs.declared.flight.Seen.{Seen}
 use Rattle.gl_day.specs.declared.flight.Seen.TheVariants.{Recorded, Refused}
 use Rattle.gl_day.specs.Day.{IsSheetOf}
 use Rattle.gl_day.specs.Expected.{Proves, expected_of}
-use Rattle.gl_day.specs.Flight.{IsFlight, IsReadFlight, IsRefusedFlight, IsSeen, StewardRules, most_bytes}
+use Rattle.gl_day.specs.Flight.{IsFlight, IsReadFlight, IsRefusedFlight, IsSeen, StewardRules}
+use Rattle.gl_desk.specs.Limits.{most_bytes}
 use Rattle.gl_day.specs.Laws.Written.{expected_statements}
 use Rattle.gl_day.specs.Laws.Texts.{claim_texts-append, proof_text-parts}
 use Rattle.gl_day.proofs.Walked.{zip-length, zip-push}

@@ -10,7 +10,7 @@ use Rattle.gl_task.specs.declared.day_type.Kind.{Kind}
 use Rattle.gl_task.specs.declared.day_type.Kind.TheVariants.{Racing, Area}
 use Rattle.gl_task.specs.declared.day_type.Finish.{Finish}
 use Rattle.gl_task.specs.declared.day_type.Finish.TheVariants.{Ring, Gate}
-use Rattle.gl_task.specs.Places.{is_same_vector}
+use Rattle.gl_task.specs.SamePoint.{is_same_vector}
 
 -- the minimum of an area task is 1 to 100,000 s
 abbrev pub has_minimum : Kind → Bool

@@ -1,5 +1,5 @@
 use anyhow::Result;
-use gl_task::{TaskError, read_task};
+use gl_task_file::{TaskError, read_task};
 use std::alloc::{AllocError, Global};
 use std::fs;
 

@@ -2,7 +2,8 @@ use crate::change::changed;
 use anyhow::{Context, Result};
 use gl_airspace::empty;
 use gl_sphere::{Grid, vector};
-use gl_task::{Task, read_task};
+use gl_task::Task;
+use gl_task_file::read_task;
 use gl_zone::{Zone, holds};
 use std::fs;
 

@@ -15,6 +15,4 @@ pub use containment::holds;
 pub use crossings::crossing;
 pub use line::Line;
 pub use sides::side;
-pub use zone::{
-    Cylinder, GREATEST_LENGTH, LEAST_LENGTH, MOST_PARTS, Part, Sector, WHOLE_TURN, Zone,
-};
+pub use zone::{Cylinder, MOST_PARTS, Part, Sector, WHOLE_TURN, Zone};

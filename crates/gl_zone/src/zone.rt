@@ -4,12 +4,6 @@ ghost use Rattle.gl_zone.specs.Limits.{greatest_length, least_length, most_parts
 use gl_igc::Items;
 use gl_sphere::Vec3;
 
-/// The greatest radius, half width and distance of a zone or a line, in centimetres: 500,000 m.
-pub const GREATEST_LENGTH: u64 = 50_000_000;
-
-/// The least radius of a cylinder and the least outer distance of a sector, in centimetres: 1 m.
-pub const LEAST_LENGTH: u64 = 100;
-
 /// The most parts that a zone has.
 pub const MOST_PARTS: usize = 4;
 

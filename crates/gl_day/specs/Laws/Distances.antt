@@ -21,7 +21,7 @@ use Rattle.gl_task.specs.declared.day_type.Kind.TheVariants.{Racing, Area}
 use Rattle.gl_task.specs.declared.task.Task.{Task}
 use Rattle.gl_day.specs.Expected.{Proves, expected_of}
 use Rattle.gl_judge.specs.Claimed.{rules_of_claims}
-use Rattle.gl_day.specs.Laws.Expected.{range_alone, some_judged}
+use Rattle.gl_judge.proofs.OneList.{range_alone, some_judged}
 use Rattle.gl_day.specs.Totals.{claimed_total, is_distance}
 
 optimum_some : (rule : Rule) (total : Option ℕ) (tuple : List ℕ) → IsOptimum rule total → IsLegal rule tuple → IsSome total

@@ -16,9 +16,10 @@ use Rattle.gl_task.specs.declared.task.Task.{Task}
 use Rattle.gl_day.specs.declared.flight.Flight.{Flight}
 use Rattle.gl_day.specs.Asked.{AreAskedOf, AreAskedOfReading, Expected}
 use Rattle.gl_day.specs.Expected.{Proves, expected_of}
-use Rattle.gl_day.specs.Flight.{IsFlight, IsReadFlight, IsRefusedFlight, StewardRules, most_bytes}
+use Rattle.gl_day.specs.Flight.{IsFlight, IsReadFlight, IsRefusedFlight, StewardRules}
+use Rattle.gl_desk.specs.Limits.{most_bytes}
 use Rattle.gl_day.specs.Laws.Flights.{flight_of, goals_expected, some_statements, some_unjudged}
-use Rattle.gl_day.specs.Laws.Readings.{IsAnswered, answered}
+use Rattle.gl_igc.proofs.Readings.{IsAnswered, answered}
 
 -- the claims are claims of goals
 abbrev pub AreGoals : List Expected → Type 0

@@ -7,6 +7,7 @@ use Rattle.gl_sphere.specs.declared.place.Grid.{Grid}
 use Rattle.gl_sphere.specs.declared.place.Vec3.{Vec3}
 use Rattle.gl_sphere.specs.Place.{written_vector}
 use Rattle.gl_sphere.specs.PlaceText.{place_of}
+use Rattle.gl_sphere.proofs.SamePlaces.{Grid-same, each_back, place_same}
 use Rattle.gl_airspace.specs.declared.volume.Airspace.{Airspace}
 use Rattle.gl_goal.specs.Rule.{Rule}
 use Rattle.gl_igc.specs.declared.fix.Fix.{Fix}
@@ -17,25 +18,7 @@ use Rattle.gl_igc.specs.Recording.{declared_of, reading_of, sighting_of}
 use Rattle.gl_igc.specs.Seconds.{is_rising}
 use Rattle.gl_judge.specs.Claims.{AreExpected}
 use Rattle.gl_proof.specs.declared.claim.ClaimKind.{ClaimKind}
-use Rattle.gl_task.proofs.PlaceLemmas.{Grid-same}
 use Rattle.gl_task.specs.declared.task.Task.{Task}
-
--- lists are the same where a function that tells their items apart makes the same of them
-pub each_back : {A B : Type 0} (f : A → B) → ((x y : A) → f x ≡ f y → x ≡ y) → (xs ys : List A) → map f xs ≡ map f ys → xs ≡ ys
-each_back f once [] [] same = refl
-each_back f once [] (y ∷ ys) same = absurd (cc)
-each_back f once (x ∷ xs) [] same = absurd (cc)
-each_back f once (x ∷ xs) (y ∷ ys) same =
-    let first : f x ≡ f y = cc in
-    let rest : map f xs ≡ map f ys = cc in
-    let one = once x y first in
-    let others = each_back f once xs ys rest in
-    λ i. one i ∷ others i
-
--- a place is known by its latitude and its longitude
-pub place_same : (v w : Grid) → place_of v ≡ place_of w → v ≡ w
-place_same v w same =
-    Grid-same v w (ap (λ (p : ℤ × ℤ). p.0) same) (ap (λ (p : ℤ × ℤ). p.1) same)
 
 vectors_once : (v w : Vec3) → IsProp (v ≡ w)
 vectors_once v w = hlevel props

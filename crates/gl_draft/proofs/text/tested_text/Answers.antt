@@ -2,7 +2,7 @@ use Rattle.std.specs.List.{list_any}
 use Rattle.gl_draft.specs.Draft.{IsNoTask}
 use Rattle.gl_draft.specs.Line.{is_open, marked_text}
 use Rattle.std.proofs.Common.{rules, true, ◌≡◌, ◌∙◌, sym, subst, ℕ, List}
-use Rattle.gl_task.specs.Reading.{IsReadFrom}
+use Rattle.gl_task_file.specs.Reading.{IsReadFrom}
 use Rattle.gl_draft.proofs.LineLemmas.{marked-is-filled}
 use Rattle.gl_draft.proofs.text.tested_text.Goals as goal
 

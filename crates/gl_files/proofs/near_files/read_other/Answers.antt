@@ -1,6 +1,6 @@
 use Rattle.std.proofs.Common.{ℤ, Some, rules, subst, w32}
 use Rattle.std.proofs.lemmas.Int.{to_z-of_z}
-use Rattle.gl_day.specs.Flight.{most_bytes}
+use Rattle.gl_desk.specs.Limits.{most_bytes}
 use Rattle.gl_files.specs.FileTests.{HasReadFile, IsRecordingOf, RecordingText}
 use Rattle.gl_files.proofs.near_files.read_other.Goals as goal
 

@@ -2,7 +2,7 @@ use Rattle.std.proofs.Common.{subst, Option, Some, Ok, Err}
 use Rattle.std.proofs.lemmas.Result.{err_from_is_err_and}
 use Rattle.gl_desk.specs.Desk.{FilesByName}
 use Rattle.gl_igc.specs.declared.recording.Recording.{Recording}
-use Rattle.gl_day.specs.Flight.{most_bytes}
+use Rattle.gl_desk.specs.Limits.{most_bytes}
 use Rattle.gl_words.specs.NearWords.{near_seen}
 use Rattle.gl_files.specs.FileTests.{HasReadFile, IsRecordingOf, RecordingText}
 use Rattle.gl_files.proofs.NearTests.{both_flights, first_refused, other_refused}

@@ -1,0 +1,28 @@
+//! The task file that the organiser writes: read into a task whose numbers, places and names are in
+//! their ranges, or refused by the first key that is wrong.
+#![tactic(auto)]
+
+mod course;
+mod day;
+mod entrants;
+mod error;
+mod finish;
+mod form;
+mod head;
+mod item;
+mod key;
+mod limit;
+mod lists;
+mod opening;
+mod part;
+mod reader;
+mod rules;
+mod sections;
+mod start;
+mod twice;
+mod value;
+mod word;
+mod zones;
+
+pub use error::{Key, TaskError};
+pub use reader::read_task;
