@@ -24,9 +24,9 @@ use Rattle.gl_tally.specs.DayChecked.{IsDayChecked}
 use Rattle.gl_tally.specs.Scored.{statements_of_all}
 use Rattle.gl_tally.proofs.Flights.{all_asked}
 use Rattle.gl_tally.proofs.DayAccepted.{moved, all_moved, day_accepted}
-use Rattle.gl_app.specs.declared.status.Status.{Status}
-use Rattle.gl_app.specs.declared.status.Status.TheVariants as status
-use Rattle.gl_app.specs.Answer.{Answer, refused}
+use Rattle.gl_answer.specs.declared.status.Status.{Status}
+use Rattle.gl_answer.specs.declared.status.Status.TheVariants as status
+use Rattle.gl_answer.specs.Answer.{Answer, refused}
 use Rattle.gl_app.specs.Check.{IsCheck, IsProofChecked, IsScoredFolder, checked_answer}
 use Rattle.gl_app.specs.Score.{IsDayScored, IsScore}
 

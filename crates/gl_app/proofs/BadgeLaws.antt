@@ -15,17 +15,17 @@ use Rattle.gl_files.specs.declared.refusal.Refusal.{Refusal}
 use Rattle.gl_files.specs.BadgeFiles.{BadgeSeen, IsBadgeRead, IsBadgeSeen, badge_check_tests, badge_tests}
 use Rattle.gl_files.specs.FileTests.{AllPass, FirstFails, most_proof_bytes}
 use Rattle.gl_files.proofs.FileTests.{AreNamed, none_fails}
-use Rattle.gl_app.specs.declared.status.Status.{Status}
-use Rattle.gl_app.specs.declared.status.Status.TheVariants as status
-use Rattle.gl_app.specs.Answer.{Answer, refused}
+use Rattle.gl_answer.specs.declared.status.Status.{Status}
+use Rattle.gl_answer.specs.declared.status.Status.TheVariants as status
+use Rattle.gl_answer.specs.Answer.{Answer, refused}
 use Rattle.gl_app.specs.Badge.{IsBadge, IsBadgeBegun, IsBadgeCheck, IsBadgeFolder, IsBadgeJudged, IsBadgeSaid, IsBadgeTold, badge_check_promise, badge_promise}
 use Rattle.gl_app.specs.Check.{checked_answer}
-use Rattle.gl_app.specs.Texts.{IsLine}
+use Rattle.gl_answer.specs.Texts.{IsLine}
 use Rattle.gl_app.proofs.CheckLaws.{checked_result}
 use Rattle.gl_app.proofs.DayLines.{checked_line}
-use Rattle.gl_app.proofs.ByTests.{by_tests_line, by_tests_passes, by_tests_result}
-use Rattle.gl_app.proofs.NearLaws.{one_recording, still}
-use Rattle.gl_app.proofs.Promises.{IsLawful, IsPart, done_no_refusal, some_result}
+use Rattle.gl_answer.proofs.ByTests.{by_tests_line, by_tests_passes, by_tests_result}
+use Rattle.gl_flights.proofs.NearLaws.{one_recording, still}
+use Rattle.gl_answer.proofs.Promises.{IsLawful, IsPart, done_no_refusal, some_result}
 
 badge_named : (words : BadgeWords) → HasUnbrokenBadge words → (seen : BadgeSeen) → AreNamed (badge_tests words seen)
 badge_named words named seen = (named.flight, (named.proof, (named.flight, (named.flight, tt))))

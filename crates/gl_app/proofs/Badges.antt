@@ -23,15 +23,15 @@ use Rattle.gl_files.specs.BadgeFiles.{AreBadgeCheckRead, IsBadgeRead, IsBadgeSee
 use Rattle.gl_files.specs.FileTests.{HasTested}
 use Rattle.gl_files.specs.Halts.{halt_stop}
 use Rattle.gl_files.proofs.ReadsTwice.{reads_twice}
-use Rattle.gl_tally.specs.Appending.{HasAppended, HasAppendedPart, HasGiven}
-use Rattle.gl_tally.proofs.Appended.{HasAppended-none, HasAppended-reads, HasAppended-then, HasAppendedPart-longer, HasAppendedPart-then}
-use Rattle.gl_tally.proofs.Flights.{part_after}
-use Rattle.gl_app.specs.declared.answer.Answer as code
-use Rattle.gl_app.specs.declared.status.Status.TheVariants.{Done}
-use Rattle.gl_app.specs.Answer.{Answer, answer_of, AnswersHalt}
+use Rattle.gl_answer.specs.Appending.{HasAppended, HasAppendedPart, HasGiven}
+use Rattle.gl_answer.proofs.Appended.{HasAppended-none, HasAppended-reads, HasAppended-then, HasAppendedPart-longer, HasAppendedPart-then}
+use Rattle.gl_answer.proofs.Appended.{part_after}
+use Rattle.gl_answer.specs.declared.answer.Answer as code
+use Rattle.gl_answer.specs.declared.status.Status.TheVariants.{Done}
+use Rattle.gl_answer.specs.Answer.{Answer, answer_of, AnswersHalt}
 use Rattle.gl_app.specs.Badge.{IsBadge, IsBadgeCheck, badge_check_promise, badge_promise}
 use Rattle.gl_app.specs.Check.{checked_answer}
-use Rattle.gl_app.specs.Run.{HasAnswered, IsStopped}
+use Rattle.gl_answer.specs.Given.{HasAnswered, IsStopped}
 
 -- the texts of claims
 abbrev pub claims_text : List Claim → List ℕ

@@ -8,12 +8,12 @@ use Rattle.gl_words.proofs.Unbroken.{AreUnbroken}
 use Rattle.gl_files.specs.declared.refusal.Refusal.{Refusal}
 use Rattle.gl_files.specs.FileTests.{most_proof_bytes}
 use Rattle.gl_files.proofs.DayPasses.{check_not_refused, ok_or_err}
-use Rattle.gl_app.specs.declared.status.Status.TheVariants.{Done, Refused, NotProved}
-use Rattle.gl_app.specs.Answer.{Answer}
+use Rattle.gl_answer.specs.declared.status.Status.TheVariants.{Done, Refused, NotProved}
+use Rattle.gl_answer.specs.Answer.{Answer}
 use Rattle.gl_app.specs.Check.{IsCheck, IsProofChecked, PassesCheck, check_promise, checked_answer}
 use Rattle.gl_app.proofs.Accepting.{scored_accepted}
 use Rattle.gl_app.proofs.DayLines.{check_line}
-use Rattle.gl_app.proofs.Promises.{IsLawful, IsResult, done_no_refusal, refuses, some_result}
+use Rattle.gl_answer.proofs.Promises.{IsLawful, IsResult, done_no_refusal, refuses, some_result}
 
 pub checked_result : (said : Checked) (answer : Answer) → answer ≡ checked_answer said → (answer.status ≡ Done) ⊎ (answer.status ≡ NotProved)
 checked_result (checked.Accepted claims) answer same = inl (ap (λ (a : Answer). a.status) same)

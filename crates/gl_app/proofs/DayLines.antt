@@ -13,12 +13,12 @@ use Rattle.gl_words.proofs.Unbroken.{is_unbroken, AreUnbroken}
 use Rattle.gl_files.specs.DayFiles.{Tested}
 use Rattle.gl_files.specs.FileTests.{most_proof_bytes}
 use Rattle.gl_files.proofs.DayRefusals.{RefusesNamed, passes, passed_or, score_tested, check_tested}
-use Rattle.gl_app.specs.declared.status.Status.TheVariants.{Done}
-use Rattle.gl_app.specs.Answer.{Answer}
+use Rattle.gl_answer.specs.declared.status.Status.TheVariants.{Done}
+use Rattle.gl_answer.specs.Answer.{Answer}
 use Rattle.gl_app.specs.Check.{IsCheck, IsProofChecked, checked_answer, not_proved_line}
 use Rattle.gl_app.specs.Score.{IsScore}
-use Rattle.gl_app.specs.Texts.{IsLine}
-use Rattle.gl_app.proofs.LineTexts.{wrong_is_line, said_by}
+use Rattle.gl_answer.specs.Texts.{IsLine}
+use Rattle.gl_answer.proofs.LineTexts.{wrong_is_line, said_by}
 
 -- an answer of `score`
 pub score_line : (folder : Option FilesByName) (stewards : List StewardRules) (names : DayNames) (answer : Answer) → AreUnbroken names → IsScore folder stewards names answer → answer.status ≢ Done → IsLine answer.said

@@ -14,9 +14,9 @@ use Rattle.gl_proof.specs.Text.{IsTextOf, proof_text}
 use Rattle.gl_proof.specs.declared.version.Version.TheVariants.{Two}
 use Rattle.gl_day.specs.Flight.{StewardRules}
 use Rattle.gl_words.specs.Words.{DayNames}
-use Rattle.gl_tally.specs.Appending.{HasGiven}
-use Rattle.gl_app.specs.declared.status.Status.TheVariants as status
-use Rattle.gl_app.specs.Answer.{Answer, saying}
+use Rattle.gl_answer.specs.Appending.{HasGiven}
+use Rattle.gl_answer.specs.declared.status.Status.TheVariants as status
+use Rattle.gl_answer.specs.Answer.{Answer, saying}
 use Rattle.gl_app.specs.Check.{IsScoredFolder}
 use Rattle.gl_app.specs.Demo.{HasJust, IsCountOf, IsDemo, claims_line, demo_names}
 use Rattle.gl_app.specs.Score.{IsScore}

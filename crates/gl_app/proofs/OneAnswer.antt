@@ -19,7 +19,7 @@ use Rattle.gl_tally.specs.Alike.{AreAlike}
 use Rattle.gl_tally.specs.Scored.{IsScored, Scored, flights_of_all, statements_of_all}
 use Rattle.gl_tally.proofs.Flights.{zip-append}
 use Rattle.gl_tally.proofs.OneFlight.{IsOneFlight, flight_one}
-use Rattle.gl_app.specs.Answer.{Answer, refused}
+use Rattle.gl_answer.specs.Answer.{Answer, refused}
 use Rattle.gl_app.specs.Laws.{AreProofsAlike, HasOneAnswer}
 use Rattle.gl_app.specs.Score.{IsDayScored, IsScore}
 

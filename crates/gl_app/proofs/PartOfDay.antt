@@ -10,8 +10,8 @@ use Rattle.gl_files.specs.declared.day_files.DayFiles.{DayFiles}
 use Rattle.gl_tally.specs.Scored.{IsScored, flights_of_all, statements_of_all}
 use Rattle.gl_tally.proofs.Completing.{IsPartOfScored}
 use Rattle.gl_tally.proofs.Flights.{all_texts, length-flights}
-use Rattle.gl_app.specs.declared.status.Status.TheVariants.{Done}
-use Rattle.gl_app.specs.Answer.{Answer}
+use Rattle.gl_answer.specs.declared.status.Status.TheVariants.{Done}
+use Rattle.gl_answer.specs.Answer.{Answer}
 use Rattle.gl_app.specs.Score.{IsDayScored}
 
 -- an answer of a day, of which a text is a first part

@@ -7,26 +7,27 @@ use Rattle.gl_desk.specs.declared.error.DeskError.{DeskError}
 use Rattle.gl_day.specs.Flight.{StewardRules}
 use Rattle.gl_words.specs.Words.{Badge, BadgeCheck, Check, Command, Demo, Free, Near, NearCheck, Point, Replay, Score, Series, Triangle}
 use Rattle.gl_words.proofs.CommandNames.{HasUnbrokenNames}
-use Rattle.gl_tally.specs.Appending.{HasGiven, IsAppended}
-use Rattle.gl_app.specs.declared.status.Status.TheVariants.{Done, Refused, Words}
-use Rattle.gl_app.specs.Answer.{Answer}
-use Rattle.gl_app.specs.Free.{IsFreeText}
-use Rattle.gl_app.specs.Near.{IsPointText}
-use Rattle.gl_app.specs.Promise.{Promise}
-use Rattle.gl_app.specs.Run.{Ends, Gives, GivesBegun, IsStopped, SaidLine, Stops, promise_of}
-use Rattle.gl_app.specs.Statuses.{stop_at}
-use Rattle.gl_app.specs.Texts.{IsLine, usage_line}
-use Rattle.gl_app.specs.Triangle.{IsTriangleText}
+use Rattle.gl_answer.specs.Appending.{HasGiven, IsAppended}
+use Rattle.gl_answer.specs.declared.status.Status.TheVariants.{Done, Refused, Words}
+use Rattle.gl_answer.specs.Answer.{Answer}
+use Rattle.gl_flights.specs.Free.{IsFreeText}
+use Rattle.gl_flights.specs.Near.{IsPointText}
+use Rattle.gl_answer.specs.Promise.{Promise}
+use Rattle.gl_answer.specs.Given.{Ends, Gives, GivesBegun, IsStopped, SaidLine, Stops}
+use Rattle.gl_app.specs.Run.{promise_of}
+use Rattle.gl_answer.specs.Statuses.{stop_at}
+use Rattle.gl_answer.specs.Texts.{IsLine, usage_line}
+use Rattle.gl_flights.specs.Triangle.{IsTriangleText}
 use Rattle.gl_app.proofs.BadgeLaws.{badge_check_lawful, badge_lawful}
 use Rattle.gl_app.proofs.CheckLaws.{check_lawful}
 use Rattle.gl_app.proofs.DemoLaws.{demo_lawful}
-use Rattle.gl_app.proofs.LineTexts.{line_of}
-use Rattle.gl_app.proofs.NearLaws.{near_check_lawful, near_lawful}
-use Rattle.gl_app.proofs.OfFileLaws.{of_file_lawful}
-use Rattle.gl_app.proofs.Promises.{IsLawful, result_goes_on, result_no_words}
-use Rattle.gl_app.proofs.ReplayLaws.{replay_lawful}
+use Rattle.gl_answer.proofs.LineTexts.{line_of}
+use Rattle.gl_flights.proofs.NearLaws.{near_check_lawful, near_lawful}
+use Rattle.gl_flights.proofs.OfFileLaws.{of_file_lawful}
+use Rattle.gl_answer.proofs.Promises.{IsLawful, result_goes_on, result_no_words}
+use Rattle.gl_flights.proofs.ReplayLaws.{replay_lawful}
 use Rattle.gl_app.proofs.ScoreLaws.{score_lawful}
-use Rattle.gl_app.proofs.SeriesLaws.{series_lawful}
+use Rattle.gl_flights.proofs.SeriesLaws.{series_lawful}
 
 -- Each command keeps the laws. A further command has its line here.
 lawful_of : (folder : Option FilesByName) (stewards : List StewardRules) (command : Command) → HasUnbrokenNames (Some command) → IsLawful (promise_of folder stewards (Some command))

@@ -6,12 +6,12 @@ use Rattle.gl_words.specs.Words.{DayNames}
 use Rattle.gl_words.proofs.Unbroken.{AreUnbroken}
 use Rattle.gl_files.proofs.DayPasses.{score_not_refused}
 use Rattle.gl_tally.proofs.Completing.{begun_either}
-use Rattle.gl_app.specs.declared.status.Status.TheVariants.{Refused}
-use Rattle.gl_app.specs.Answer.{Answer}
+use Rattle.gl_answer.specs.declared.status.Status.TheVariants.{Refused}
+use Rattle.gl_answer.specs.Answer.{Answer}
 use Rattle.gl_app.specs.Score.{IsScore, IsScoreBegun, PassesScore, score_promise}
 use Rattle.gl_app.proofs.DayLines.{score_line}
 use Rattle.gl_app.proofs.PartOfDay.{part_of_day}
-use Rattle.gl_app.proofs.Promises.{IsLawful, IsPart, IsResult, done_no_refusal, refuses}
+use Rattle.gl_answer.proofs.Promises.{IsLawful, IsPart, IsResult, done_no_refusal, refuses}
 
 score_result : (folder : Option FilesByName) (stewards : List StewardRules) (names : DayNames) (answer : Answer) → IsScore folder stewards names answer → IsResult answer.status
 score_result folder stewards names answer (Ok day, tested, scored) = inl scored.ended

@@ -11,11 +11,11 @@ use Rattle.gl_proof.specs.Text.{IsTextOf, statements_of}
 use Rattle.gl_words.specs.Words.{BadgeWords}
 use Rattle.gl_files.specs.BadgeFiles.{AreBadgeCheckRead, BadgeSeen, IsBadgeRead, IsBadgeSeen, badge_check_tests, badge_tests}
 use Rattle.gl_files.specs.FileTests.{most_proof_bytes}
-use Rattle.gl_app.specs.declared.status.Status.TheVariants as status
-use Rattle.gl_app.specs.Answer.{Answer}
+use Rattle.gl_answer.specs.declared.status.Status.TheVariants as status
+use Rattle.gl_answer.specs.Answer.{Answer}
 use Rattle.gl_app.specs.Check.{checked_answer}
-use Rattle.gl_app.specs.ByTests.{IsByTests, PassByTests}
-use Rattle.gl_app.specs.Promise.{IsTold, Promise}
+use Rattle.gl_answer.specs.ByTests.{IsByTests, PassByTests}
+use Rattle.gl_answer.specs.Promise.{IsTold, Promise}
 
 -- The answer says the three lines of a recording's badge claims, and appends the text, in version 2,
 -- of a proof that has exactly these claims, in their order, each proved.

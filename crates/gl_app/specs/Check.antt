@@ -13,11 +13,11 @@ use Rattle.gl_files.specs.declared.day_files.DayFiles.{DayFiles}
 use Rattle.gl_files.specs.DayFiles.{IfPassed, IsCheckTested, Tested}
 use Rattle.gl_files.specs.FileTests.{most_proof_bytes}
 use Rattle.gl_tally.specs.DayChecked.{IsDayChecked}
-use Rattle.gl_app.specs.declared.status.Status.TheVariants as status
-use Rattle.gl_app.specs.Answer.{Answer, refused, saying}
-use Rattle.gl_app.specs.Promise.{IsTold, Promise}
+use Rattle.gl_answer.specs.declared.status.Status.TheVariants as status
+use Rattle.gl_answer.specs.Answer.{Answer, refused, saying}
+use Rattle.gl_answer.specs.Promise.{IsTold, Promise}
 use Rattle.gl_app.specs.Score.{IsScore}
-use Rattle.gl_app.specs.Texts.{accepted_line, wrong_line}
+use Rattle.gl_answer.specs.Texts.{accepted_line, wrong_line}
 
 -- the line for a proof that isn't that of its day, about the first claim that is wrong
 abbrev pub not_proved_line : NotProved → List ℕ

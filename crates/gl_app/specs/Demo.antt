@@ -11,9 +11,9 @@ use Rattle.gl_day.specs.Flight.{StewardRules}
 use Rattle.gl_words.specs.Words.{DayNames}
 use Rattle.gl_files.specs.declared.day_files.DayFiles.{DayFiles}
 use Rattle.gl_files.specs.DayFiles.{IsScoreTested}
-use Rattle.gl_app.specs.declared.status.Status.TheVariants.{Done}
-use Rattle.gl_app.specs.Answer.{Answer, saying}
-use Rattle.gl_app.specs.Promise.{IsTold, Promise, reading}
+use Rattle.gl_answer.specs.declared.status.Status.TheVariants.{Done}
+use Rattle.gl_answer.specs.Answer.{Answer, saying}
+use Rattle.gl_answer.specs.Promise.{IsTold, Promise, reading}
 use Rattle.gl_app.specs.Score.{IsDayScored}
 
 -- the folder has these files, and no other

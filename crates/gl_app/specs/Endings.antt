@@ -15,7 +15,7 @@ use Rattle.gl_steward.specs.EngineNoise.{noise_fed, noise_opening, noise_owed}
 use Rattle.gl_app.specs.declared.program.Ending.{Ending}
 use Rattle.gl_app.specs.declared.program.Ending.TheVariants.{Ran, NoMemory, NoWords}
 use Rattle.gl_app.specs.Run.{IsRun}
-use Rattle.gl_app.specs.Statuses.{number_of_status}
+use Rattle.gl_answer.specs.Statuses.{number_of_status}
 
 -- what the system gives: words, of which the first is the program's own name, or why it gives none
 abbrev pub Given : Type 0

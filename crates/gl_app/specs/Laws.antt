@@ -8,7 +8,7 @@ use Rattle.gl_proof.specs.declared.version.Version.TheVariants.{Two}
 use Rattle.gl_day.specs.Flight.{StewardRules}
 use Rattle.gl_words.specs.Words.{DayNames}
 use Rattle.gl_tally.specs.Alike.{AreAlike}
-use Rattle.gl_app.specs.Answer.{Answer}
+use Rattle.gl_answer.specs.Answer.{Answer}
 use Rattle.gl_app.specs.Score.{IsScore}
 
 -- in two proofs each claim is one, but for the choice of its fixes and its boxes

@@ -1,24 +1,11 @@
-pub mod Answer
-pub mod Promise
-pub mod Statuses
 pub mod Demo
 pub mod Endings
-pub mod Texts
-pub mod Best
-pub mod OfFile
-pub mod Free
-pub mod Triangle
-pub mod Course
 pub mod Run
 pub mod Badge
-pub mod Near
-pub mod Replay
-pub mod Series
 pub mod Check
 pub mod Score
 pub mod Shelf
 pub mod Laws
-pub mod ByTests
 pub use Rattle.gl_desk.specs.Desk
 pub use Rattle.gl_goal.specs.Free as FreeGoal
 pub use Rattle.gl_goal.specs.Triangle as TriangleGoal

@@ -10,9 +10,9 @@ use Rattle.gl_words.specs.Words.{DayNames}
 use Rattle.gl_files.specs.declared.day_files.DayFiles.{DayFiles}
 use Rattle.gl_files.specs.DayFiles.{IsScoreTested, Tested}
 use Rattle.gl_tally.specs.Scored.{Scored, IsScored, statements_of_all, flights_of_all, IsBegun}
-use Rattle.gl_app.specs.declared.status.Status.TheVariants.{Done}
-use Rattle.gl_app.specs.Answer.{Answer, refused}
-use Rattle.gl_app.specs.Promise.{IsTold, Promise}
+use Rattle.gl_answer.specs.declared.status.Status.TheVariants.{Done}
+use Rattle.gl_answer.specs.Answer.{Answer, refused}
+use Rattle.gl_answer.specs.Promise.{IsTold, Promise}
 
 -- The answer of a day: what is appended is the text, in version 2, of a proof that has the claims of
 -- all entrants, each proved, and what is said is the sheet of their flights.

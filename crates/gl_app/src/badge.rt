@@ -4,18 +4,17 @@ ghost use Rattle.gl_proof.specs.Claim.{claim_text, statement_of};
 ghost use Rattle.gl_proof.specs.Text.{proof_text};
 ghost use Rattle.gl_proof.specs.declared.version.Version.TheVariants.{Two};
 ghost use Rattle.gl_words.specs.BadgeWords.{badge_seen};
-ghost use Rattle.gl_tally.specs.Appending.{HasAppended, HasAppendedPart};
+ghost use Rattle.gl_answer.specs.Appending.{HasAppended, HasAppendedPart};
 ghost use Rattle.gl_app.specs.Badge.{badge_promise};
-ghost use Rattle.gl_app.specs.Run.{HasAnswered, IsStopped};
+ghost use Rattle.gl_answer.specs.Given.{HasAnswered, IsStopped};
 
-use crate::answer::{Answer, answer_halt};
-use crate::status::Status;
+use gl_answer::{Answer, Status, answer_halt, append_piece};
 use gl_badge::prove_badges;
 use gl_day::{end_line, heading_line};
 use gl_desk::{Desk, DeskError, Name};
 use gl_files::test_badge_files;
 use gl_proof::Claim;
-use gl_tally::{append_claim, append_piece};
+use gl_tally::append_claim;
 use gl_words::BadgeWords;
 use std::alloc::Global;
 

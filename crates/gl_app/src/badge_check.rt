@@ -1,11 +1,11 @@
 ghost use Rattle.std.specs.Prelude.{IfOk};
 ghost use Rattle.gl_desk.specs.Answers.{OnlyReads, stop_of};
 ghost use Rattle.gl_words.specs.BadgeWords.{badge_seen};
-ghost use Rattle.gl_app.specs.Answer.{answer_of};
+ghost use Rattle.gl_answer.specs.Answer.{answer_of};
 ghost use Rattle.gl_app.specs.Badge.{IsBadgeCheck};
 
-use crate::answer::{Answer, answer_halt};
 use crate::check::checked_answer;
+use gl_answer::{Answer, answer_halt};
 use gl_badge::check_badges;
 use gl_desk::{Desk, DeskError};
 use gl_files::test_badge_check_files;

@@ -2,12 +2,10 @@ ghost use Rattle.std.specs.Prelude.{◌≡◌, IfOk};
 ghost use Rattle.gl_desk.specs.Answers.{OnlyReads, stop_of};
 ghost use Rattle.gl_words.specs.DayNames.{names_seen};
 ghost use Rattle.gl_files.specs.Halts.{IsTested, halt_stop};
-ghost use Rattle.gl_app.specs.Answer.{answer_of};
+ghost use Rattle.gl_answer.specs.Answer.{answer_of};
 ghost use Rattle.gl_app.specs.Check.{IsCheck, IsProofChecked, checked_answer};
 
-use crate::answer::{Answer, answer_halt};
-use crate::status::Status;
-use crate::texts::{accepted_line, wrong_line};
+use gl_answer::{Answer, Status, accepted_line, answer_halt, wrong_line};
 use gl_day::Checked;
 use gl_desk::{Desk, DeskError};
 use gl_files::{Halt, MOST_PROOF_BYTES, test_check_files};

@@ -1,16 +1,15 @@
 ghost use Rattle.std.specs.Prelude.{◌≡◌, ◌++◌, Err, IfOk, IfSome, OnOk, length, map};
 ghost use Rattle.gl_day.specs.Flight.{steward_rules};
 ghost use Rattle.gl_words.specs.DayNames.{names_seen};
-ghost use Rattle.gl_app.specs.Answer.{answer_of};
+ghost use Rattle.gl_answer.specs.Answer.{answer_of};
 ghost use Rattle.gl_app.specs.Check.{IsScoredFolder};
 ghost use Rattle.gl_app.specs.Demo.{IsCountOf, IsDemo, claims_line};
 ghost use Rattle.gl_app.specs.Shelf.{folder_on};
 
-use crate::answer::Answer;
 use crate::check::check_proof;
 use crate::score::score;
 use crate::shelf::Shelf;
-use crate::status::Status;
+use gl_answer::{Answer, Status};
 use gl_day::{Alone, Checked};
 use gl_demo::{generated_day, task_name};
 use gl_desk::{DeskError, Name};

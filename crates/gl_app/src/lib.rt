@@ -2,30 +2,20 @@
 //! does.
 #![tactic(auto)]
 
-mod answer;
 mod badge;
 mod badge_check;
-mod best;
 mod check;
 mod demo;
-mod free;
 mod laws;
-mod near;
-mod near_check;
-mod of_file;
 mod program;
 mod racing;
-mod replay;
 mod running;
 mod score;
-mod series;
 mod shelf;
-mod status;
-mod texts;
-mod triangle;
 
+pub use gl_answer::Status;
+pub use gl_flights::one_series;
 pub use gl_words::worker_count;
-pub use laws::{one_answer, one_series};
+pub use laws::one_answer;
 pub use program::{carry_out_words, run_program};
 pub use running::{run, run_single};
-pub use status::Status;

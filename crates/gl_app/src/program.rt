@@ -7,7 +7,7 @@ ghost use Rattle.gl_app.specs.Run.{IsRun};
 ghost use Rattle.gl_app.specs.declared.program.Ending.{Ending};
 
 use crate::running::run;
-use crate::status::Status;
+use gl_answer::Status;
 use gl_desk::{Desk, HostDesk, Name};
 use gl_pool::OpenGate;
 use gl_steward::{Ceiling, EngineNoise, Steward};

@@ -1,11 +1,10 @@
 ghost use Rattle.std.specs.Prelude.{◌≡◌, IfErr, IfOk, map};
 ghost use Rattle.gl_day.specs.Flight.{steward_rules};
 ghost use Rattle.gl_words.specs.DayNames.{names_seen};
-ghost use Rattle.gl_app.specs.Run.{HasAnswered, IsStopped};
+ghost use Rattle.gl_answer.specs.Given.{HasAnswered, IsStopped};
 ghost use Rattle.gl_app.specs.Score.{score_promise};
 
-use crate::answer::{Answer, answer_halt};
-use crate::status::Status;
+use gl_answer::{Answer, Status, answer_halt};
 use gl_day::Search;
 use gl_desk::{Desk, DeskError};
 use gl_files::test_score_files;

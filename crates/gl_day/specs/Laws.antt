@@ -4,7 +4,6 @@ pub mod Distances
 pub mod Entrants
 pub mod Flights
 pub mod Foreign
-pub mod Recordings
 pub mod Sheets
 pub mod Statements
 pub mod Texts

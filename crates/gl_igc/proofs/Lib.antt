@@ -8,6 +8,7 @@ pub mod ProgressLemmas
 pub mod Ranges
 pub mod ReaderLemmas
 pub mod Readings
+pub mod SameRecording
 pub mod SecondsLemmas
 pub mod ShiftLemmas
 pub mod TrackLemmas

@@ -16,9 +16,9 @@ use Rattle.gl_judge.specs.Claimed.{rules_of_claims}
 use Rattle.gl_day.specs.Totals.{AreTotals}
 use Rattle.gl_day.proofs.Walked.{claims_for, claims_for-append, zip-push}
 use Rattle.gl_day.specs.Asked.{Expected}
-use Rattle.gl_tally.specs.Appending.{HasAppended, HasAppendedPart}
+use Rattle.gl_answer.specs.Appending.{HasAppended, HasAppendedPart}
 use Rattle.gl_tally.specs.Scoring.{AreClaimed, AreClaimedPartly}
-use Rattle.gl_tally.proofs.Appended.{HasAppended-none, HasAppended-then, HasAppendedPart-memory, HasAppendedPart-then}
+use Rattle.gl_answer.proofs.Appended.{HasAppended-none, HasAppended-then, HasAppendedPart-memory, HasAppendedPart-then}
 
 -- the texts of claims and of one more
 pub texts-push : (statements : List Statement) (s : Statement) → flat_map claim_text (statements ++ s ∷ []) ≡ flat_map claim_text statements ++ claim_text s

@@ -18,7 +18,7 @@ use Rattle.gl_day.specs.declared.fault.Checked.TheVariants as checked
 use Rattle.gl_day.specs.Expected.{Proves, expected_of}
 use Rattle.gl_day.specs.Laws.Checks.{none_wrong, not_proved_more, proof_accepted}
 use Rattle.gl_judge.proofs.OneList.{expected_alone}
-use Rattle.gl_day.specs.Laws.Recordings.{recording_same}
+use Rattle.gl_igc.proofs.SameRecording.{recording_same}
 use Rattle.gl_day.specs.Asked.{AreAskedOf, AreAskedOfReading, Expected}
 use Rattle.gl_goal.specs.Laws.Chain.{AllZip-length}
 use Rattle.gl_files.specs.declared.day_files.DayFiles.{DayFiles}

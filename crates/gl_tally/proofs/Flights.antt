@@ -37,11 +37,11 @@ use Rattle.gl_day.proofs.Walked.{zip-length, zip-push}
 use Rattle.gl_day.specs.Asked.{AreAskedOf, AreAskedOfReading, Expected}
 use Rattle.gl_files.specs.declared.day_files.DayFiles.{DayFiles}
 use Rattle.gl_files.proofs.DayTests.{has_file, not_listed}
-use Rattle.gl_tally.specs.Appending.{HasAppended, HasAppendedPart}
+use Rattle.gl_answer.specs.Appending.{HasAppended, HasAppendedPart}
 use Rattle.gl_tally.specs.Asked.{AreAsked, AreAskedIn, HaveFiles, IsEntrantSeen, IsSeenAmong}
 use Rattle.gl_tally.specs.Scored.{ArePartlyProved, IsBegun, IsScored, Scored, flights_of_all, statements_of_all, text_so_far}
 use Rattle.gl_tally.specs.Scoring.{AreEntrantsScored, IsDayDone, IsDayStopped, IsEntrantBegun, IsEntrantScored}
-use Rattle.gl_tally.proofs.Appended.{HasAppended-none, HasAppended-reads, HasAppended-then, HasAppendedPart-memory, HasAppendedPart-then}
+use Rattle.gl_answer.proofs.Appended.{HasAppended-none, HasAppended-reads, HasAppended-then, HasAppendedPart-memory, HasAppendedPart-then, reads-none, part_after}
 
 -- the claims of a list of entrants, and of what was proved of them
 pub zip-append : {A B : Type 0} (R : A → B → Type 0) (a c : List A) (b d : List B) → AllZip R a b → AllZip R c d → AllZip R (a ++ c) (b ++ d)
@@ -332,10 +332,6 @@ recorded_asked task air entrant recording bytes list seen expected =
     subst (λ (b : Bool). MatchBool b (claims ≡ []) (AreAskedOfReading task air entrant (recording_of bytes (Some task.date)) claims)) (sym seen.0)
     (subst (λ (r : Result Reading IgcError). AreAskedOfReading task air entrant r claims) (sym seen.1) read)
 
--- what a call left that only read, and then something was appended
-reads-none : (proof : List ℕ) (x y : Told) → OnlyReads None x y → HasAppended proof [] x y
-reads-none proof x y reads = HasAppended-reads proof [] x x y (HasAppended-none proof x) reads
-
 pub scored_after : (day : DayFiles) (stewards : List StewardRules) (entrant : Entrant) (seen : Option (List ℕ)) (proof : List ℕ) (x y z : Told) (flight : Flight) → OnlyReads None x y → IsEntrantScored day stewards entrant seen proof y z flight → IsEntrantScored day stewards entrant seen proof x z flight
 scored_after day stewards entrant seen proof x y z flight reads is = record {
   statements = is.statements;
@@ -353,9 +349,6 @@ begun_after day entrant seen proof x y z stop reads is = record {
     appended = HasAppendedPart-then proof [] (flat_map claim_text is.partly.statements) x y z stop (reads-none proof x y reads) is.partly.appended;
   };
 }
-
-pub part_after : (proof text : List ℕ) (x y z : Told) (stop : DeskError) → OnlyReads None x y → HasAppendedPart proof text y z stop → HasAppendedPart proof text x z stop
-part_after proof text x y z stop reads part = HasAppendedPart-then proof [] text x y z stop (reads-none proof x y reads) part
 
 -- what is seen of a file among the names is what the folder has
 seen_in : (folder : Option FilesByName) (names : List (List ℕ)) (file : List ℕ) (seen : Option (List ℕ)) → ListsNames folder names → IsSeenAmong names folder file seen → IsSeenIn folder file seen

@@ -1,4 +1,3 @@
-pub mod Appended
 pub mod Claiming
 pub mod Compared
 pub mod Completing

@@ -23,7 +23,7 @@ use Rattle.gl_day.specs.Expected.{Proves, expected_of}
 use Rattle.gl_day.specs.Flight.{IsFlight, IsJudgedFlight, IsReadFlight, IsRefusedFlight, IsUnjudged, StewardRules, outcome_of, penalty_of}
 use Rattle.gl_desk.specs.Limits.{most_bytes}
 use Rattle.gl_judge.proofs.OneList.{expected_alone}
-use Rattle.gl_day.specs.Laws.Recordings.{recording_same}
+use Rattle.gl_igc.proofs.SameRecording.{recording_same}
 use Rattle.gl_day.specs.Laws.Sheets.{flight_same}
 use Rattle.gl_day.specs.Totals.{claimed_total, column, is_distance, is_free, is_triangle, total_if}
 use Rattle.gl_tally.specs.Alike.{AreAlike}

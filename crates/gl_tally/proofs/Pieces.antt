@@ -13,8 +13,8 @@ use Rattle.gl_desk.specs.declared.error.DeskError.TheVariants.{Memory}
 use Rattle.gl_proof.specs.declared.claim.Claim.{Claim}
 use Rattle.gl_proof.specs.Claim.{Statement, box_line, claim_text, fix_lines, front_text, spelled, statement_of}
 use Rattle.gl_proof.specs.Line.{ClaimLine, ended}
-use Rattle.gl_tally.specs.Appending.{HasAppended, HasAppendedPart}
-use Rattle.gl_tally.proofs.Appended.{HasAppended-then, HasAppendedPart-longer, HasAppendedPart-memory, HasAppendedPart-then}
+use Rattle.gl_answer.specs.Appending.{HasAppended, HasAppendedPart}
+use Rattle.gl_answer.proofs.Appended.{HasAppended-then, HasAppendedPart-longer, HasAppendedPart-memory, HasAppendedPart-then}
 
 -- the lines of boxes
 abbrev pub boxes_text : List Closed → List ℕ

@@ -1,5 +1,4 @@
 pub mod Alike
-pub mod Appending
 pub mod Asked
 pub mod DayChecked
 pub mod Scored

@@ -15,7 +15,7 @@ use Rattle.gl_day.specs.Flight.{IsFlight, StewardRules}
 use Rattle.gl_day.specs.Totals.{AreTotals}
 use Rattle.gl_day.specs.Asked.{AreAskedOf, Expected}
 use Rattle.gl_files.specs.declared.day_files.DayFiles.{DayFiles}
-use Rattle.gl_tally.specs.Appending.{HasAppended, HasAppendedPart}
+use Rattle.gl_answer.specs.Appending.{HasAppended, HasAppendedPart}
 use Rattle.gl_tally.specs.Scored.{ArePartlyProved, IsBegun, IsScored, Scored, flights_of_all, statements_of_all, text_so_far}
 
 -- the claims that are expected are proved, these are their totals, and their lines were appended

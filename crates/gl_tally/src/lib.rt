@@ -2,11 +2,9 @@
 //! what its files ask for.
 #![tactic(auto)]
 
-mod appending;
 mod checking;
 mod scoring;
 mod seeing;
 
-pub use appending::append_piece;
 pub use checking::check_claims;
 pub use scoring::{append_claim, score_day};

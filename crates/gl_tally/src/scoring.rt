@@ -7,12 +7,12 @@ ghost use Rattle.gl_day.specs.declared.flight.Seen.TheVariants.{Recorded};
 ghost use Rattle.gl_day.specs.Expected.{expected_of};
 ghost use Rattle.gl_judge.specs.Claimed.{rules_of_claims};
 ghost use Rattle.gl_day.specs.Flight.{IsSeen, steward_rules};
-ghost use Rattle.gl_tally.specs.Appending.{HasAppended, HasAppendedPart};
+ghost use Rattle.gl_answer.specs.Appending.{HasAppended, HasAppendedPart};
 ghost use Rattle.gl_tally.specs.Asked.{HaveFiles, IsSeenAmong};
 ghost use Rattle.gl_tally.specs.Scoring.{AreClaimed, AreClaimedPartly, AreEntrantsScored, IsDayDone, IsDayStopped, IsEntrantBegun, IsEntrantScored};
 
-use crate::appending::append_piece;
 use crate::seeing::see_entrant;
+use gl_answer::append_piece;
 use gl_box::Closed;
 use gl_day::{
     Flight, Search, Seen, Totals, claim_of, end_line, finish_flight, heading_line, sheet_of,

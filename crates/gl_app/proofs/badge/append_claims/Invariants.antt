@@ -1,5 +1,5 @@
 use Rattle.std.proofs.Common.{take}
-use Rattle.gl_tally.specs.Appending.{HasAppended}
+use Rattle.gl_answer.specs.Appending.{HasAppended}
 use Rattle.gl_app.proofs.Badges.{claims_text}
 use Rattle.gl_app.proofs.badge.append_claims.Given as goal
 

@@ -2,10 +2,10 @@ use Rattle.std.proofs.Common.{◌≡◌, ◌∙◌, List, ap, subst, take, ℕ}
 use Rattle.gl_desk.specs.Desk.{followed_by}
 use Rattle.gl_words.specs.Words.{command_of}
 use Rattle.gl_words.proofs.CommandNames.{command_names}
-use Rattle.gl_app.specs.Answer.{answer_with}
+use Rattle.gl_answer.specs.Answer.{answer_with}
 use Rattle.gl_app.specs.Run.{promise_of}
-use Rattle.gl_app.specs.Statuses.{stop_at}
-use Rattle.gl_app.proofs.Commanded.{stopped_ends}
+use Rattle.gl_answer.specs.Statuses.{stop_at}
+use Rattle.gl_answer.proofs.Answered.{stopped_ends}
 use Rattle.gl_app.proofs.Rights.{ends_said, if_none, right_accepted, right_passes, right_words, said_line, stopped_right, stops_saying}
 use Rattle.gl_app.proofs.running.carry_out.Goals as goal
 

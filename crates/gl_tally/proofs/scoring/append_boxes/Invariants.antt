@@ -1,5 +1,5 @@
 use Rattle.std.proofs.Common.{◌-◌, ◌≤◌, length, take}
-use Rattle.gl_tally.specs.Appending.{HasAppended}
+use Rattle.gl_answer.specs.Appending.{HasAppended}
 use Rattle.gl_tally.proofs.Pieces.{boxes_text}
 use Rattle.gl_tally.proofs.scoring.append_boxes.Given as goal
 

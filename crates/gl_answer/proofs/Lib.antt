@@ -1,0 +1,5 @@
+pub mod Answered
+pub mod Appended
+pub mod ByTests
+pub mod LineTexts
+pub mod Promises

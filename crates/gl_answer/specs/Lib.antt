@@ -1,0 +1,9 @@
+pub mod Answer
+pub mod Appending
+pub mod ByTests
+pub mod Given
+pub mod Promise
+pub mod Statuses
+pub mod Texts
+pub use Rattle.gl_desk.specs.Desk
+pub use Rattle.gl_text.specs.Numbers

@@ -1,0 +1,13 @@
+//! What a command answers and promises: its status, the texts that it says, the pieces that it
+//! appends, and what is right, begun and passed of it.
+#![tactic(auto)]
+
+mod answer;
+mod appending;
+mod status;
+mod texts;
+
+pub use answer::{Answer, answer_halt};
+pub use appending::append_piece;
+pub use status::Status;
+pub use texts::{accepted_line, distance_lines, no_flight, no_pair, usage, wrong_line};

@@ -1,0 +1,42 @@
+ghost use Rattle.std.specs.Prelude.{◌≡◌, Some};
+ghost use Rattle.gl_answer.specs.Statuses.{number_of_status, status_of};
+
+use gl_desk::DeskError;
+
+/// How a run ended. The program ends with the status as a number.
+#[derive(Clone, Copy, Debug, PartialEq, Eq)]
+pub enum Status {
+    /// The command was carried out, and its answer was said.
+    Done = 0,
+    /// The words are of no form; the usage line was said.
+    Words = 2,
+    /// A call of the desk failed; nothing more was said.
+    Desk = 3,
+    /// A test of the files failed; its one line was said.
+    Refused = 4,
+    /// There was no memory; nothing more was said.
+    Memory = 5,
+    /// The proof text doesn't prove what the folder asks for; its one line was said.
+    NotProved = 6,
+}
+
+/// What stops a run before its end.
+impl From<DeskError> for Status {
+    ghost from_gives = { λ stop status. status ≡ status_of stop };
+
+    fn from(stop: DeskError) -> Status {
+        match stop {
+            DeskError::Failed => Status::Desk,
+            DeskError::Memory => Status::Memory,
+        }
+    }
+}
+
+impl Status {
+    /// The number that the program ends with.
+    pub fn number(self) -> u8
+        ensures { result ≡ number_of_status self }
+    {
+        self as u8
+    }
+}

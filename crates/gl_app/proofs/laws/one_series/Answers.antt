@@ -1,5 +1,0 @@
-use Rattle.gl_app.proofs.OneSeries.{series_one}
-use Rattle.gl_app.proofs.laws.one_series.Goals as goal
-
-pub returns : goal.returns
-returns c = series_one

@@ -1,0 +1,62 @@
+ghost use Rattle.std.specs.Prelude.{IfOk};
+ghost use Rattle.gl_desk.specs.Answers.{OnlyReads, stop_of};
+ghost use Rattle.gl_answer.specs.Answer.{answer_of};
+ghost use Rattle.gl_flights.specs.Course.{IsTextOf};
+ghost use Rattle.gl_flights.specs.OfFile.{IsOfFile};
+
+use crate::free::free_of_recording;
+use crate::near::point_of_recording;
+use crate::triangle::triangle_of_recording;
+use gl_answer::{Answer, Status, answer_halt};
+use gl_desk::{Desk, DeskError, Name};
+use gl_files::test_flight;
+use gl_igc::Recording;
+use gl_sphere::Grid;
+use std::alloc::{AllocError, Global};
+
+/// What is sought in a recording.
+#[derive(Clone, Copy, Debug)]
+pub enum Course {
+    /// The best free distance.
+    Free,
+    /// The best triangle.
+    Triangle,
+    /// The least distance to a place.
+    Point(Grid),
+}
+
+/// What is said of a recording.
+fn text_of_recording(
+    alloc: Global,
+    course: Course,
+    recording: &Recording,
+) -> Result<Vec<u8>, AllocError>
+    ensures { IfOk result (λ text. IsTextOf course recording.now text.items) }
+{
+    match course {
+        Course::Free => free_of_recording(alloc, recording),
+        Course::Triangle => triangle_of_recording(alloc, recording),
+        Course::Point(place) => point_of_recording(alloc, recording, place),
+    }
+}
+
+/// The answer of a command for a recording's file.
+pub fn answer_of_file<D: Desk>(
+    alloc: Global,
+    desk: &mut D,
+    course: Course,
+    file: &Name,
+) -> Result<Answer, DeskError>
+    ensures right { IfOk result (λ answer.
+        IsOfFile (IsTextOf course) (D.told desk.old).folder file.now (answer_of answer)) }
+    ensures reads { OnlyReads (stop_of result) (D.told desk.old) (D.told desk.new) }
+{
+    let names = desk.names(alloc)?;
+    match test_flight(alloc, desk, &names, file) {
+        Ok(recording) => Ok(Answer {
+            status: Status::Done,
+            text: text_of_recording(alloc, course, &recording)?,
+        }),
+        Err(halt) => answer_halt(alloc, halt),
+    }
+}
