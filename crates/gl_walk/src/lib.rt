@@ -3,8 +3,10 @@
 #![tactic(auto)]
 
 mod boxed;
+mod lists;
 mod passage;
 mod walk;
 
 pub use boxed::Boxed;
+pub use lists::{Boxes, all_boxes};
 pub use passage::{WalkEnd, Walked, number_of, walk_along};
