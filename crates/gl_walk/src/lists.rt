@@ -75,6 +75,18 @@ impl Boxes {
         Ok(())
     }
 
+    /// A copy of all boxes in one list. The only error is want of memory.
+    pub fn joined(&self, alloc: Global) -> Result<Vec<Closed>, AllocError>
+        ensures { IfOk result (λ boxes. boxes.items ≡ boxes_in self.now) }
+    {
+        let mut boxes = Vec::new(alloc);
+        for list in self.lists.iter() {
+            boxes.extend_from_slice(list)?;
+        }
+        boxes.extend_from_slice(&self.last)?;
+        Ok(boxes)
+    }
+
     /// The lists. The only error is want of memory.
     pub fn into_lists(self) -> Result<Vec<Vec<Closed>>, AllocError>
         ensures { IfOk result (λ lists. flat_map (λ list. list.items) lists.items ≡ boxes_in self) }
