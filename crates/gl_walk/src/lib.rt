@@ -3,6 +3,7 @@
 #![tactic(auto)]
 
 mod boxed;
+mod cut;
 mod lists;
 mod passage;
 mod walk;
@@ -10,3 +11,4 @@ mod walk;
 pub use boxed::Boxed;
 pub use lists::{Boxes, all_boxes};
 pub use passage::{WalkEnd, Walked, number_of, walk_along};
+pub use walk::go_down;
