@@ -4,15 +4,16 @@ use Rattle.gl_box.specs.Closed.{box_of}
 use Rattle.gl_goal.specs.Rule.{Rule}
 use Rattle.gl_goal.specs.Certificate.{IsCertificate}
 use Rattle.gl_proof.specs.declared.claim.Claim.{Claim}
+use Rattle.gl_walk.specs.InLists.{boxes_in}
 use Rattle.gl_check.specs.declared.verdict.Verdict.{Verdict}
 use Rattle.gl_check.specs.Verdict.{IsVerdict}
 
 -- the boxes of the claim certify its total and its fixes
 abbrev pub IsCertified : Rule → Claim → Type 0
 IsCertified rule claim =
-    IsCertificate rule claim.total claim.fixes.items (map box_of claim.cells.items)
+    IsCertificate rule claim.total claim.fixes.items (map box_of (boxes_in claim.cells))
 
 -- this is the first thing that is to be said of the claim
 abbrev pub IsCheckedAs : Rule → Claim → Verdict → Type 0
 IsCheckedAs rule claim verdict =
-    IsVerdict rule claim.total claim.fixes.items (map box_of claim.cells.items) verdict
+    IsVerdict rule claim.total claim.fixes.items (map box_of (boxes_in claim.cells)) verdict

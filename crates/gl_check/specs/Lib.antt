@@ -8,3 +8,4 @@ pub use Rattle.gl_goal.specs.Certificate
 pub use Rattle.gl_goal.specs.Rule
 pub use Rattle.gl_proof.specs.Claim
 pub use Rattle.gl_walk.specs.Boxes
+pub use Rattle.gl_walk.specs.InLists

@@ -5,11 +5,12 @@ ghost use Rattle.gl_box.specs.Closed.{box_of};
 ghost use Rattle.gl_goal.specs.Rule.{whole_cell};
 ghost use Rattle.gl_goal.specs.Certificate.{IsClaimed, IsClosedFor};
 ghost use Rattle.gl_check.specs.Verdict.{IsClosedAt, IsVerdict};
+ghost use Rattle.gl_walk.specs.InLists.{boxes_in};
 
 use crate::verdict::Verdict;
 use gl_box::{Closed, Why};
 use gl_goal::{Goal, Leg, measured_legs, whole};
-use gl_walk::{WalkEnd, number_of, walk_along};
+use gl_walk::{Boxes, WalkEnd, number_of, walk_along};
 use std::alloc::{AllocError, Global};
 
 /// Whether a box is closed for the total by its reason.
@@ -59,9 +60,8 @@ fn first_unclosed<G: Goal>(
     None
 }
 
-/// What is said of the boxes of a claim whose fixes reach its total. The only error is want of
-/// memory.
-pub fn check_boxes<G: Goal>(
+/// What is said of the boxes of one list. The only error is want of memory.
+fn check_boxes<G: Goal>(
     alloc: Global,
     goal: &G,
     total: Option<u64>,
@@ -83,4 +83,23 @@ pub fn check_boxes<G: Goal>(
         WalkEnd::Place => Verdict::Place(number),
         WalkEnd::Open => Verdict::Open,
     })
+}
+
+/// What is said of the boxes of a claim whose fixes reach its total. Those of several lists are
+/// copied into one. The only error is want of memory.
+pub fn check_lists<G: Goal>(
+    alloc: Global,
+    goal: &G,
+    total: Option<u64>,
+    cells: &Boxes,
+) -> Result<Verdict, AllocError>
+    ensures { IfOk result (λ verdict. (fixes : List ℕ)
+        → IsClaimed (G.rule goal.now) total fixes
+        → IsVerdict (G.rule goal.now) total fixes (map box_of (boxes_in cells.now)) verdict) }
+{
+    if cells.lists.is_empty() {
+        return check_boxes(alloc, goal, total, cells.last.as_slice());
+    }
+    let joined = cells.joined(alloc)?;
+    check_boxes(alloc, goal, total, joined.as_slice())
 }

@@ -53,7 +53,9 @@ fn found_claims_are_accepted(rt: HostRuntime) -> Result<(), Fail> {
         let read = &proof.claims[0];
         assert_eq!(rt; read.total, claim.total);
         assert_eq!(rt; read.fixes.as_slice(), claim.fixes.as_slice());
-        assert_eq!(rt; read.cells.as_slice(), claim.cells.as_slice());
+        let boxes = read.cells.joined(rt.alloc())?;
+        let found = claim.cells.joined(rt.alloc())?;
+        assert_eq!(rt; boxes.as_slice(), found.as_slice());
         assert_eq!(rt;
             check_claim(rt.alloc(), &goal, read)?,
             Verdict::Yes,

@@ -100,8 +100,9 @@ fn any_number_at(text: &[u8]) -> Option<(u32, &[u8])>
     Some((number as u32, rest))
 }
 
-/// The span at the front of a text, and what follows it.
-#[inline]
+/// The span at the front of a text, and what follows it. It is made where it is read, since an answer
+/// of several parts that is handed over in memory takes longer than reading it.
+#[inline(always)]
 pub fn span_at(text: &[u8]) -> Option<(Span, &[u8])>
     ensures { Reads ends (IsSpanAt text.now) result }
 {

@@ -1,13 +1,13 @@
 -- A list of steps has one outcome.
-use Rattle.std.proofs.Common.{◌≡◌, ◌∙◌, sym, ap, refl, subst, inl, inr, ℕ, ◌+◌, ◌/◌, List, [], ◌∷◌, ◌++◌, slice_set, arith}
+use Rattle.std.proofs.Common.{◌≡◌, ◌∙◌, sym, ap, refl, subst, inl, inr, ℕ, List, [], ◌∷◌, ◌++◌, slice_set}
 use Rattle.std.specs.Prelude.{Option, Some, None, slice_get}
-use Rattle.std.proofs.lemmas.Bool.{cases_order}
 use Rattle.std.proofs.lemmas.List.{same_from_push}
 use Rattle.gl_box.specs.declared.closed.Why.{Why}
 use Rattle.gl_box.specs.declared.closed.Why.TheVariants.{Disordered, Shut, Bound}
 use Rattle.gl_box.specs.Cell.{point}
-use Rattle.gl_box.specs.Halves.{AreHalves, IsWidest, span_at}
+use Rattle.gl_box.specs.Halves.{AreHalves}
 use Rattle.gl_goal.specs.Rule.{Rule, value}
+use Rattle.gl_walk.proofs.Frontiers.{lower_unique, upper_unique}
 use Rattle.gl_plain.specs.declared.schedule.Step.{Step}
 use Rattle.gl_plain.specs.declared.schedule.Step.TheVariants.{Take, Steal, Split, Close, Look, Raise}
 use Rattle.gl_plain.specs.Machine.{Acts, Closes, IsFirstReason, Keeps, Looks, Makes, Moves, Runs, Splits, State, Steals, Takes, Worker, greater}
@@ -23,37 +23,12 @@ takes_one before a b one other =
     let same = same_from_push one.rest other.rest one.cell other.cell (sym one.last ∙ other.last) in
     one.is ∙ (λ i. record before { deque = same.0 i; hand = Some (same.1 i) }) ∙ sym other.is
 
-widest_one : (cell : List (ℕ × ℕ)) (a b : ℕ) → IsWidest cell a → IsWidest cell b → a ≡ b
-widest_one cell a b is_a is_b = elim (cases_order a b) [
-  | inl same ↦ same
-  | inr apart ↦ elim apart [
-    | inl less ↦ absurd (omega (arith, is_b.lowest a less, is_a.widest b))
-    | inr more ↦ absurd (omega (arith, is_a.lowest b more, is_b.widest a))
-  ]
-]
-
-unfoldable lower_of : List (ℕ × ℕ) → ℕ → List (ℕ × ℕ)
-lower_of cell axis = slice_set cell axis ((span_at cell axis).0, ((span_at cell axis).0 + (span_at cell axis).1) / 2)
-
-unfoldable upper_of : List (ℕ × ℕ) → ℕ → List (ℕ × ℕ)
-upper_of cell axis = slice_set cell axis (((span_at cell axis).0 + (span_at cell axis).1) / 2 + 1, (span_at cell axis).1)
-
-lower_one : (cell lower upper other another : List (ℕ × ℕ)) → AreHalves cell lower upper → AreHalves cell other another → lower ≡ other
-unfolding lower_of
-lower_one cell lower upper other another halves others =
-    halves.lower_is ∙ ap (lower_of cell) (widest_one cell halves.axis others.axis halves.widest others.widest) ∙ sym others.lower_is
-
-upper_one : (cell lower upper other another : List (ℕ × ℕ)) → AreHalves cell lower upper → AreHalves cell other another → upper ≡ another
-unfolding upper_of
-upper_one cell lower upper other another halves others =
-    halves.upper_is ∙ ap (upper_of cell) (widest_one cell halves.axis others.axis halves.widest others.widest) ∙ sym others.upper_is
-
 splits_one : (before a b : Worker) → Splits before a → Splits before b → a ≡ b
 splits_one before a b one other =
     let cell = same_some before.hand one.cell other.cell one.held other.held in
     let halves : AreHalves one.cell other.lower other.upper = subst (λ (c : List (ℕ × ℕ)). AreHalves c other.lower other.upper) (sym cell) other.halves in
-    let low = lower_one one.cell one.lower one.upper other.lower other.upper one.halves halves in
-    let high = upper_one one.cell one.lower one.upper other.lower other.upper one.halves halves in
+    let low = lower_unique one.cell one.lower one.upper other.lower other.upper one.halves halves in
+    let high = upper_unique one.cell one.lower one.upper other.lower other.upper one.halves halves in
     one.is ∙ (λ i. record before { deque = before.deque ++ high i ∷ []; hand = Some (low i) }) ∙ sym other.is
 
 reason_one : (rule : Rule) (total : Option ℕ) (cell : List (ℕ × ℕ)) (a b : Why) → IsFirstReason rule total cell a → IsFirstReason rule total cell b → a ≡ b

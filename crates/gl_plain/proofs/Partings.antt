@@ -1,59 +1,33 @@
 -- Cells that part a whole: they are the whole alone, or each lies in one of its halves, and those in a half part it.
-use Rattle.std.proofs.Common.{◌≡◌, ◌≢◌, ◌∙◌, sym, ap, refl, subst, ℕ, zero, suc, ◌+◌, ◌/◌, ◌<◌, ◌≤◌, Bool, true, false, true≢false, cond, eqb, ◌&&◌, ◌⊎◌, inl, inr, List, [], ◌∷◌, ◌++◌, length, get_or, take, drop, map, slice_set, append_assoc, Option, arith}
+use Rattle.std.proofs.Common.{◌≡◌, ◌≢◌, ◌∙◌, sym, ap, refl, subst, ℕ, zero, suc, ◌+◌, ◌<◌, ◌≤◌, Bool, true, false, cond, ◌⊎◌, inl, inr, List, [], ◌∷◌, ◌++◌, length, get_or, take, drop, map, Option, arith}
 use Rattle.std.specs.Prelude.{All}
 use Rattle.std.specs.List.{SwappedAt}
-use Rattle.std.proofs.lemmas.Bool.{cases_order, eqb-true}
-use Rattle.std.proofs.lemmas.List.{get_or_default, get_or-map, get_or-take, get_or-drop, length-drop, length-map, length-take, length-take-le, map-append, take-append-drop, take-map, drop-map, take_more}
+use Rattle.std.proofs.lemmas.Bool.{cases_order}
+use Rattle.std.proofs.lemmas.List.{get_or_default, get_or-take, get_or-drop, length-drop, length-map, length-take, length-take-le, map-append, take-append-drop, take-map, drop-map}
 use Rattle.std.specs.List.Sorted.{IsPermutation}
 use Rattle.std.proofs.lemmas.List.Elements.{All-map}
 use Rattle.std.proofs.lemmas.List.Sorted.{All-permutation, IsPermutation-map, length_permutation, sum_by-IsPermutation}
 use Rattle.std.proofs.lemmas.List.Sums.{sum_by-cons, get_or-le-sum_by}
-use lib.Pointwise.{pointwise}
 use Rattle.gl_box.specs.declared.span.Span.{Span}
 use Rattle.gl_box.specs.declared.cell.Cell.{Cell}
 use Rattle.gl_box.specs.declared.closed.Closed.{Closed}
 use Rattle.gl_box.specs.Cell.{Covers, Holds, ends, holds, spans_of}
-use Rattle.gl_box.specs.Halves.{AreHalves, IsHalf, IsSingle, IsWidest, span_at}
+use Rattle.gl_box.specs.Halves.{AreHalves, IsHalf, IsSingle}
 use Rattle.gl_box.specs.Frontier.{IsFrontier, IsNode, mult}
 use Rattle.gl_box.specs.Frontier.IsFrontier.{alone, parted}
 use Rattle.gl_box.specs.Frontier.IsNode.{whole, half}
 use Rattle.gl_box.specs.Laws.Held.{holds_whole}
-use Rattle.gl_box.specs.Laws.Nodes.{covers_lower, covers_node, covers_upper, halves_frontier, holds_through, member_node, refined}
+use Rattle.gl_box.specs.Laws.Nodes.{covers_lower, covers_node, covers_upper, holds_through, member_node}
 use Rattle.gl_box.specs.Laws.Parts.{halves_parted, mult-append, mult-held}
 use Rattle.gl_box.specs.Laws.Spans.{single-narrow}
 use Rattle.gl_box.specs.Closed.{box_of}
 use Rattle.gl_goal.specs.Rule.{Rule, whole_cell}
 use Rattle.gl_goal.specs.Certificate.{IsCertificate, IsClosedFor}
+use Rattle.gl_walk.proofs.Frontiers.{lower_unique, upper_unique}
 use Rattle.gl_plain.specs.declared.found.Best.{Best}
 use Rattle.gl_plain.specs.Order.{AreParts, cells_of}
 use Rattle.gl_plain.specs.Search.{IsSound, fixes_of, total_of}
 use Rattle.gl_plain.proofs.Stack.{claimed_best, closed-boxes, map-boxes}
-
--- a cell has one widest axis, and so one pair of halves
-widest_unique : (cell : List (ℕ × ℕ)) (a b : ℕ) → IsWidest cell a → IsWidest cell b → a ≡ b
-widest_unique cell a b is_a is_b = elim (cases_order a b) [
-  | inl same ↦ same
-  | inr other ↦ elim other [
-    | inl before ↦ absurd (omega (arith, is_b.lowest a before, is_a.widest b))
-    | inr after ↦ absurd (omega (arith, is_a.lowest b after, is_b.widest a))
-  ]
-]
-
-lower_of : List (ℕ × ℕ) → ℕ → List (ℕ × ℕ)
-lower_of cell axis = slice_set cell axis ((span_at cell axis).0, ((span_at cell axis).0 + (span_at cell axis).1) / 2)
-
-upper_of : List (ℕ × ℕ) → ℕ → List (ℕ × ℕ)
-upper_of cell axis = slice_set cell axis (((span_at cell axis).0 + (span_at cell axis).1) / 2 + 1, (span_at cell axis).1)
-
-lower_unique : (cell lower upper other another : List (ℕ × ℕ)) → AreHalves cell lower upper → AreHalves cell other another → lower ≡ other
-unfolding lower_of
-lower_unique cell lower upper other another halves others =
-    halves.lower_is ∙ ap (lower_of cell) (widest_unique cell halves.axis others.axis halves.widest others.widest) ∙ sym others.lower_is
-
-upper_unique : (cell lower upper other another : List (ℕ × ℕ)) → AreHalves cell lower upper → AreHalves cell other another → upper ≡ another
-unfolding upper_of
-upper_unique cell lower upper other another halves others =
-    halves.upper_is ∙ ap (upper_of cell) (widest_unique cell halves.axis others.axis halves.widest others.widest) ∙ sym others.upper_is
 
 -- a half of a cell is a node of its lower or of its upper half
 half_node : (cell lower upper part : List (ℕ × ℕ)) → AreHalves cell lower upper → IsHalf cell part → IsNode lower part ⊎ IsNode upper part
@@ -281,54 +255,9 @@ parts-one cell lower upper (part ∷ []) parts halves low high one = elim (node_
 ]
 parts-one cell lower upper (part ∷ (other ∷ cells)) parts halves low high one = absurd (omega arith)
 
--- the boxes so far, and one more whose cell is that of the next one
+-- the cell of a box
 abbrev cell_of : Closed → List (ℕ × ℕ)
 cell_of box = spans_of box.cell
-
-pub cells-more : (boxes : List Closed) (k : ℕ) (d : Closed) (cell : List (ℕ × ℕ)) → k < length boxes → spans_of (get_or boxes k d).cell ≡ cell → take (k + 1) (cells_of boxes) ≡ take k (cells_of boxes) ++ cell ∷ []
-cells-more boxes k d cell below same =
-    take_more (cells_of boxes) k (spans_of d.cell) (omega (arith, below, length-map boxes cell_of))
-    ∙ ap (λ (c : List (ℕ × ℕ)). take k (cells_of boxes) ++ c ∷ []) (get_or-map cell_of boxes k d (spans_of d.cell) below ∙ same)
-
--- one more box is passed, and the last open cell is the next one
-pub frontier-passed : (start : List (ℕ × ℕ)) (boxes : List Closed) (k : ℕ) (d : Closed) (cell : List (ℕ × ℕ)) (rest : List (List (ℕ × ℕ))) → k < length boxes → spans_of (get_or boxes k d).cell ≡ cell → IsFrontier start (take k (cells_of boxes) ++ (cell ∷ rest)) → IsFrontier start (take (k + 1) (cells_of boxes) ++ rest)
-frontier-passed start boxes k d cell rest below same frontier =
-    subst (IsFrontier start) (sym (append_assoc (take k (cells_of boxes)) (cell ∷ []) rest) ∙ ap (λ (l : List (List (ℕ × ℕ))). l ++ rest) (sym (cells-more boxes k d cell below same))) frontier
-
--- the cell gives way to its halves
-pub frontier-halved : (start cell lower upper : List (ℕ × ℕ)) (passed rest : List (List (ℕ × ℕ))) → AreHalves cell lower upper → IsFrontier start (passed ++ (cell ∷ rest)) → IsFrontier start (passed ++ (lower ∷ (upper ∷ rest)))
-frontier-halved start cell lower upper passed rest halves frontier =
-    refined start (passed ++ (cell ∷ rest)) passed rest cell (lower ∷ upper ∷ []) frontier refl (halves_frontier cell lower upper halves)
-
-and_parts : (x y : Bool) → (x && y) ≡ true → (x ≡ true) × (y ≡ true)
-and_parts true y both = (refl, both)
-and_parts false y both = absurd (true≢false (sym both))
-
--- a test of two spans
-abbrev same_span : Span → Span → Bool
-same_span x y = eqb x.lo y.lo && eqb x.hi y.hi
-
-same_ends : (xs ys : List Span) → pointwise same_span xs ys ≡ true → map ends xs ≡ map ends ys
-same_ends [] [] same = refl
-same_ends [] (y ∷ ys) same = absurd (true≢false (sym same))
-same_ends (x ∷ xs) [] same = absurd (true≢false (sym same))
-same_ends (x ∷ xs) (y ∷ ys) same =
-    let both = and_parts (same_span x y) (pointwise same_span xs ys) same in
-    let two = and_parts (eqb x.lo y.lo) (eqb x.hi y.hi) both.0 in
-    let low : x.lo ≡ y.lo = eqb-true x.lo y.lo two.0 in
-    let high : x.hi ≡ y.hi = eqb-true x.hi y.hi two.1 in
-    let rest = same_ends xs ys both.1 in
-    λ i. (low i, high i) ∷ rest i
-
--- cells that are equal have the same spans
-pub same_cell : (cell other : Cell) → (eqb cell.axes other.axes && pointwise same_span cell.spans other.spans) ≡ true → spans_of cell ≡ spans_of other
-same_cell cell other same =
-    let both = and_parts (eqb cell.axes other.axes) (pointwise same_span cell.spans other.spans) same in
-    let axes : cell.axes ≡ other.axes = eqb-true cell.axes other.axes both.0 in
-    sym (take-map ends cell.axes cell.spans)
-    ∙ ap (λ (n : ℕ). take n (map ends cell.spans)) axes
-    ∙ ap (λ (l : List (ℕ × ℕ)). take other.axes l) (same_ends cell.spans other.spans both.1)
-    ∙ take-map ends other.axes other.spans
 
 -- of the boxes at some places, those with P come first and the others have none of it
 pub record PartedAt (P : Closed → Type 0) (boxes : List Closed) (count place : ℕ) : Type 0 where

@@ -17,8 +17,10 @@ use Rattle.gl_box.specs.Frontier.{IsFrontier, IsNode, mult}
 use Rattle.gl_box.specs.Laws.Parts.{mult-append}
 use Rattle.gl_goal.specs.Rule.{Rule, IsReached, whole_cell}
 use Rattle.gl_goal.specs.Certificate.{IsClosedFor}
+use Rattle.gl_walk.specs.InLists.{boxes_in}
 use Rattle.gl_plain.specs.declared.found.Best.{Best}
 use Rattle.gl_plain.specs.declared.found.Found.{Found}
+use Rattle.gl_plain.specs.declared.search.Finished.{Finished}
 use Rattle.gl_plain.specs.declared.machine.Machine.{Machine}
 use Rattle.gl_plain.specs.declared.replayed.Left.{Left}
 use Rattle.gl_plain.specs.declared.replayed.Replayed.{Replayed}
@@ -157,7 +159,7 @@ closed_cells rule workers steps left of =
     let boxes = subst (All (λ (box : Box). node box.0)) (sym of.closed) (closed_nodes rule of.state (left_safe rule workers steps left of)) in
     All-map node (λ (b : Closed). spans_of b.cell) left.closed.items (all_unmap (λ (box : Box). node box.0) box_of left.closed.items boxes)
 
-pub parts_made : (rule : Rule) (workers : ℕ) (steps : List Step) (left : Left) (found : Found) (boxes : List Closed) → IsLeft rule workers steps left → IsFinished rule (reverse (map spans_of left.open_cells.items)) left.known found → boxes ≡ found.closed.items ++ left.closed.items → AreParts (whole_cell rule.axes) (cells_of boxes)
+pub parts_made : (rule : Rule) (workers : ℕ) (steps : List Step) (left : Left) (found : Finished) (boxes : List Closed) → IsLeft rule workers steps left → IsFinished rule (reverse (map spans_of left.open_cells.items)) left.known found → boxes ≡ found.closed.items ++ left.closed.items → AreParts (whole_cell rule.axes) (cells_of boxes)
 parts_made rule workers steps left found boxes of end are =
     let node = IsNode (whole_cell rule.axes) in
     let opened = map spans_of left.open_cells.items in
@@ -186,7 +188,7 @@ parts_made rule workers steps left found boxes of end are =
 
 -- what is answered
 
-pub boxes_closed : (rule : Rule) (workers : ℕ) (steps : List Step) (left : Left) (found : Found) → IsLeft rule workers steps left → IsFinished rule (reverse (map spans_of left.open_cells.items)) left.known found → All (λ (b : Closed). IsClosedFor rule (total_of found.best) (spans_of b.cell) b.why) (found.closed.items ++ left.closed.items)
+pub boxes_closed : (rule : Rule) (workers : ℕ) (steps : List Step) (left : Left) (found : Finished) → IsLeft rule workers steps left → IsFinished rule (reverse (map spans_of left.open_cells.items)) left.known found → All (λ (b : Closed). IsClosedFor rule (total_of found.best) (spans_of b.cell) b.why) (found.closed.items ++ left.closed.items)
 boxes_closed rule workers steps left found of end =
     let total = total_of found.best in
     let for : Box → Type 0 = λ box. IsClosedFor rule total box.0 box.1 in
@@ -194,24 +196,24 @@ boxes_closed rule workers steps left found of end =
     let by_steps = all_unmap for box_of left.closed.items (subst (All for) (sym of.closed) (closed_for rule of.state total (left_safe rule workers steps left of) more)) in
     All-append (λ (b : Closed). IsClosedFor rule total (spans_of b.cell) b.why) found.closed.items left.closed.items end.closed by_steps
 
-pub certified : (rule : Rule) (workers : ℕ) (steps : List Step) (left : Left) (found answer : Found) (boxes : List Closed) → IsLeft rule workers steps left → IsFinished rule (reverse (map spans_of left.open_cells.items)) left.known found → boxes ≡ found.closed.items ++ left.closed.items → answer.best ≡ found.best → IsFrontier (whole_cell rule.axes) (cells_of answer.closed.items) → IsPermutation boxes answer.closed.items → IsCertified rule answer
+pub certified : (rule : Rule) (workers : ℕ) (steps : List Step) (left : Left) (found : Finished) (answer : Found) (boxes : List Closed) → IsLeft rule workers steps left → IsFinished rule (reverse (map spans_of left.open_cells.items)) left.known found → boxes ≡ found.closed.items ++ left.closed.items → answer.best ≡ found.best → IsFrontier (whole_cell rule.axes) (cells_of (boxes_in answer.closed)) → IsPermutation boxes (boxes_in answer.closed) → IsCertified rule answer
 certified rule workers steps left found answer boxes of end are best frontier moved =
     let for : Option Best → Closed → Type 0 = λ b box. IsClosedFor rule (total_of b) (spans_of box.cell) box.why in
     let closed = subst (All (for found.best)) (sym are) (boxes_closed rule workers steps left found of end) in
-    certificate_made rule answer.best answer.closed.items (subst (IsSound rule) (sym best) end.sound) frontier
-    (subst (λ (b : Option Best). All (for b) answer.closed.items) (sym best) (All-permutation (for found.best) boxes answer.closed.items moved closed))
+    certificate_made rule answer.best (boxes_in answer.closed) (subst (IsSound rule) (sym best) end.sound) frontier
+    (subst (λ (b : Option Best). All (for b) (boxes_in answer.closed)) (sym best) (All-permutation (for found.best) boxes (boxes_in answer.closed) moved closed))
 
 lies_turned : (cells : List (List (ℕ × ℕ))) (part : List (ℕ × ℕ)) → LiesInOne (reverse cells) part → LiesInOne cells part
 lies_turned cells part lies = (lies.0, Contains-permutation (reverse cells) cells lies.0 (IsPermutation-sym cells (reverse cells) (IsPermutation-reverse cells)) lies.1, lies.2)
 
-pub replay_made : (rule : Rule) (workers : ℕ) (steps : List Step) (left : Left) (found : Found) (boxes : List Closed) (replayed : Replayed) → IsLeft rule workers steps left → IsFinished rule (reverse (map spans_of left.open_cells.items)) left.known found → boxes ≡ found.closed.items ++ left.closed.items → IsPermutation boxes replayed.found.closed.items → replayed.by_steps ≡ length left.closed.items → IsReplay rule workers steps replayed
+pub replay_made : (rule : Rule) (workers : ℕ) (steps : List Step) (left : Left) (found : Finished) (boxes : List Closed) (replayed : Replayed) → IsLeft rule workers steps left → IsFinished rule (reverse (map spans_of left.open_cells.items)) left.known found → boxes ≡ found.closed.items ++ left.closed.items → IsPermutation boxes (boxes_in replayed.found.closed) → replayed.by_steps ≡ length left.closed.items → IsReplay rule workers steps replayed
 replay_made rule workers steps left found boxes replayed of end are moved count =
     let opened = map spans_of left.open_cells.items in
     let finished = map box_of found.closed.items in
     let closed = map box_of left.closed.items in
     let all : map box_of boxes ≡ finished ++ closed = ap (map box_of) are ∙ map-append box_of found.closed.items left.closed.items in
     let joined : IsPermutation (closed ++ finished) (map box_of boxes) = subst (IsPermutation (closed ++ finished)) (sym all) (IsPermutation-append_comm closed finished) in
-    let ordered = IsPermutation-trans (closed ++ finished) (map box_of boxes) (map box_of replayed.found.closed.items) joined (IsPermutation-map box_of boxes replayed.found.closed.items moved) in
+    let ordered = IsPermutation-trans (closed ++ finished) (map box_of boxes) (map box_of (boxes_in replayed.found.closed)) joined (IsPermutation-map box_of boxes (boxes_in replayed.found.closed) moved) in
     let inside = All-weaker (LiesInOne (reverse opened)) (LiesInOne opened) (lies_turned opened) (cells_of found.closed.items) (lie_each (reverse opened) (cells_of found.closed.items) end.parted) in
     let plain = all_unmap (LiesInOne opened) (λ (b : Closed). spans_of b.cell) found.closed.items inside in
     record {
@@ -220,7 +222,7 @@ replay_made rule workers steps left found boxes replayed of end are moved count 
       safe = left_safe rule workers steps left of;
       only = λ other also. runs_one rule steps (start rule workers) other of.state also of.after;
       finished = finished;
-      boxes = subst (λ (cs : List Box). IsPermutation (cs ++ finished) (map box_of replayed.found.closed.items)) of.closed ordered;
+      boxes = subst (λ (cs : List Box). IsPermutation (cs ++ finished) (map box_of (boxes_in replayed.found.closed))) of.closed ordered;
       inside = All-map (λ (box : Box). LiesInOne (open_in of.state) box.0) box_of found.closed.items (subst (λ (cs : List (List (ℕ × ℕ))). All (λ (b : Closed). LiesInOne cs (spans_of b.cell)) found.closed.items) of.open_ plain);
       by_steps = count ∙ sym (length-map left.closed.items box_of) ∙ ap length of.closed;
     }

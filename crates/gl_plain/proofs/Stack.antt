@@ -19,9 +19,8 @@ use Rattle.gl_goal.specs.Rule.{Rule, IsGoal, IsLegal, IsOpen, IsOptimum, IsReach
 use Rattle.gl_goal.specs.Laws.Order.{covered_tuple}
 use Rattle.gl_goal.specs.Certificate.{IsCertificate, IsClaimed, IsClosedFor}
 use Rattle.gl_plain.specs.declared.found.Best.{Best}
-use Rattle.gl_plain.specs.declared.found.Found.{Found}
+use Rattle.gl_plain.specs.declared.search.Finished.{Finished}
 use Rattle.gl_plain.specs.Finished.{IsFinished}
-use Rattle.gl_plain.specs.Found.{AreNeeded, IsCertified}
 use Rattle.gl_plain.specs.Search.{IsNeeded, IsNoLess, IsSound, fixes_of, total_of}
 use Rattle.gl_plain.specs.Verdict.{Promises}
 use Rattle.gl_plain.specs.Steps.{Advances, AreFrontiers, Closes, ClosesFor, Cuts, IsMet, IsUnderWay, in_order}
@@ -245,7 +244,7 @@ certificate_made rule best boxes sound frontier closed = record {
 }
 
 -- where no cell is open any more, the search has come to its end
-pub finished : (rule : Rule) (roots : List (List (ℕ × ℕ))) (known : Option Best) (found : Found) → IsUnderWay rule roots found.best [] found.closed.items → IsNoLess (total_of known) (total_of found.best) → IsFinished rule roots known found
+pub finished : (rule : Rule) (roots : List (List (ℕ × ℕ))) (known : Option Best) (found : Finished) → IsUnderWay rule roots found.best [] found.closed.items → IsNoLess (total_of known) (total_of found.best) → IsFinished rule roots known found
 finished rule roots known found way no_less = record {
   sound = way.sound;
   no_less = no_less;
@@ -264,10 +263,11 @@ none_exactly rule (Some best) optimum = (λ none. absurd (cc), λ illegal. absur
 whole_roots : (rule : Rule) (cells : List Cell) (cell : Cell) → cells ≡ cell ∷ [] → spans_of cell ≡ whole_cell rule.axes → reverse (map spans_of cells) ≡ whole_cell rule.axes ∷ []
 whole_roots rule cells cell one is = ap (λ (cs : List Cell). reverse (map spans_of cs)) one ∙ ap (λ (c : List (ℕ × ℕ)). c ∷ []) is
 
-pub whole_certificate : (rule : Rule) (cells : List Cell) (cell : Cell) (known : Option Best) (found : Found) → cells ≡ cell ∷ [] → spans_of cell ≡ whole_cell rule.axes → IsFinished rule (reverse (map spans_of cells)) known found → IsCertified rule found
-whole_certificate rule cells cell known found one is end =
+pub whole_certificate : (rule : Rule) (cells : List Cell) (cell : Cell) (known : Option Best) (found : Finished) (boxes : List Closed) → cells ≡ cell ∷ [] → spans_of cell ≡ whole_cell rule.axes → IsFinished rule (reverse (map spans_of cells)) known found → boxes ≡ found.closed.items → IsCertificate rule (total_of found.best) (fixes_of rule found.best) (map box_of boxes)
+whole_certificate rule cells cell known found boxes one is end same =
     let parted_ = subst (λ (roots : List (List (ℕ × ℕ))). AreFrontiers roots (map cell_of found.closed.items)) (whole_roots rule cells cell one is) end.parted in
-    certificate_made rule found.best found.closed.items end.sound (one_frontier (whole_cell rule.axes) (map cell_of found.closed.items) parted_) end.closed
+    subst (λ (bs : List Closed). IsCertificate rule (total_of found.best) (fixes_of rule found.best) (map box_of bs)) (sym same)
+    (certificate_made rule found.best found.closed.items end.sound (one_frontier (whole_cell rule.axes) (map cell_of found.closed.items) parted_) end.closed)
 
 only_one : {X : Type 0} (x y : X) → Contains (x ∷ []) y → y ≡ x
 only_one x y (zero, below, is) = sym is
@@ -277,9 +277,10 @@ met_needed : (rule : Rule) (roots : List (List (ℕ × ℕ))) (cell : List (ℕ 
 met_needed rule roots cell one (inl root) = inl (only_one (whole_cell rule.axes) cell (subst (λ (rs : List (List (ℕ × ℕ))). Contains rs cell) one root))
 met_needed rule roots cell one (inr part) = inr part
 
-pub whole_needed : (rule : Rule) (cells : List Cell) (cell : Cell) (known : Option Best) (found : Found) → cells ≡ cell ∷ [] → spans_of cell ≡ whole_cell rule.axes → IsFinished rule (reverse (map spans_of cells)) known found → AreNeeded rule found
-whole_needed rule cells cell known found one is end = λ k d below.
-    met_needed rule (reverse (map spans_of cells)) (spans_of (get_or found.closed.items k d).cell) (whole_roots rule cells cell one is) (end.met k d below)
+pub whole_needed : (rule : Rule) (cells : List Cell) (cell : Cell) (known : Option Best) (found : Finished) (boxes : List Closed) → cells ≡ cell ∷ [] → spans_of cell ≡ whole_cell rule.axes → IsFinished rule (reverse (map spans_of cells)) known found → boxes ≡ found.closed.items → All (λ (box : Closed). IsNeeded rule (spans_of box.cell)) boxes
+whole_needed rule cells cell known found boxes one is end same =
+    subst (All (λ (box : Closed). IsNeeded rule (spans_of box.cell))) (sym same)
+    (λ k d below. met_needed rule (reverse (map spans_of cells)) (spans_of (get_or found.closed.items k d).cell) (whole_roots rule cells cell one is) (end.met k d below))
 
 pub whole_node : (rule : Rule) (cells : List Cell) (cell : Cell) → cells ≡ cell ∷ [] → spans_of cell ≡ whole_cell rule.axes → All (λ (c : Cell). IsNode (whole_cell rule.axes) (spans_of c)) cells
 whole_node rule cells cell one is =

@@ -5,6 +5,7 @@ use Rattle.gl_box.specs.Closed.{box_of}
 use Rattle.gl_box.specs.Frontier.{mult}
 use Rattle.gl_goal.specs.Rule.{Rule, whole_cell}
 use Rattle.gl_goal.specs.Certificate.{IsCertificate}
+use Rattle.gl_walk.specs.InLists.{boxes_in}
 use Rattle.gl_plain.specs.declared.found.Found.{Found}
 use Rattle.gl_plain.specs.Search.{IsNeeded, fixes_of, total_of}
 
@@ -12,13 +13,13 @@ use Rattle.gl_plain.specs.Search.{IsNeeded, fixes_of, total_of}
 abbrev pub IsCertified : Rule → Found → Type 0
 IsCertified rule found =
     IsCertificate rule (total_of found.best) (fixes_of rule found.best)
-    (map box_of found.closed.items)
+    (map box_of (boxes_in found.closed))
 
 -- each box is the whole cell, or a half of a node that had to be cut
 abbrev pub AreNeeded : Rule → Found → Type 0
-AreNeeded rule found = All (λ closed. IsNeeded rule (spans_of closed.cell)) found.closed.items
+AreNeeded rule found = All (λ closed. IsNeeded rule (spans_of closed.cell)) (boxes_in found.closed)
 
 -- each tuple of the whole cell lies in exactly one of its boxes
 abbrev pub HoldsEachOnce : Rule → Found → Type 0
 HoldsEachOnce rule found = (tuple : List ℕ) → Holds (whole_cell rule.axes) tuple
-    → mult (map (λ box. box.0) (map box_of found.closed.items)) tuple ≡ 1
+    → mult (map (λ box. box.0) (map box_of (boxes_in found.closed))) tuple ≡ 1

@@ -4,6 +4,7 @@ use Rattle.gl_box.specs.declared.closed.Why.{Why}
 use Rattle.gl_box.specs.Cell.{spans_of}
 use Rattle.gl_box.specs.Closed.{box_of}
 use Rattle.gl_goal.specs.Rule.{Rule}
+use Rattle.gl_walk.specs.InLists.{boxes_in}
 use Rattle.gl_plain.specs.declared.replayed.Left.{Left}
 use Rattle.gl_plain.specs.declared.replayed.Replayed.{Replayed}
 use Rattle.gl_plain.specs.declared.schedule.Step.{Step}
@@ -33,6 +34,6 @@ pub record IsReplay (rule : Rule) (workers : ℕ) (steps : List Step)
   pub safe : IsSafe rule state
   pub finished : List (List (ℕ × ℕ) × Why)
   pub boxes :
-      IsPermutation (closed_in state ++ finished) (map box_of replayed.found.closed.items)
+      IsPermutation (closed_in state ++ finished) (map box_of (boxes_in replayed.found.closed))
   pub inside : All (λ box. LiesInOne (open_in state) box.0) finished
   pub by_steps : replayed.by_steps ≡ length (closed_in state)

@@ -1,7 +1,8 @@
 ghost use Rattle.std.specs.Prelude.{◌≡◌, ◌⊎◌, ◌↔◌, ◌<◌, IfSome, IsTrue};
 ghost use Rattle.gl_plain.specs.Search.{IsNoLess, total_of};
 
-use gl_box::{Closed, Tuple};
+use gl_box::Tuple;
+use gl_walk::Boxes;
 
 /// The greatest value found, in centimetres, and a legal tuple that is worth it.
 #[derive(Clone, Copy, Debug, PartialEq, Eq)]
@@ -15,7 +16,7 @@ pub struct Best {
 #[derive(Debug, Drop)]
 pub struct Found {
     pub best: Option<Best>,
-    pub closed: Vec<Closed>,
+    pub closed: Boxes,
 }
 
 /// Whether a total is above what was found. Anything is, where nothing was.

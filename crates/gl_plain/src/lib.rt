@@ -19,7 +19,7 @@ mod worker;
 
 pub use error::StepError;
 pub use found::{Best, Found};
-pub use order::{all_boxes, in_order, join_in_order};
+pub use order::{in_order, join_in_order};
 pub use replayed::{Replayed, replay};
 pub use schedule::{Step, read_steps};
 pub use search::search_one;

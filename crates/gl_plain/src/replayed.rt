@@ -13,10 +13,11 @@ use crate::found::{Best, Found, better};
 use crate::machine::Machine;
 use crate::order::in_order;
 use crate::schedule::Step;
-use crate::search::finish;
+use crate::search::{Finished, finish};
 use crate::worker::Worker;
 use gl_box::{Cell, Closed};
 use gl_goal::{Goal, whole};
+use gl_walk::Boxes;
 use std::alloc::{AllocError, Global};
 
 /// What a search by a written order of steps answers.
@@ -130,9 +131,9 @@ pub fn replay<G: Goal>(
 {
     let left = work(alloc, goal, workers, steps)?;
     let by_steps = left.closed.len() as u32;
-    let Found { best, mut closed } = finish(alloc, goal, left.known, left.open_cells)?;
+    let Finished { best, mut closed } = finish(alloc, goal, left.known, left.open_cells)?;
     closed.extend_from_slice(left.closed.as_slice())?;
-    let closed = in_order(alloc, &whole(goal), closed)?;
+    let closed = Boxes::from_list(in_order(alloc, &whole(goal), closed)?);
     Ok(Replayed {
         found: Found { best, closed },
         by_steps,

@@ -12,6 +12,7 @@ use crate::verdict::{Verdict, test};
 use crate::warm::warm_start;
 use gl_box::{Cell, Closed, Why, halve};
 use gl_goal::{Goal, Leg, measured_legs, whole};
+use gl_walk::Boxes;
 use std::alloc::{AllocError, Global};
 
 /// Room for open cells: each cut adds one, and a cell can be cut at most 32 times on each axis.
@@ -19,6 +20,14 @@ const OPEN_ROOM: usize = 512;
 
 /// Room for closed boxes at the start.
 const CLOSED_ROOM: usize = 65_536;
+
+/// What a search from some cells came to: the best of what was known and found, and the boxes to
+/// which the cells gave way.
+#[derive(Debug, Drop)]
+pub(crate) struct Finished {
+    pub(crate) best: Option<Best>,
+    pub(crate) closed: Vec<Closed>,
+}
 
 /// Closes the last open cell. The only error is want of memory.
 #[inline]
@@ -99,7 +108,7 @@ pub(crate) fn finish<G: Goal>(
     goal: &G,
     known: Option<Best>,
     mut cells: Vec<Cell>,
-) -> Result<Found, AllocError>
+) -> Result<Finished, AllocError>
     requires sound { IsSound (G.rule goal.now) known }
     requires nodes { All (λ cell. IsNode (whole_cell (G.rule goal.now).axes) (spans_of cell))
         cells.items }
@@ -112,7 +121,7 @@ pub(crate) fn finish<G: Goal>(
     let mut best = better(known, warm);
     let mut boxes = Vec::with_capacity(alloc, CLOSED_ROOM)?;
     run(goal, &mut best, &mut cells, &mut boxes, legs)?;
-    Ok(Found {
+    Ok(Finished {
         best,
         closed: boxes,
     })
@@ -132,5 +141,9 @@ pub fn search_one<G: Goal>(alloc: Global, goal: &G) -> Result<Found, AllocError>
 {
     let mut cells = Vec::with_capacity(alloc, OPEN_ROOM)?;
     cells.push(whole(goal))?;
-    finish(alloc, goal, None, cells)
+    let Finished { best, closed } = finish(alloc, goal, None, cells)?;
+    Ok(Found {
+        best,
+        closed: Boxes::from_list(closed),
+    })
 }

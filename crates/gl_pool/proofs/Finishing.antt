@@ -18,7 +18,7 @@ use Rattle.gl_pool.specs.Parts.{ArePartedInto}
 use Rattle.gl_pool.specs.Taken.{duty_of, ends_of, stolen_weight, taken_weight}
 use Rattle.gl_pool.specs.Tally.{Turns}
 use Rattle.gl_pool.proofs.Together.{worked_both}
-use Rattle.gl_pool.specs.Pile.{boxes_in}
+use Rattle.gl_walk.specs.InLists.{boxes_in}
 
 -- the first places are worked at
 pub record Finishing (rule : Rule) (before places : List Place) (tally tally_now : Tally) (count : ℕ) : Type 0 where

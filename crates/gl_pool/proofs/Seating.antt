@@ -21,7 +21,7 @@ use Rattle.gl_pool.specs.declared.tally.Tally.{Tally}
 use Rattle.gl_pool.specs.Crew.{AreSeated, times_seated}
 use Rattle.gl_pool.specs.Kept.{seen_by}
 use Rattle.gl_pool.specs.Tally.{IsTally, word_of}
-use Rattle.gl_pool.specs.Pile.{boxes_in}
+use Rattle.gl_walk.specs.InLists.{boxes_in}
 
 -- a worker with a seat that is shared, who has found and closed nothing
 pub record IsFresh (word : BestWord) (worker : Worker) : Type 0 where

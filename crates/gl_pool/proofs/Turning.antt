@@ -21,7 +21,7 @@ use Rattle.gl_pool.specs.Parts.{ArePartedInto, IsFromTaken, IsPartOfTaken, IsStr
 use Rattle.gl_pool.specs.Taken.{Moves, taken_weight}
 use Rattle.gl_pool.specs.Tally.{IsTally}
 use Rattle.gl_pool.proofs.Together.{worked_both}
-use Rattle.gl_pool.specs.Pile.{boxes_in}
+use Rattle.gl_walk.specs.InLists.{boxes_in}
 
 -- each worker of a list has turned into that of another
 pub TurnedAll : Rule → BestWord → List Worker → List Worker → Type 0

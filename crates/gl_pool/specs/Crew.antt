@@ -14,7 +14,7 @@ use Rattle.gl_pool.specs.declared.tally.Tally.{Tally}
 use Rattle.gl_pool.specs.Parts.{ArePartedInto}
 use Rattle.gl_pool.specs.Taken.{duty_of, ends_of, taken_weight}
 use Rattle.gl_pool.specs.Tally.{IsTally, Turns}
-use Rattle.gl_pool.specs.Pile.{boxes_in}
+use Rattle.gl_walk.specs.InLists.{boxes_in}
 
 -- what stays of a place while its worker works
 pub record Post : Type 0 where

@@ -1,4 +1,3 @@
-pub mod Pile
 pub mod Taken
 pub mod Parts
 pub mod Kept

@@ -12,7 +12,7 @@ use Rattle.gl_pool.specs.Crew.{got_weight, put_weight}
 use Rattle.gl_pool.specs.Parts.{ArePartedInto}
 use Rattle.gl_pool.specs.Settle.{StandReady, place_at}
 use Rattle.gl_pool.specs.Taken.{ends_of}
-use Rattle.gl_pool.specs.Pile.{boxes_in}
+use Rattle.gl_walk.specs.InLists.{boxes_in}
 
 -- two lists of cells weigh the same, however cells are weighed
 pub record WeighSame (cells others : List Cell) : Type 0 where

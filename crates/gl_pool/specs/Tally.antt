@@ -14,7 +14,7 @@ use Rattle.gl_pool.specs.declared.tally.Tally.{Tally}
 use Rattle.gl_pool.specs.Kept.{AreClosedFor}
 use Rattle.gl_pool.specs.Parts.{ArePartedInto}
 use Rattle.gl_pool.specs.Taken.{Moves}
-use Rattle.gl_pool.specs.Pile.{boxes_in}
+use Rattle.gl_walk.specs.InLists.{boxes_in}
 
 -- the word that says what was found: 0 for nothing, else the total plus one
 abbrev pub word_of : Option Best → ℕ

@@ -1,15 +1,15 @@
 ghost use Rattle.std.specs.Prelude.{◌≡◌, ◌≤◌, ◌<◌, [], All, IfOk, OnOk, length, map};
 ghost use Rattle.gl_best.specs.Seats.{IsSeatOf, view_of};
 ghost use Rattle.gl_pool.specs.Tally.{IsTally};
-ghost use Rattle.gl_pool.specs.Pile.{boxes_in};
+ghost use Rattle.gl_walk.specs.InLists.{boxes_in};
 ghost use Rattle.gl_pool.specs.Crew.{AreSeated, Collects, HasTurned, WorkedAll, has_seat};
 
 use crate::gate::Gate;
-use crate::pile::Pile;
 use crate::tally::{Tally, gather, take_turn};
 use gl_best::BestWord;
 use gl_deal::Place;
 use gl_goal::Goal;
+use gl_walk::Boxes;
 use std::alloc::{AllocError, Global};
 use std::sync::Wait;
 use std::thread::{self, Threads};
@@ -44,7 +44,7 @@ fn seated(
         let shared = Tally {
             seat: word.share(&mut tally.seat),
             best: None,
-            closed: Pile::empty(alloc),
+            closed: Boxes::empty(alloc),
         };
         workers.push(Worker {
             number: workers.len() as u32,

@@ -6,7 +6,6 @@ mod bench;
 mod crew;
 mod gate;
 mod many;
-mod pile;
 mod settle;
 mod share;
 mod step;

@@ -4,18 +4,18 @@ ghost use Rattle.gl_best.specs.Seats.{HasAll, IsSeatOf, view_of};
 ghost use Rattle.gl_plain.specs.Answer.{IsAnswer};
 ghost use Rattle.gl_plain.specs.Search.{IsSound};
 ghost use Rattle.gl_pool.specs.Many.{ComesToAll, IsDealt, IsLeft};
-ghost use Rattle.gl_pool.specs.Pile.{boxes_in};
+ghost use Rattle.gl_walk.specs.InLists.{boxes_in};
 ghost use Rattle.gl_pool.specs.Tally.{IsTally};
 
 use crate::crew::work_all;
 use crate::gate::{Gate, OpenGate};
-use crate::pile::Pile;
 use crate::settle::settle_all;
 use crate::tally::{Tally, take_turn};
 use gl_best::{BestWord, Seat};
 use gl_deal::{Place, deal};
 use gl_goal::{Goal, measured_legs, whole};
 use gl_plain::{Best, Found, join_in_order, search_one, warm_start};
+use gl_walk::Boxes;
 use std::alloc::{AllocError, Global};
 use std::sync::Wait;
 use std::thread::Threads;
@@ -67,7 +67,7 @@ fn first_tally<G: Goal>(
     Tally {
         seat,
         best,
-        closed: Pile::empty(alloc),
+        closed: Boxes::empty(alloc),
     }
 }
 

@@ -1,9 +1,9 @@
 ghost use Rattle.std.specs.Prelude.{◌≡◌, [], None};
-ghost use Rattle.gl_pool.specs.Pile.{boxes_in};
+ghost use Rattle.gl_walk.specs.InLists.{boxes_in};
 
-use crate::pile::Pile;
 use gl_box::{Cell, Closed};
 use gl_plain::Best;
+use gl_walk::Boxes;
 use std::alloc::Global;
 
 /// What one worker has to show for a call: the best tuple that it kept, if it kept one; the cells
@@ -15,11 +15,11 @@ pub struct Share {
     pub strange: Vec<Cell>,
 }
 
-/// The same, with the closed cells on a pile.
+/// The same, with the closed cells as several lists.
 #[derive(Drop)]
 pub(crate) struct Haul {
     pub(crate) kept: Option<Best>,
-    pub(crate) closed: Pile,
+    pub(crate) closed: Boxes,
     pub(crate) strange: Vec<Cell>,
 }
 
@@ -32,7 +32,7 @@ impl Haul {
     {
         Haul {
             kept: None,
-            closed: Pile::empty(alloc),
+            closed: Boxes::empty(alloc),
             strange: Vec::new(alloc),
         }
     }

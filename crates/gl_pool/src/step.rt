@@ -4,17 +4,17 @@ ghost use Rattle.gl_plain.specs.Steps.{Closes};
 ghost use Rattle.gl_best.specs.declared.word.BestWord.{BestWord};
 ghost use Rattle.gl_best.specs.declared.word.Seat.{Seat};
 ghost use Rattle.gl_deal.specs.declared.place.Place.{Place};
-ghost use Rattle.gl_pool.specs.Pile.{boxes_in};
+ghost use Rattle.gl_walk.specs.InLists.{boxes_in};
 ghost use Rattle.gl_pool.specs.Taken.{Moves};
 ghost use Rattle.gl_pool.specs.UnderWay.{GoesOn, IsAtWork, Steps};
 
 use crate::bench::Bench;
-use crate::pile::Pile;
 use gl_best::{BestWord, Seat};
 use gl_box::{Cell, Closed, Why, covers, halve};
 use gl_deal::Place;
 use gl_goal::{Goal, whole};
 use gl_plain::{Best, Verdict, test_for};
+use gl_walk::Boxes;
 use std::alloc::AllocError;
 use std::sync::Wait;
 
@@ -26,7 +26,7 @@ const KEPT_CELLS: usize = 1;
 
 /// Closes the last cell. The only error is want of memory.
 #[inline]
-fn close(cells: &mut Vec<Cell>, closed: &mut Pile, why: Why) -> Result<(), AllocError>
+fn close(cells: &mut Vec<Cell>, closed: &mut Boxes, why: Why) -> Result<(), AllocError>
     requires { 0 < vec_len cells.old }
     ensures { OnOk result
         (Closes cells.old.items cells.new.items (boxes_in closed.old) (boxes_in closed.new) why) }

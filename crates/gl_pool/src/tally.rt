@@ -3,13 +3,13 @@ ghost use Rattle.gl_best.specs.Seats.{IsSeatOf};
 ghost use Rattle.gl_pool.specs.Tally.{Gathers, IsGreater, IsTally, Turns};
 
 use crate::gate::Gate;
-use crate::pile::Pile;
 use crate::share::Haul;
 use crate::worker::work_on;
 use gl_best::{BestWord, Seat};
 use gl_deal::Place;
 use gl_goal::Goal;
 use gl_plain::Best;
+use gl_walk::Boxes;
 use std::alloc::{AllocError, Global};
 use std::sync::Wait;
 use std::thread::Threads;
@@ -19,7 +19,7 @@ use std::thread::Threads;
 pub(crate) struct Tally {
     pub(crate) seat: Seat,
     pub(crate) best: Option<Best>,
-    pub(crate) closed: Pile,
+    pub(crate) closed: Boxes,
 }
 
 /// The one that is worth more.

@@ -1,6 +1,6 @@
 ghost use Rattle.std.specs.Prelude.{◌≡◌, [], None, IfOk};
 ghost use Rattle.gl_best.specs.Seats.{IsSeatOf};
-ghost use Rattle.gl_pool.specs.Pile.{boxes_in};
+ghost use Rattle.gl_walk.specs.InLists.{boxes_in};
 ghost use Rattle.gl_pool.specs.Work.{HasHauled, HasWorked};
 
 use crate::bench::Bench;
@@ -11,7 +11,6 @@ use crate::taking::next_cell;
 use gl_best::{BestWord, Seat};
 use gl_deal::Place;
 use gl_goal::{Goal, measured_legs};
-use gl_plain::all_boxes;
 use std::alloc::{AllocError, Global};
 use std::sync::Wait;
 use std::thread::Threads;
@@ -95,7 +94,7 @@ pub fn work<Rt: Threads + Wait + Sync, G: Goal, K: Gate>(
     } = work_on(rt, alloc, goal, place, word, seat)?;
     Ok(Share {
         kept,
-        closed: all_boxes(alloc, closed.into_lists()?)?,
+        closed: closed.into_list()?,
         strange,
     })
 }

@@ -3,6 +3,7 @@ use Rattle.std.specs.Prelude.{◌≡◌, ℕ, ◌^◌, ◌<◌, ◌≤◌, IsTru
 use Rattle.std.specs.List.{flat_map}
 use Rattle.gl_box.specs.declared.closed.Why.{Why}
 use Rattle.gl_box.specs.Closed.{box_of}
+use Rattle.gl_walk.specs.InLists.{boxes_in}
 use Rattle.gl_proof.specs.declared.claim.ClaimKind.{ClaimKind}
 use Rattle.gl_proof.specs.declared.claim.Claim.{Claim}
 use Rattle.gl_proof.specs.Number.{is_number}
@@ -24,7 +25,7 @@ statement_of claim = record {
   kind = claim.kind;
   total = claim.total;
   fixes = claim.fixes.items;
-  boxes = map box_of claim.cells.items;
+  boxes = map box_of (boxes_in claim.cells);
 }
 
 -- a claim that can be written: the number is an entrant's, and a total has at most 10 fixes

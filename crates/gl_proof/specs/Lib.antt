@@ -12,3 +12,4 @@ pub use Rattle.gl_lines.specs.Grammar
 pub use Rattle.gl_lines.specs.Kept
 pub use Rattle.gl_lines.specs.Misfit
 pub use Rattle.gl_lines.specs.Words
+pub use Rattle.gl_walk.specs.InLists

@@ -1,7 +1,7 @@
 ghost use Rattle.std.specs.Prelude.{◌≡◌, ◌↔◌, IsNone, length};
 
-use gl_box::Closed;
 use gl_desk::Name;
+use gl_walk::Boxes;
 
 /// What is the greatest of a flight.
 #[derive(Clone, Copy, Debug, PartialEq, Eq)]
@@ -30,6 +30,6 @@ pub struct Claim {
     /// total.
     pub fixes: Vec<u32>,
     /// The boxes in the order of the split tree, the lower half first.
-    pub cells: Vec<Closed>,
+    pub cells: Boxes,
     pub ghost named: { IsNone total ↔ (length fixes.items ≡ 0) },
 }

@@ -10,6 +10,7 @@ use crate::line::{add_box_at, claim_line_at, fixes_at};
 use gl_box::Closed;
 use gl_desk::Name;
 use gl_lines::{ProofError, behind, later, misfit};
+use gl_walk::Boxes;
 use std::alloc::{AllocError, Global};
 use std::str::from_utf8;
 
@@ -93,7 +94,7 @@ pub fn claim_at(alloc: Global, text: &[u8], line: u32) -> Result<(Claim, &[u8], 
         kind: front.kind,
         total: front.total,
         fixes,
-        cells,
+        cells: Boxes::from_list(cells),
     };
     Ok((claim, rest, next))
 }

@@ -59,7 +59,10 @@ fn add_spans_at<'a>(
 ) -> Result<Option<&'a [u8]>, AllocError>
     ensures { IfOk result (Adds (AreSpansAt text.now) why cells.old.items cells.new.items) }
 {
-    let mut spans = [Span { lo: 0, hi: 0 }; MOST_AXES];
+    let mut cell = Cell {
+        axes: MOST_AXES as u8,
+        spans: [Span { lo: 0, hi: 0 }; MOST_AXES],
+    };
     let mut axes = 0;
     let mut rest = text;
     'axes: while let Some(word) = behind(rest, b" ") {
@@ -69,7 +72,7 @@ fn add_spans_at<'a>(
         let Some((span, after)) = span_at(word) else {
             return Ok(None);
         };
-        spans[axes] = span;
+        cell.spans[axes] = span;
         axes += 1;
         rest = after;
     }
@@ -79,8 +82,7 @@ fn add_spans_at<'a>(
     if axes == 0 {
         return Ok(None);
     }
-    let axes = axes as u8;
-    let cell = Cell { axes, spans };
+    cell.axes = axes as u8;
     add_box(cells, Closed { cell, why })?;
     Ok(Some(after))
 }

@@ -121,6 +121,18 @@ pub fn write_front(out: &mut Vec<u8>, claim: &Claim) -> Result<(), AllocError>
     }
 }
 
+/// Appends the lines of the boxes of lists that follow one another.
+fn push_lists(out: &mut Vec<u8>, lists: &[Vec<Closed>]) -> Result<(), AllocError>
+    ensures ok { OnOk result (out.new.items ≡ out.old.items
+        ++ spelled (map box_line (map box_of (flat_map (λ list. list.items) lists.now)))) }
+    ensures err { OnErr result (Keeps out.old.items out.new.items) }
+{
+    for list in lists {
+        write_boxes(out, list.as_slice())?;
+    }
+    Ok(())
+}
+
 /// Appends the lines of a claim.
 fn push_claim(out: &mut Vec<u8>, claim: &Claim) -> Result<(), AllocError>
     ensures ok { OnOk result
@@ -128,7 +140,8 @@ fn push_claim(out: &mut Vec<u8>, claim: &Claim) -> Result<(), AllocError>
     ensures err { OnErr result (Keeps out.old.items out.new.items) }
 {
     write_front(out, claim)?;
-    write_boxes(out, claim.cells.as_slice())
+    push_lists(out, claim.cells.lists.as_slice())?;
+    write_boxes(out, claim.cells.last.as_slice())
 }
 
 /// Appends just the lines of a claim, as docs/proof-file.md has them. The only error is want of

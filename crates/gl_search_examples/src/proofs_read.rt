@@ -1,6 +1,7 @@
 use gl_box::{Cell, Closed, Tuple, Why};
 use gl_desk::Name;
 use gl_proof::*;
+use gl_walk::Boxes;
 use std::alloc::Global;
 use std::test::Fail;
 
@@ -167,6 +168,14 @@ fn lines_that_may_not_stand(rt: HostRuntime) -> Result<(), Fail> {
     Ok(())
 }
 
+/// The box of the first place on a single axis.
+fn first_box() -> Closed {
+    Closed {
+        cell: Cell::point(&Tuple::first(1)),
+        why: Why::Bound,
+    }
+}
+
 #[test]
 fn a_claim_is_written(rt: HostRuntime) -> Result<(), Fail> {
     let claim = Claim {
@@ -174,15 +183,32 @@ fn a_claim_is_written(rt: HostRuntime) -> Result<(), Fail> {
         kind: ClaimKind::Out,
         total: Some(11_119_492),
         fixes: [2].to_vec(rt.alloc())?,
-        cells: [Closed {
-            cell: Cell::point(&Tuple::first(1)),
-            why: Why::Bound,
-        }]
-        .to_vec(rt.alloc())?,
+        cells: Boxes::from_list([first_box()].to_vec(rt.alloc())?),
     };
     let mut text = b"GLIDEPROOF 2\n".to_vec(rt.alloc())?;
     write_claim(&mut text, &claim)?;
     text.extend_from_slice(b"END\n")?;
     assert_eq!(rt; text.as_slice(), PROOF);
+    Ok(())
+}
+
+#[test]
+fn boxes_of_several_lists_are_written_one_after_the_other(rt: HostRuntime) -> Result<(), Fail> {
+    let mut cells = Boxes::empty(rt.alloc());
+    for apart in [false, true, true] {
+        cells.begin_if(apart)?;
+        cells.push(first_box())?;
+    }
+    let claim = Claim {
+        number: Name::from_text(rt.alloc(), "CC")?,
+        kind: ClaimKind::Out,
+        total: None,
+        fixes: Vec::new(rt.alloc()),
+        cells,
+    };
+    let mut text = Vec::new(rt.alloc());
+    write_claim(&mut text, &claim)?;
+    let lines: &[u8] = b"CLAIM CC OUT NONE\nBOX B 0-0\nBOX B 0-0\nBOX B 0-0\n";
+    assert_eq!(rt; text.as_slice(), lines);
     Ok(())
 }

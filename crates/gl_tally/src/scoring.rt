@@ -1,4 +1,5 @@
 ghost use Rattle.std.specs.Prelude.{◌≡◌, ◌⊎◌, ℕ, List, [], Option, Some, Contains, IfErr, IfOk, IsTrue, OnOk, length, map};
+ghost use Rattle.std.specs.List.{flat_map};
 ghost use Rattle.gl_desk.specs.Desk.{ListsNames};
 ghost use Rattle.gl_box.specs.Closed.{box_of};
 ghost use Rattle.gl_proof.specs.Claim.{box_line, claim_text, front_text, spelled, statement_of};
@@ -55,6 +56,27 @@ fn append_boxes<D: Desk>(
     Ok(())
 }
 
+/// Appends the lines of the boxes of lists that follow one another. After an error a first part of
+/// them was appended.
+fn append_lists<D: Desk>(
+    alloc: Global,
+    desk: &mut D,
+    proof: &Name,
+    lists: &[Vec<Closed>],
+) -> Result<(), DeskError>
+    ensures appended { OnOk result (HasAppended proof.now
+        (spelled (map box_line (map box_of (flat_map (λ list. list.items) lists.now))))
+        (D.told desk.old) (D.told desk.new)) }
+    ensures stopped { IfErr result (HasAppendedPart proof.now
+        (spelled (map box_line (map box_of (flat_map (λ list. list.items) lists.now))))
+        (D.told desk.old) (D.told desk.new)) }
+{
+    for list in lists {
+        append_boxes(alloc, desk, proof, list.as_slice())?;
+    }
+    Ok(())
+}
+
 /// Appends the lines of a claim that stand before its boxes. After an error a first part of them was
 /// appended.
 fn append_front<D: Desk>(
@@ -86,7 +108,8 @@ pub fn append_claim<D: Desk>(
         (claim_text (statement_of claim.now)) (D.told desk.old) (D.told desk.new)) }
 {
     append_front(alloc, desk, proof, claim)?;
-    append_boxes(alloc, desk, proof, claim.cells.as_slice())
+    append_lists(alloc, desk, proof, claim.cells.lists.as_slice())?;
+    append_boxes(alloc, desk, proof, claim.cells.last.as_slice())
 }
 
 /// Proves the claims of a flight, one after the other, and appends the lines of each to the proof.

@@ -1,3 +1,4 @@
 pub mod Exact
 pub mod Frontiers
 pub mod Passed
+pub mod Several

@@ -9,7 +9,7 @@ use Rattle.gl_box.specs.Frontier.{IsFrontier}
 use Rattle.gl_walk.specs.declared.passage.Walked.{Walked}
 use Rattle.gl_walk.specs.declared.passage.WalkEnd.{WalkEnd}
 use Rattle.gl_walk.specs.declared.passage.WalkEnd.TheVariants.{Whole, Extra, Place, Open}
-use Rattle.gl_walk.specs.Boxes.{AreRight, AreWhole, BeginWhole, Begins, EndsAt, IsEnd, IsFirst, IsPlaced, IsRight, IsSaid, NumbersBox, Said, NoneWrong, ExtraBox, StrayBox, UnclosedBox, Unfinished}
+use Rattle.gl_walk.specs.Boxes.{AreRight, AreWhole, BeginWhole, Begins, EndsAt, IsEnd, IsSaid, NumbersBox, Said, NoneWrong, ExtraBox, StrayBox, UnclosedBox, Unfinished}
 use Rattle.gl_walk.specs.Walk.{AreFrontiers, IsWalked, open_cells}
 use Rattle.gl_walk.proofs.Frontiers.{covers_begun, length-open_cells, walked_on}
 

@@ -3,8 +3,12 @@
 #![tactic(auto)]
 
 mod boxed;
+mod cut;
+mod lists;
 mod passage;
 mod walk;
 
 pub use boxed::Boxed;
+pub use lists::{Boxes, all_boxes};
 pub use passage::{WalkEnd, Walked, number_of, walk_along};
+pub use walk::go_down;

@@ -4,12 +4,9 @@ ghost use Rattle.gl_walk.specs.Boxes.{EndsAt, NumbersBox};
 ghost use Rattle.gl_walk.specs.Walk.{IsWalked, open_cells};
 
 use crate::boxed::Boxed;
-use crate::walk::go_down;
+use crate::walk::{OPEN_ROOM, go_down};
 use gl_box::Cell;
 use std::alloc::{AllocError, Global};
-
-/// Room for open cells: each cut adds one, and a cell can be cut at most 32 times on each axis.
-const OPEN_ROOM: usize = 512;
 
 /// Why a walk goes no further.
 #[derive(Clone, Copy, Debug, PartialEq, Eq)]

@@ -1,20 +1,55 @@
-ghost use Rattle.std.specs.Prelude.{◌≡◌, ◌↔◌, ℕ, List, ◌∷◌, false, IfOk, IsTrue};
+ghost use Rattle.std.specs.Prelude.{◌≡◌, ◌↔◌, ◌<◌, ℕ, List, ◌∷◌, ◌++◌, false, map, IfOk, IsTrue};
 ghost use Rattle.gl_box.specs.Cell.{spans_of};
+ghost use Rattle.gl_box.specs.Halves.{span_at};
 ghost use Rattle.gl_walk.specs.Walk.{AreFrontiers, open_cells};
 
-use gl_box::{Cell, covers, halve};
+use crate::cut::{halve_at, widest};
+use gl_box::{Cell, Closed};
 use std::alloc::AllocError;
 
-/// Whether two cells have the same axes and spans.
-fn is_same(cell: &Cell, other: &Cell) -> bool
+/// Room for open cells: each cut adds one, and a cell can be cut at most 32 times on each axis.
+pub(crate) const OPEN_ROOM: usize = 512;
+
+/// Whether two cells have the same span on an axis.
+#[inline]
+fn is_same_at(cell: &Cell, other: &Cell, axis: usize) -> bool
+    requires one { axis < cell.now.axes }
+    requires two { axis < other.now.axes }
+    ensures { IsTrue result
+        ↔ (span_at (spans_of cell.now) axis ≡ span_at (spans_of other.now) axis) }
+{
+    let span = cell.spans[axis];
+    let next = other.spans[axis];
+    span.hi == next.hi && span.lo == next.lo
+}
+
+/// Whether two cells have the same axes and spans. On the axis that is given they are looked at
+/// first.
+#[inline]
+fn is_same(cell: &Cell, other: &Cell, first: usize) -> bool
+    requires { first < cell.now.axes }
     ensures { IsTrue result ↔ (spans_of cell.now ≡ spans_of other.now) }
 {
-    covers(cell, other) && covers(other, cell)
+    if cell.axes != other.axes {
+        return false;
+    }
+    if !is_same_at(cell, other, first) {
+        return false;
+    }
+    for axis in 0..cell.axes as usize {
+        if !is_same_at(cell, other, axis) {
+            return false;
+        }
+    }
+    true
 }
 
 /// Goes down from the first open cell to a cell, over lower halves alone, and takes it from the
 /// open ones; the upper halves on the way stay open. Answers whether the cell is there; if not, the
 /// open cells serve for nothing any more. The only error is want of memory.
+///
+/// On the way the cells are compared on the axis of the next cut alone, on which they differ first.
+#[inline]
 pub fn go_down(opened: &mut Vec<Cell>, cell: &Cell) -> Result<bool, AllocError>
     ensures there { IfOk result (λ there. IsTrue there → (more : List (List (ℕ × ℕ)))
         → AreFrontiers (open_cells opened.old.items) (spans_of cell.now ∷ more)
@@ -25,12 +60,35 @@ pub fn go_down(opened: &mut Vec<Cell>, cell: &Cell) -> Result<bool, AllocError>
     let Some(mut first) = opened.pop() else {
         return Ok(false);
     };
-    'halves: while !is_same(&first, cell) {
-        let Some(lower) = halve(&mut first) else {
+    let mut axis = widest(&first);
+    'halves: while !is_same(&first, cell, axis) {
+        let Some(upper) = halve_at(&mut first, axis) else {
             return Ok(false);
         };
-        opened.push(first)?;
-        first = lower;
+        if cell.spans[axis].hi > first.spans[axis].hi {
+            return Ok(false);
+        }
+        opened.push(upper)?;
+        axis = widest(&first);
+    }
+    Ok(true)
+}
+
+/// Goes down to each of some boxes, one after the other. Answers whether all of them are there; if
+/// not, the open cells serve for nothing any more. The only error is want of memory.
+pub fn go_along(opened: &mut Vec<Cell>, boxes: &[Closed]) -> Result<bool, AllocError>
+    ensures there { IfOk result (λ there. IsTrue there → (more : List (List (ℕ × ℕ)))
+        → AreFrontiers (open_cells opened.old.items)
+        (map (λ box. spans_of box.cell) boxes.now ++ more)
+        ↔ AreFrontiers (open_cells opened.new.items) more) }
+    ensures absent { IfOk result (λ there. (there ≡ false) → (more : List (List (ℕ × ℕ)))
+        → AreFrontiers (open_cells opened.old.items)
+        (map (λ box. spans_of box.cell) boxes.now ++ more) → ⊥) }
+{
+    for next in boxes {
+        if !go_down(opened, &next.cell)? {
+            return Ok(false);
+        }
     }
     Ok(true)
 }

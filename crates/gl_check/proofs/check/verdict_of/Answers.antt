@@ -1,7 +1,7 @@
 use Rattle.std.proofs.Common.{refl, subst, ℕ, List, map}
 use Rattle.std.proofs.lemmas.Result.{IfOk-weaker}
-use Rattle.gl_box.specs.declared.closed.Closed.{Closed}
 use Rattle.gl_box.specs.Closed.{box_of}
+use Rattle.gl_walk.specs.InLists.{boxes_in}
 use Rattle.gl_goal.specs.Certificate.{IsClaimed}
 use Rattle.gl_check.specs.Verdict.{IsVerdict}
 use Rattle.gl_check.proofs.check.verdict_of.Goals as goal
@@ -10,7 +10,7 @@ pub returns-in-Some : goal.returns-in-Some
 returns-in-Some g c =
     let claim = c.args.claim.now in
     let rule = g.G.Goal.rule c.args.goal.now in
-    let boxes = map box_of claim.cells.items in
+    let boxes = map box_of (boxes_in claim.cells) in
     subst (λ (fixes : List ℕ). IsVerdict rule claim.total fixes boxes c.in-Some.verdict) c.as_slice.ensures.value (c.in-Some.ensures.fault boxes)
 
 pub returns : goal.returns
@@ -18,6 +18,4 @@ returns g c =
     let claim = c.args.claim.now in
     let rule = g.G.Goal.rule c.args.goal.now in
     let claimed = subst (IsClaimed rule claim.total) c.as_slice.ensures.value (c.in_default.ensures.none refl) in
-    IfOk-weaker c.check_boxes.result _ _
-    (λ verdict said. subst (λ (cells : List Closed). IsVerdict rule claim.total claim.fixes.items (map box_of cells) verdict) c.as_slice-2.ensures.value (said claim.fixes.items claimed))
-    c.check_boxes.ensures
+    IfOk-weaker c.check_lists.result _ _ (λ verdict said. said claim.fixes.items claimed) c.check_lists.ensures

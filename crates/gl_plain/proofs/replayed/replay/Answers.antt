@@ -1,10 +1,12 @@
 use Rattle.std.proofs.Common.{◌≡◌, ◌∙◌, refl, sym, ap, subst, ℕ, List, ◌++◌, length, map, arith}
+use Rattle.std.specs.List.Sorted.{IsPermutation}
 use Rattle.gl_box.specs.declared.closed.Closed.{Closed}
 use Rattle.gl_box.specs.Closed.{box_of}
 use Rattle.gl_box.specs.Frontier.{IsFrontier}
 use Rattle.gl_box.specs.Laws.Parts.{mult-held}
 use Rattle.gl_goal.specs.Rule.{whole_cell}
 use Rattle.gl_goal.specs.Laws.Optimum.{certificate_optimum}
+use Rattle.gl_walk.specs.InLists.{boxes_in}
 use Rattle.gl_plain.specs.declared.found.Found.{Found}
 use Rattle.gl_plain.specs.declared.replayed.Replayed.{Replayed}
 use Rattle.gl_plain.specs.Order.{AreParts, cells_of}
@@ -36,9 +38,12 @@ returns-clause-certificate g c =
     let found = c.in_ok-best.field-0 in
     let boxes = c.extend_from_slice.new.self.items in
     let are : boxes ≡ found.closed.items ++ left.closed.items = c.in_ok-extend_from_slice.ensures.items ∙ ap (λ (more : List Closed). found.closed.items ++ more) c.as_slice.ensures.value in
-    let answer : Found = record { best = found.best; closed = c.in_ok-closed.closed } in
-    let frontier = subst (λ (cell : List (ℕ × ℕ)). IsFrontier cell (cells_of answer.closed.items)) c.whole.ensures c.in_ok-closed.ensures.frontier in
-    let certificate = certified rule c.args.workers c.args.steps.now left found answer boxes c.in_ok-left.ensures c.in_ok-best.ensures are refl frontier c.in_ok-closed.ensures.permutation in
+    let answer : Found = record { best = found.best; closed = c.from_list-closed.result } in
+    let same = sym c.from_list-closed.ensures in
+    let whole = subst (λ (cell : List (ℕ × ℕ)). IsFrontier cell (cells_of c.in_ok-in_order.field-0.items)) c.whole.ensures c.in_ok-in_order.ensures.frontier in
+    let frontier = subst (λ (ordered : List Closed). IsFrontier (whole_cell rule.axes) (cells_of ordered)) same whole in
+    let moved = subst (IsPermutation boxes) same c.in_ok-in_order.ensures.permutation in
+    let certificate = certified rule c.args.workers c.args.steps.now left found answer boxes c.in_ok-left.ensures c.in_ok-best.ensures are refl frontier moved in
     certificate
 
 pub returns-clause-once : goal.returns-clause-once
@@ -48,10 +53,13 @@ returns-clause-once g c tuple held =
     let found = c.in_ok-best.field-0 in
     let boxes = c.extend_from_slice.new.self.items in
     let are : boxes ≡ found.closed.items ++ left.closed.items = c.in_ok-extend_from_slice.ensures.items ∙ ap (λ (more : List Closed). found.closed.items ++ more) c.as_slice.ensures.value in
-    let answer : Found = record { best = found.best; closed = c.in_ok-closed.closed } in
-    let frontier = subst (λ (cell : List (ℕ × ℕ)). IsFrontier cell (cells_of answer.closed.items)) c.whole.ensures c.in_ok-closed.ensures.frontier in
-    let certificate = certified rule c.args.workers c.args.steps.now left found answer boxes c.in_ok-left.ensures c.in_ok-best.ensures are refl frontier c.in_ok-closed.ensures.permutation in
-    mult-held (whole_cell rule.axes) (map (λ box. box.0) (map box_of answer.closed.items)) tuple certificate.frontier held
+    let answer : Found = record { best = found.best; closed = c.from_list-closed.result } in
+    let same = sym c.from_list-closed.ensures in
+    let whole = subst (λ (cell : List (ℕ × ℕ)). IsFrontier cell (cells_of c.in_ok-in_order.field-0.items)) c.whole.ensures c.in_ok-in_order.ensures.frontier in
+    let frontier = subst (λ (ordered : List Closed). IsFrontier (whole_cell rule.axes) (cells_of ordered)) same whole in
+    let moved = subst (IsPermutation boxes) same c.in_ok-in_order.ensures.permutation in
+    let certificate = certified rule c.args.workers c.args.steps.now left found answer boxes c.in_ok-left.ensures c.in_ok-best.ensures are refl frontier moved in
+    mult-held (whole_cell rule.axes) (map (λ box. box.0) (map box_of (boxes_in answer.closed))) tuple certificate.frontier held
 
 pub returns-clause-optimum : goal.returns-clause-optimum
 returns-clause-optimum g c =
@@ -60,9 +68,12 @@ returns-clause-optimum g c =
     let found = c.in_ok-best.field-0 in
     let boxes = c.extend_from_slice.new.self.items in
     let are : boxes ≡ found.closed.items ++ left.closed.items = c.in_ok-extend_from_slice.ensures.items ∙ ap (λ (more : List Closed). found.closed.items ++ more) c.as_slice.ensures.value in
-    let answer : Found = record { best = found.best; closed = c.in_ok-closed.closed } in
-    let frontier = subst (λ (cell : List (ℕ × ℕ)). IsFrontier cell (cells_of answer.closed.items)) c.whole.ensures c.in_ok-closed.ensures.frontier in
-    let certificate = certified rule c.args.workers c.args.steps.now left found answer boxes c.in_ok-left.ensures c.in_ok-best.ensures are refl frontier c.in_ok-closed.ensures.permutation in
+    let answer : Found = record { best = found.best; closed = c.from_list-closed.result } in
+    let same = sym c.from_list-closed.ensures in
+    let whole = subst (λ (cell : List (ℕ × ℕ)). IsFrontier cell (cells_of c.in_ok-in_order.field-0.items)) c.whole.ensures c.in_ok-in_order.ensures.frontier in
+    let frontier = subst (λ (ordered : List Closed). IsFrontier (whole_cell rule.axes) (cells_of ordered)) same whole in
+    let moved = subst (IsPermutation boxes) same c.in_ok-in_order.ensures.permutation in
+    let certificate = certified rule c.args.workers c.args.steps.now left found answer boxes c.in_ok-left.ensures c.in_ok-best.ensures are refl frontier moved in
     certificate_optimum rule _ _ _ (g.met.G.Goal.laws c.args.goal.now) certificate
 
 pub returns-clause-none : goal.returns-clause-none
@@ -72,9 +83,12 @@ returns-clause-none g c =
     let found = c.in_ok-best.field-0 in
     let boxes = c.extend_from_slice.new.self.items in
     let are : boxes ≡ found.closed.items ++ left.closed.items = c.in_ok-extend_from_slice.ensures.items ∙ ap (λ (more : List Closed). found.closed.items ++ more) c.as_slice.ensures.value in
-    let answer : Found = record { best = found.best; closed = c.in_ok-closed.closed } in
-    let frontier = subst (λ (cell : List (ℕ × ℕ)). IsFrontier cell (cells_of answer.closed.items)) c.whole.ensures c.in_ok-closed.ensures.frontier in
-    let certificate = certified rule c.args.workers c.args.steps.now left found answer boxes c.in_ok-left.ensures c.in_ok-best.ensures are refl frontier c.in_ok-closed.ensures.permutation in
+    let answer : Found = record { best = found.best; closed = c.from_list-closed.result } in
+    let same = sym c.from_list-closed.ensures in
+    let whole = subst (λ (cell : List (ℕ × ℕ)). IsFrontier cell (cells_of c.in_ok-in_order.field-0.items)) c.whole.ensures c.in_ok-in_order.ensures.frontier in
+    let frontier = subst (λ (ordered : List Closed). IsFrontier (whole_cell rule.axes) (cells_of ordered)) same whole in
+    let moved = subst (IsPermutation boxes) same c.in_ok-in_order.ensures.permutation in
+    let certificate = certified rule c.args.workers c.args.steps.now left found answer boxes c.in_ok-left.ensures c.in_ok-best.ensures are refl frontier moved in
     none_exactly rule found.best (certificate_optimum rule _ _ _ (g.met.G.Goal.laws c.args.goal.now) certificate)
 
 pub returns-clause-steps : goal.returns-clause-steps
@@ -84,6 +98,7 @@ returns-clause-steps g c =
     let found = c.in_ok-best.field-0 in
     let boxes = c.extend_from_slice.new.self.items in
     let are : boxes ≡ found.closed.items ++ left.closed.items = c.in_ok-extend_from_slice.ensures.items ∙ ap (λ (more : List Closed). found.closed.items ++ more) c.as_slice.ensures.value in
-    let replayed : Replayed = record { found = record { best = found.best; closed = c.in_ok-closed.closed }; by_steps = c.len-by_steps.result } in
+    let replayed : Replayed = record { found = record { best = found.best; closed = c.from_list-closed.result }; by_steps = c.len-by_steps.result } in
+    let moved = subst (IsPermutation boxes) (sym c.from_list-closed.ensures) c.in_ok-in_order.ensures.permutation in
     let count : c.len-by_steps.result ≡ length left.closed.items = omega (arith, c.len-by_steps.ensures, left.closed.ok.0) in
-    replay_made rule c.args.workers c.args.steps.now left found boxes replayed c.in_ok-left.ensures c.in_ok-best.ensures are c.in_ok-closed.ensures.permutation count
+    replay_made rule c.args.workers c.args.steps.now left found boxes replayed c.in_ok-left.ensures c.in_ok-best.ensures are moved count

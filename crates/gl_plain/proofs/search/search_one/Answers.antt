@@ -1,10 +1,10 @@
 use Rattle.std.proofs.Common.{◌≡◌, ◌∙◌, ap, List, [], ◌∷◌, ◌++◌, map}
-use Rattle.std.proofs.lemmas.Result.{IfOk-weaker}
 use Rattle.gl_box.specs.Closed.{box_of}
 use Rattle.gl_box.specs.Laws.Parts.{mult-held}
 use Rattle.gl_box.specs.declared.cell.Cell.{Cell}
 use Rattle.gl_goal.specs.Rule.{whole_cell}
 use Rattle.gl_goal.specs.Laws.Optimum.{certificate_optimum}
+use Rattle.gl_walk.specs.InLists.{boxes_in}
 use Rattle.gl_plain.proofs.Stack.{none_exactly, whole_certificate, whole_needed, whole_node}
 use Rattle.gl_plain.proofs.search.search_one.Goals as goal
 
@@ -15,31 +15,36 @@ finish-requires-clause-nodes g c =
 pub returns-clause-certificate : goal.returns-clause-certificate
 returns-clause-certificate g c =
     let rule = g.G.Goal.rule c.args.goal.now in
+    let boxes = boxes_in c.from_list.result in
     let one : c.push.new.self.items ≡ c.whole.result ∷ [] = c.in_ok-push.ensures.items ∙ ap (λ (cells : List Cell). cells ++ c.whole.result ∷ []) c.in_ok-cells.ensures.items in
-    IfOk-weaker c.finish.result _ _ (λ found end. whole_certificate rule c.push.new.self.items c.whole.result _ found one c.whole.ensures end) c.finish.ensures
+    whole_certificate rule c.push.new.self.items c.whole.result _ c.in_ok-best.field-0 boxes one c.whole.ensures c.in_ok-best.ensures c.from_list.ensures
 
 pub returns-clause-once : goal.returns-clause-once
-returns-clause-once g c =
+returns-clause-once g c tuple held =
     let rule = g.G.Goal.rule c.args.goal.now in
+    let boxes = boxes_in c.from_list.result in
     let one : c.push.new.self.items ≡ c.whole.result ∷ [] = c.in_ok-push.ensures.items ∙ ap (λ (cells : List Cell). cells ++ c.whole.result ∷ []) c.in_ok-cells.ensures.items in
-    IfOk-weaker c.finish.result _ _ (λ found end tuple held. mult-held (whole_cell rule.axes) (map (λ box. box.0) (map box_of found.closed.items)) tuple (whole_certificate rule c.push.new.self.items c.whole.result _ found one c.whole.ensures end).frontier held) c.finish.ensures
+    let certificate = whole_certificate rule c.push.new.self.items c.whole.result _ c.in_ok-best.field-0 boxes one c.whole.ensures c.in_ok-best.ensures c.from_list.ensures in
+    mult-held (whole_cell rule.axes) (map (λ box. box.0) (map box_of boxes)) tuple certificate.frontier held
 
 pub returns-clause-optimum : goal.returns-clause-optimum
 returns-clause-optimum g c =
     let rule = g.G.Goal.rule c.args.goal.now in
+    let boxes = boxes_in c.from_list.result in
     let one : c.push.new.self.items ≡ c.whole.result ∷ [] = c.in_ok-push.ensures.items ∙ ap (λ (cells : List Cell). cells ++ c.whole.result ∷ []) c.in_ok-cells.ensures.items in
-    IfOk-weaker c.finish.result _ _ (λ found end.
-    certificate_optimum rule _ _ _ (g.met.G.Goal.laws c.args.goal.now) (whole_certificate rule c.push.new.self.items c.whole.result _ found one c.whole.ensures end)) c.finish.ensures
+    let certificate = whole_certificate rule c.push.new.self.items c.whole.result _ c.in_ok-best.field-0 boxes one c.whole.ensures c.in_ok-best.ensures c.from_list.ensures in
+    certificate_optimum rule _ _ _ (g.met.G.Goal.laws c.args.goal.now) certificate
 
 pub returns-clause-none : goal.returns-clause-none
 returns-clause-none g c =
     let rule = g.G.Goal.rule c.args.goal.now in
+    let boxes = boxes_in c.from_list.result in
     let one : c.push.new.self.items ≡ c.whole.result ∷ [] = c.in_ok-push.ensures.items ∙ ap (λ (cells : List Cell). cells ++ c.whole.result ∷ []) c.in_ok-cells.ensures.items in
-    IfOk-weaker c.finish.result _ _ (λ found end.
-    none_exactly rule found.best (certificate_optimum rule _ _ _ (g.met.G.Goal.laws c.args.goal.now) (whole_certificate rule c.push.new.self.items c.whole.result _ found one c.whole.ensures end))) c.finish.ensures
+    let certificate = whole_certificate rule c.push.new.self.items c.whole.result _ c.in_ok-best.field-0 boxes one c.whole.ensures c.in_ok-best.ensures c.from_list.ensures in
+    none_exactly rule c.in_ok-best.field-0.best (certificate_optimum rule _ _ _ (g.met.G.Goal.laws c.args.goal.now) certificate)
 
 pub returns-clause-needed : goal.returns-clause-needed
 returns-clause-needed g c =
     let rule = g.G.Goal.rule c.args.goal.now in
     let one : c.push.new.self.items ≡ c.whole.result ∷ [] = c.in_ok-push.ensures.items ∙ ap (λ (cells : List Cell). cells ++ c.whole.result ∷ []) c.in_ok-cells.ensures.items in
-    IfOk-weaker c.finish.result _ _ (λ found end. whole_needed rule c.push.new.self.items c.whole.result _ found one c.whole.ensures end) c.finish.ensures
+    whole_needed rule c.push.new.self.items c.whole.result _ c.in_ok-best.field-0 (boxes_in c.from_list.result) one c.whole.ensures c.in_ok-best.ensures c.from_list.ensures

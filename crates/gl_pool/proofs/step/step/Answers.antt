@@ -18,7 +18,7 @@ use Rattle.gl_pool.proofs.Going.{going_closed, going_cut, going_kept}
 use Rattle.gl_pool.proofs.Hearing.{closed_by_word}
 use Rattle.gl_pool.proofs.Parting.{from_covered}
 use Rattle.gl_pool.proofs.step.step.Goals as goal
-use Rattle.gl_pool.specs.Pile.{boxes_in}
+use Rattle.gl_walk.specs.InLists.{boxes_in}
 
 pub test_for-requires-clause-covers : goal.test_for-requires-clause-covers
 test_for-requires-clause-covers g c =

@@ -14,9 +14,9 @@ returns-then-axes-eq-MOST_AXES c = (
   λ spans more at.
       let l = c.axes in
       let i = l.invariant in
-      let xs = map ends (take l.axes l.spans) in
-      let next = next_word span_word IsSpan xs spans l.rest.now c.in-Some.word.now more c.in-Some.ensures (spans_on l.axes l.spans c.args.text.now l.rest.now spans more i.few i.ten i.is i.each i.stops at) in
-      absurd (omega (arith, next.0, length-read l.axes l.spans i.few i.ten, c.if-axes-eq-MOST_AXES.true, at.are_spans.most)),
+      let xs = map ends (take l.axes l.cell.1.0) in
+      let next = next_word span_word IsSpan xs spans l.rest.now c.in-Some.word.now more c.in-Some.ensures (spans_on l.axes l.cell.1.0 c.args.text.now l.rest.now spans more i.few i.ten i.is i.each i.stops at) in
+      absurd (omega (arith, next.0, length-read l.axes l.cell.1.0 i.few i.ten, c.if-axes-eq-MOST_AXES.true, at.are_spans.most)),
   refl,
 )
 
@@ -25,8 +25,8 @@ returns-in_default-span_at c = (
   λ spans more at.
       let l = c.axes in
       let i = l.invariant in
-      let xs = map ends (take l.axes l.spans) in
-      let next = next_word span_word IsSpan xs spans l.rest.now c.in-Some.word.now more c.in-Some.ensures (spans_on l.axes l.spans c.args.text.now l.rest.now spans more i.few i.ten i.is i.each i.stops at) in
+      let xs = map ends (take l.axes l.cell.1.0) in
+      let next = next_word span_word IsSpan xs spans l.rest.now c.in-Some.word.now more c.in-Some.ensures (spans_on l.axes l.cell.1.0 c.args.text.now l.rest.now spans more i.few i.ten i.is i.each i.stops at) in
       c.in_default-span_at.ensures next.1.next (spaced (map span_word next.1.others) ++ 10 ∷ more)
       (record { is_span = next.1.is_next; is = next.1.text; stops = span_next_stops next.1.others more }),
   refl,
@@ -36,15 +36,15 @@ pub axes-preserved : goal.axes-preserved
 axes-preserved c =
     let l = c.axes in
     let i = l.invariant in
-    let below : l.axes < length l.spans = omega arith in
-    let more = ends_more l.axes l.spans c.in-Some-span_at.span below in
+    let below : l.axes < length l.cell.1.0 = omega arith in
+    let more = ends_more l.axes l.cell.1.0 c.in-Some-span_at.span below in
     record {
       few = omega arith;
-      ten = length-set l.spans l.axes c.in-Some-span_at.span ∙ i.ten;
-      is = subst (λ (xs : List (ℕ × ℕ)). c.args.text.now ≡ spaced (map span_word xs) ++ c.in-Some-span_at.after.now) (sym more) (word_taken span_word (map ends (take l.axes l.spans)) (ends c.in-Some-span_at.span) c.args.text.now l.rest.now c.in-Some.word.now c.in-Some-span_at.after.now i.is c.in-Some.ensures c.in-Some-span_at.ensures.is);
-      each = subst (All IsSpan) (sym more) (All-push IsSpan (map ends (take l.axes l.spans)) (ends c.in-Some-span_at.span) i.each c.in-Some-span_at.ensures.is_span);
+      ten = length-set l.cell.1.0 l.axes c.in-Some-span_at.span ∙ i.ten;
+      is = subst (λ (xs : List (ℕ × ℕ)). c.args.text.now ≡ spaced (map span_word xs) ++ c.in-Some-span_at.after.now) (sym more) (word_taken span_word (map ends (take l.axes l.cell.1.0)) (ends c.in-Some-span_at.span) c.args.text.now l.rest.now c.in-Some.word.now c.in-Some-span_at.after.now i.is c.in-Some.ensures c.in-Some-span_at.ensures.is);
+      each = subst (All IsSpan) (sym more) (All-push IsSpan (map ends (take l.axes l.cell.1.0)) (ends c.in-Some-span_at.span) i.each c.in-Some-span_at.ensures.is_span);
       stops = λ some. c.in-Some-span_at.ensures.stops;
-      unused = subst (All (λ (span : Span). span.hi ≡ 0)) (sym (drop-set-lt (l.axes + 1) l.spans l.axes c.in-Some-span_at.span (omega arith))) (All-rest (λ (span : Span). span.hi ≡ 0) _ _ _ (drop_more l.spans l.axes c.in-Some-span_at.span below) i.unused);
+      unused = subst (All (λ (span : Span). span.hi ≡ 0)) (sym (drop-set-lt (l.axes + 1) l.cell.1.0 l.axes c.in-Some-span_at.span (omega arith))) (All-rest (λ (span : Span). span.hi ≡ 0) _ _ _ (drop_more l.cell.1.0 l.axes c.in-Some-span_at.span below) i.unused);
     }
 
 pub returns-in_default-behind : goal.returns-in_default-behind
@@ -52,7 +52,7 @@ returns-in_default-behind c = (
   λ spans more at.
       let l = c.axes in
       let i = l.invariant in
-      let last = no_word span_word IsSpan (map ends (take l.axes l.spans)) spans l.rest.now more c.in_default.ensures (spans_on l.axes l.spans c.args.text.now l.rest.now spans more i.few i.ten i.is i.each i.stops at) in
+      let last = no_word span_word IsSpan (map ends (take l.axes l.cell.1.0)) spans l.rest.now more c.in_default.ensures (spans_on l.axes l.cell.1.0 c.args.text.now l.rest.now spans more i.few i.ten i.is i.each i.stops at) in
       c.in_default-behind.ensures more last.1,
   refl,
 )
@@ -62,14 +62,10 @@ returns-then-axes-eq0 c = (
   λ spans more at.
       let l = c.axes in
       let i = l.invariant in
-      let last = no_word span_word IsSpan (map ends (take l.axes l.spans)) spans l.rest.now more c.in_default.ensures (spans_on l.axes l.spans c.args.text.now l.rest.now spans more i.few i.ten i.is i.each i.stops at) in
-      absurd (omega (arith, ap length last.0, length-read l.axes l.spans i.few i.ten, c.if-axes-eq0.true, at.are_spans.some)),
+      let last = no_word span_word IsSpan (map ends (take l.axes l.cell.1.0)) spans l.rest.now more c.in_default.ensures (spans_on l.axes l.cell.1.0 c.args.text.now l.rest.now spans more i.few i.ten i.is i.each i.stops at) in
+      absurd (omega (arith, ap length last.0, length-read l.axes l.cell.1.0 i.few i.ten, c.if-axes-eq0.true, at.are_spans.some)),
   refl,
 )
 
-pub invariant_of-cell : goal.invariant_of-cell
-invariant_of-cell c =
-    record { some_axis = omega arith; ten_axes = c.axes.invariant.few; ten_spans = c.axes.invariant.ten; unused = c.axes.invariant.unused }
-
 pub returns : goal.returns
-returns c = (_, record { are_spans = record { some = omega (arith, length-read c.axes.axes c.axes.spans c.axes.invariant.few c.axes.invariant.ten, c.if-axes-eq0.false); most = omega (arith, length-read c.axes.axes c.axes.spans c.axes.invariant.few c.axes.invariant.ten, c.axes.invariant.few); each = c.axes.invariant.each }; is = c.axes.invariant.is ∙ ap (λ (l : List ℕ). spaced (map span_word (map ends (take c.axes.axes c.axes.spans))) ++ l) c.in-Some-behind.ensures }, c.in_ok-add_box.ensures)
+returns c = (_, record { are_spans = record { some = omega (arith, length-read c.axes.axes c.axes.cell.1.0 c.axes.invariant.few c.axes.invariant.ten, c.if-axes-eq0.false); most = omega (arith, length-read c.axes.axes c.axes.cell.1.0 c.axes.invariant.few c.axes.invariant.ten, c.axes.invariant.few); each = c.axes.invariant.each }; is = c.axes.invariant.is ∙ ap (λ (l : List ℕ). spaced (map span_word (map ends (take c.axes.axes c.axes.cell.1.0))) ++ l) c.in-Some-behind.ensures }, c.in_ok-add_box.ensures)

@@ -10,11 +10,11 @@ use Rattle.gl_proof.proofs.line.add_spans_at.Given as goal
 abbrev pub invariant-axes : goal.invariant-axes
 invariant-axes l = record {
   few : l.axes ≤ 10;
-  ten : length l.spans ≡ 10;
-  is : l.text ≡ spaced (map span_word (map ends (take l.axes l.spans))) ++ l.rest;
-  each : All IsSpan (map ends (take l.axes l.spans));
+  ten : length l.cell.1.0 ≡ 10;
+  is : l.text ≡ spaced (map span_word (map ends (take l.axes l.cell.1.0))) ++ l.rest;
+  each : All IsSpan (map ends (take l.axes l.cell.1.0));
   stops : 0 < l.axes → Stops is_ascii_digit l.rest;
-  unused : All (λ span. span.hi ≡ 0) (drop l.axes l.spans);
+  unused : All (λ span. span.hi ≡ 0) (drop l.axes l.cell.1.0);
 }
 
 abbrev pub decreases-axes : goal.decreases-axes

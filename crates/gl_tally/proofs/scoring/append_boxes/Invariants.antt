@@ -1,6 +1,6 @@
 use Rattle.std.proofs.Common.{◌-◌, ◌≤◌, length, take}
+use Rattle.gl_proof.proofs.Appended.{boxes_text}
 use Rattle.gl_answer.specs.Appending.{HasAppended}
-use Rattle.gl_tally.proofs.Pieces.{boxes_text}
 use Rattle.gl_tally.proofs.scoring.append_boxes.Given as goal
 
 -- the boxes so far are appended

@@ -1,7 +1,7 @@
 use Rattle.std.proofs.Common.{ℕ, ◌<◌, ◌≤◌}
 use Rattle.gl_box.specs.Cell.{spans_of}
 use Rattle.gl_box.specs.Halves.{span_at, width}
-use Rattle.gl_plain.proofs.order.widest.Given as goal
+use Rattle.gl_walk.proofs.cut.widest.Given as goal
 
 -- the widest of the spans so far
 abbrev pub invariant-loop-axis : goal.invariant-loop-axis

@@ -1,6 +1,6 @@
 use Rattle.std.proofs.Common.{◌≡◌, ◌++◌}
 use Rattle.std.specs.List.{flat_map}
-use Rattle.gl_plain.proofs.order.all_boxes.Given as goal
+use Rattle.gl_walk.proofs.lists.all_boxes.Given as goal
 
 -- the boxes so far, and then those of the other lists
 abbrev pub invariant-lists : goal.invariant-lists

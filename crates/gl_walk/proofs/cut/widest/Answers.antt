@@ -2,8 +2,8 @@ use Rattle.std.proofs.Common.{◌≡◌, ◌∙◌, sym, ap, ℕ, ◌<◌, ◌�
 use Rattle.gl_box.specs.Cell.{spans_of}
 use Rattle.gl_box.specs.Halves.{span_at, width}
 use Rattle.gl_box.specs.Laws.Spans.{span_at-read, widest-more, widest-next, widest-next_or_same}
-use Rattle.gl_plain.proofs.order.widest.Goals as goal
-use Rattle.gl_plain.proofs.order.widest.Goals.{then-width, else-width}
+use Rattle.gl_walk.proofs.cut.widest.Goals as goal
+use Rattle.gl_walk.proofs.cut.widest.Goals.{then-width, else-width}
 
 wider_along : (a b m n : ℕ) → a ≡ m → b ≡ n → m < n → a < b
 wider_along a b m n am bn less = omega arith

@@ -3,8 +3,8 @@ use Rattle.std.specs.List.{flat_map}
 use Rattle.std.proofs.lemmas.Grind.{flat_map-append}
 use Rattle.std.proofs.lemmas.List.{append-nil}
 use Rattle.gl_box.specs.declared.closed.Closed.{Closed}
-use Rattle.gl_pool.specs.Pile.{boxes_in}
-use Rattle.gl_pool.proofs.pile.Pile.join.Goals as goal
+use Rattle.gl_walk.specs.InLists.{boxes_in}
+use Rattle.gl_walk.proofs.lists.Boxes.join.Goals as goal
 
 in_all : List (Vec Closed Global) → List Closed
 in_all lists = flat_map (λ list. list.items) lists
