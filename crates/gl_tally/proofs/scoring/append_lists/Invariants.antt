@@ -1,6 +1,6 @@
 use Rattle.std.proofs.Common.{take}
 use Rattle.gl_proof.proofs.Appended.{boxes_text, in_lists}
-use Rattle.gl_tally.specs.Appending.{HasAppended}
+use Rattle.gl_answer.specs.Appending.{HasAppended}
 use Rattle.gl_tally.proofs.scoring.append_lists.Given as goal
 
 -- the lists so far are appended
