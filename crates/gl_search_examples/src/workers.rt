@@ -9,6 +9,7 @@ use gl_igc::Fix;
 use gl_pool::{OpenGate, Share, work};
 use gl_proof::{Claim, ClaimKind};
 use gl_sphere::{Grid, vector};
+use gl_walk::Boxes;
 use std::alloc::{AllocError, Global};
 use std::sync::Wait;
 use std::test::Fail;
@@ -66,7 +67,7 @@ fn verdict_on(alloc: Global, goal: &FreeGoal, boxes: Vec<Closed>) -> Result<Verd
         kind: ClaimKind::Free,
         total: Some(DEGREE),
         fixes,
-        cells: boxes,
+        cells: Boxes::from_list(boxes),
     };
     check_claim(alloc, goal, &claim)
 }
