@@ -1,4 +1,5 @@
 pub mod Choices
 pub mod Exact
 pub mod Judged
+pub mod Passed
 pub mod Said

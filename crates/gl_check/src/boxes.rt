@@ -1,17 +1,20 @@
-ghost use Rattle.std.specs.Prelude.{◌≡◌, ◌↔◌, ◌≤◌, ◌<◌, ℕ, List, length, map, IfOk, IsTrue, MatchOption};
-ghost use Rattle.std.specs.List.{HoldsAt};
+ghost use Rattle.std.specs.Prelude.{◌≡◌, ◌↔◌, ℕ, List, [], map, IfOk, IsTrue};
 ghost use Rattle.gl_box.specs.Cell.{Covers, spans_of};
 ghost use Rattle.gl_box.specs.Closed.{box_of};
 ghost use Rattle.gl_goal.specs.Rule.{whole_cell};
 ghost use Rattle.gl_goal.specs.Certificate.{IsClaimed, IsClosedFor};
-ghost use Rattle.gl_check.specs.Verdict.{IsClosedAt, IsVerdict};
 ghost use Rattle.gl_walk.specs.InLists.{boxes_in};
+ghost use Rattle.gl_walk.specs.Walk.{IsWalked, open_cells};
+ghost use Rattle.gl_check.specs.Verdict.{IsVerdict};
 
 use crate::verdict::Verdict;
-use gl_box::{Closed, Why};
+use gl_box::{Cell, Closed, Why};
 use gl_goal::{Goal, Leg, measured_legs, whole};
-use gl_walk::{Boxes, WalkEnd, number_of, walk_along};
+use gl_walk::{Boxes, go_down, number_of};
 use std::alloc::{AllocError, Global};
+
+/// Room for open cells: each cut adds one, and a cell can be cut at most 32 times on each axis.
+const OPEN_ROOM: usize = 512;
 
 /// Whether a box is closed for the total by its reason.
 fn is_closed<G: Goal>(goal: &G, total: Option<u64>, closed: &Closed, legs: &mut [Leg]) -> bool
@@ -31,33 +34,38 @@ fn is_closed<G: Goal>(goal: &G, total: Option<u64>, closed: &Closed, legs: &mut 
     }
 }
 
-/// The place of the first of so many boxes that isn't closed for the total by its reason.
-fn first_unclosed<G: Goal>(
+/// What is said of boxes, of which none is passed yet: each is looked for where the walk over them
+/// stands, and then tested. The only error is want of memory.
+fn pass_boxes<G: Goal>(
     goal: &G,
     total: Option<u64>,
     cells: &[Closed],
-    count: usize,
+    opened: &mut Vec<Cell>,
     legs: &mut [Leg],
-) -> Option<usize>
-    requires within { count ≤ length cells.now }
-    requires covers { (place : ℕ) → place < count
-        → HoldsAt (λ box. Covers (whole_cell (G.rule goal.now).axes) box.0)
-        (map box_of cells.now) place }
+) -> Result<Verdict, AllocError>
+    requires opened { IsWalked (whole_cell (G.rule goal.now).axes) []
+        (open_cells opened.old.items) }
     requires legs { G.are_legs goal.now legs.old }
-    ensures { MatchOption result
-        ((place : ℕ) → place < count
-        → IsClosedAt (G.rule goal.now) total (map box_of cells.now) place)
-        (λ place. (place < count)
-        × ((before : ℕ) → before < place
-        → IsClosedAt (G.rule goal.now) total (map box_of cells.now) before)
-        × ¬ IsClosedAt (G.rule goal.now) total (map box_of cells.now) place) }
+    ensures { IfOk result (λ verdict. (fixes : List ℕ)
+        → IsClaimed (G.rule goal.now) total fixes
+        → IsVerdict (G.rule goal.now) total fixes (map box_of cells.now) verdict) }
 {
-    for place in 0..count {
-        if !is_closed(goal, total, &cells[place], legs) {
-            return Some(place);
+    for (place, next) in cells.iter().enumerate() {
+        if opened.is_empty() {
+            return Ok(Verdict::Extra(number_of(place)));
+        }
+        if !go_down(opened, &next.cell)? {
+            return Ok(Verdict::Place(number_of(place)));
+        }
+        if !is_closed(goal, total, next, legs) {
+            return Ok(Verdict::Cell(number_of(place)));
         }
     }
-    None
+    if opened.is_empty() {
+        Ok(Verdict::Yes)
+    } else {
+        Ok(Verdict::Open)
+    }
 }
 
 /// What is said of the boxes of one list. The only error is want of memory.
@@ -72,17 +80,9 @@ fn check_boxes<G: Goal>(
         → IsVerdict (G.rule goal.now) total fixes (map box_of cells.now) verdict) }
 {
     let mut legs = measured_legs(alloc, goal)?;
-    let walked = walk_along(alloc, whole(goal), cells)?;
-    if let Some(place) = first_unclosed(goal, total, cells, walked.count, legs.as_mut_slice()) {
-        return Ok(Verdict::Cell(number_of(place)));
-    }
-    let number = number_of(walked.count);
-    Ok(match walked.end {
-        WalkEnd::Whole => Verdict::Yes,
-        WalkEnd::Extra => Verdict::Extra(number),
-        WalkEnd::Place => Verdict::Place(number),
-        WalkEnd::Open => Verdict::Open,
-    })
+    let mut opened = Vec::with_capacity(alloc, OPEN_ROOM)?;
+    opened.push(whole(goal))?;
+    pass_boxes(goal, total, cells, &mut opened, legs.as_mut_slice())
 }
 
 /// What is said of the boxes of a claim whose fixes reach its total. Those of several lists are

@@ -1,4 +1,4 @@
-ghost use Rattle.std.specs.Prelude.{◌≡◌, ◌≢◌, ◌+◌, ◌-◌, ◌*◌, ◌^◌, ◌++◌, ◌<◌, ◌≤◌, ℕ, List, length, take_while, IfSome, IsTrue, MatchOption};
+ghost use Rattle.std.specs.Prelude.{◌≡◌, ◌≢◌, ◌+◌, ◌^◌, ◌++◌, ◌<◌, ◌≤◌, ℕ, List, false, drop, length, take_while, MatchOption};
 ghost use Rattle.std.specs.Char.{is_ascii_digit};
 ghost use Rattle.gl_box.specs.Cell.{ends};
 ghost use Rattle.gl_lines.specs.Fronts.{IsNumberAt, IsSpanAt, IsTotalAt, Reads};
@@ -35,45 +35,57 @@ pub fn number_at(text: &[u8]) -> Option<(u64, &[u8])>
     Some((number, rest))
 }
 
-/// Behind some digits of a number: the number with one digit more, if it is far from 32 bits.
-#[inline]
-fn longer(number: u32, digit: u8) -> Option<u32>
-    requires { IsTrue (is_ascii_digit digit) }
-    ensures { IfSome result (λ next. (next ≡ number * 10 + (digit - 48)) × (next < 2 ^ 32)) }
-{
-    if number > 99_999_999 {
-        return None;
-    }
-    Some(number * 10 + u32::from(digit - b'0'))
+/// A number at the front of a text, and how many bytes it takes there: none if none was found.
+#[derive(Clone, Copy)]
+struct NumberFront {
+    number: u32,
+    bytes: usize,
 }
 
-/// The number at the front of a text, with all the digits there, and what follows it, for most of
-/// the numbers below 100,000,000 that don't stand at the text's end. It finds them sooner than
-/// `any_number_at`: since the text is long enough, no step has to look for its end.
+/// What a byte is worth as a digit: more than 9 if it is none.
 #[inline(always)]
-fn common_number_at(text: &[u8]) -> Option<(u32, &[u8])>
-    ensures { IfSome result (λ read. IsNumberAt (2 ^ 32) text.now read.0 read.1.now) }
+fn digit_of(byte: u8) -> u32
+    ensures digit { result ≤ 9 → (byte ≡ 48 + result) }
+    ensures other { 9 < result → (is_ascii_digit byte ≡ false) }
 {
+    u32::from(byte).wrapping_sub(48)
+}
+
+/// The number at the front of a text, with all the digits there, for most of the numbers below
+/// 1,000,000,000 that don't stand at the text's end. It finds them sooner than `any_number_at`: since
+/// the text is long enough, no step has to look for its end. It answers by a length, since an answer
+/// of several parts that may be missing is handed over in memory.
+#[inline(always)]
+fn common_number_at(text: &[u8]) -> NumberFront
+    ensures within { result.bytes ≤ length text.now }
+    ensures number { 0 < result.bytes
+        → IsNumberAt (2 ^ 32) text.now result.number (drop result.bytes text.now) }
+{
+    let none = NumberFront {
+        number: 0,
+        bytes: 0,
+    };
     if text.len() < COMMON_ROOM {
-        return None;
+        return none;
     }
-    let (&first, mut rest) = text.split_first()?;
-    if !first.is_ascii_digit() {
-        return None;
+    let mut number = digit_of(text[0]);
+    if number > 9 {
+        return none;
     }
-    let mut number = u32::from(first - b'0');
-    'digits: for _ in 1..COMMON_ROOM {
-        let (&digit, after) = rest.split_first()?;
-        if !digit.is_ascii_digit() {
-            return Some((number, rest));
+    'digits: for bytes in 1..COMMON_ROOM {
+        let digit = digit_of(text[bytes]);
+        if digit > 9 {
+            return NumberFront { number, bytes };
         }
         if number == 0 {
-            return None;
+            return none;
         }
-        number = longer(number, digit)?;
-        rest = after;
+        if number > 99_999_999 {
+            return none;
+        }
+        number = number * 10 + digit;
     }
-    None
+    none
 }
 
 /// The number of 32 bits at the front of a text, with all the digits there, and what follows it.
@@ -81,10 +93,11 @@ fn common_number_at(text: &[u8]) -> Option<(u32, &[u8])>
 pub fn short_number_at(text: &[u8]) -> Option<(u32, &[u8])>
     ensures { Reads (λ number. number) (IsNumberAt (2 ^ 32) text.now) result }
 {
-    match common_number_at(text) {
-        Some(read) => Some(read),
-        None => any_number_at(text),
+    let front = common_number_at(text);
+    if front.bytes == 0 {
+        return any_number_at(text);
     }
+    Some((front.number, &text[front.bytes..]))
 }
 
 /// The same number as `short_number_at` finds, whatever its digits: slower, for what
@@ -100,17 +113,34 @@ fn any_number_at(text: &[u8]) -> Option<(u32, &[u8])>
     Some((number as u32, rest))
 }
 
+/// The same span as `span_at` finds, whatever its digits.
+#[inline(never)]
+fn any_span_at(text: &[u8]) -> Option<(Span, &[u8])>
+    ensures { Reads ends (IsSpanAt text.now) result }
+{
+    let (lo, rest) = any_number_at(text)?;
+    let (hi, rest) = any_number_at(behind(rest, b"-")?)?;
+    if lo > hi {
+        return None;
+    }
+    Some((Span { lo, hi }, rest))
+}
+
 /// The span at the front of a text, and what follows it. It is made where it is read, since an answer
 /// of several parts that is handed over in memory takes longer than reading it.
 #[inline(always)]
 pub fn span_at(text: &[u8]) -> Option<(Span, &[u8])>
     ensures { Reads ends (IsSpanAt text.now) result }
 {
-    let (lo, rest) = short_number_at(text)?;
-    let (hi, rest) = short_number_at(behind(rest, b"-")?)?;
-    if lo > hi {
-        return None;
+    let low = common_number_at(text);
+    if let Some(word) = behind(&text[low.bytes..], b"-") {
+        let high = common_number_at(word);
+        if low.bytes > 0 && high.bytes > 0 && low.number <= high.number {
+            let (lo, hi) = (low.number, high.number);
+            return Some((Span { lo, hi }, &word[high.bytes..]));
+        }
     }
+    let (Span { lo, hi }, rest) = any_span_at(text)?;
     Some((Span { lo, hi }, rest))
 }
 

@@ -21,28 +21,29 @@ use Rattle.gl_pool.specs.declared.tally.Tally.{Tally}
 use Rattle.gl_pool.specs.Crew.{AreSeated, times_seated}
 use Rattle.gl_pool.specs.Kept.{seen_by}
 use Rattle.gl_pool.specs.Tally.{IsTally, word_of}
-use Rattle.gl_walk.specs.InLists.{boxes_in}
+use Rattle.gl_pool.specs.Listed.{ArePassed, IsPassed, listed_in}
 
 -- a worker with a seat that is shared, who has found and closed nothing
 pub record IsFresh (word : BestWord) (worker : Worker) : Type 0 where
   pub is_seat : IsSeatOf word worker.tally.seat
   pub none : worker.tally.best ≡ None
   pub raised : (view_of worker.tally.seat).raised ≡ 0
-  pub nothing : (boxes_in worker.tally.closed) ≡ []
+  pub nothing : worker.tally.closed.items ≡ []
 
 fresh_tally : (rule : Rule) (word : BestWord) (worker : Worker) → IsFresh word worker → IsTally rule word worker.tally
 fresh_tally rule word worker fresh = record {
   is_seat = fresh.is_seat;
   sound = subst (IsSound rule) (sym fresh.none) tt;
   raised = fresh.raised ∙ ap word_of (sym fresh.none);
-  closed = All-same (λ (box : Closed). IsClosedFor rule (seen_by worker.tally.seat) (spans_of box.cell) box.why) (boxes_in worker.tally.closed) [] fresh.nothing (All-nil (λ (box : Closed). IsClosedFor rule (seen_by worker.tally.seat) (spans_of box.cell) box.why));
+  closed = All-same (λ (box : Closed). IsClosedFor rule (seen_by worker.tally.seat) (spans_of box.cell) box.why) (listed_in worker.tally.closed.items) [] (ap listed_in fresh.nothing) (All-nil (λ (box : Closed). IsClosedFor rule (seen_by worker.tally.seat) (spans_of box.cell) box.why));
+  passed = subst ArePassed (sym fresh.nothing) (All-nil IsPassed);
 }
 
 -- what is left to share: as before, with fewer numbers
 pub record StillHas (word : BestWord) (before after : Tally) : Type 0 where
   pub is_seat : IsSeatOf word after.seat
   pub best : after.best ≡ before.best
-  pub closed : (boxes_in after.closed) ≡ (boxes_in before.closed)
+  pub closed : after.closed.items ≡ before.closed.items
   pub seen : (view_of after.seat).seen ≡ (view_of before.seat).seen
   pub raised : (view_of after.seat).raised ≡ (view_of before.seat).raised
 
@@ -51,8 +52,9 @@ still_tally rule word before after still is = record {
   is_seat = still.is_seat;
   sound = subst (IsSound rule) (sym still.best) is.sound;
   raised = still.raised ∙ is.raised ∙ ap word_of (sym still.best);
-  closed = All-same (λ (box : Closed). IsClosedFor rule (seen_by after.seat) (spans_of box.cell) box.why) (boxes_in after.closed) (boxes_in before.closed) still.closed
-      (subst (λ (word : ℕ). All (λ (box : Closed). IsClosedFor rule (total_of word) (spans_of box.cell) box.why) (boxes_in before.closed)) (sym still.seen) is.closed);
+  closed = All-same (λ (box : Closed). IsClosedFor rule (seen_by after.seat) (spans_of box.cell) box.why) (listed_in after.closed.items) (listed_in before.closed.items) (ap listed_in still.closed)
+      (subst (λ (word : ℕ). All (λ (box : Closed). IsClosedFor rule (total_of word) (spans_of box.cell) box.why) (listed_in before.closed.items)) (sym still.seen) is.closed);
+  passed = subst ArePassed (sym still.closed) is.passed;
 }
 
 -- some workers have their seats, and some places are left, with the last one behind them
@@ -76,7 +78,7 @@ abbrev place_in : Worker → Place
 place_in worker = worker.place
 
 -- one more worker has its seat
-pub seating_more : (word : BestWord) (places rest less : List Place) (last : Place) (before tally after : Tally) (workers more : List Worker) (worker : Worker) → rest ≡ worker.place ∷ less → more ≡ workers ++ worker ∷ [] → IsSeatOf word after.seat → IsFresh word worker → after.best ≡ tally.best → (boxes_in after.closed) ≡ (boxes_in tally.closed) → view_of after.seat ≡ kept_of (view_of tally.seat) → view_of worker.tally.seat ≡ given_of (view_of tally.seat) → length (view_of after.seat).numbers + 1 ≡ length (view_of tally.seat).numbers → Seating word places rest last before tally workers → Seating word places less last before after more
+pub seating_more : (word : BestWord) (places rest less : List Place) (last : Place) (before tally after : Tally) (workers more : List Worker) (worker : Worker) → rest ≡ worker.place ∷ less → more ≡ workers ++ worker ∷ [] → IsSeatOf word after.seat → IsFresh word worker → after.best ≡ tally.best → after.closed.items ≡ tally.closed.items → view_of after.seat ≡ kept_of (view_of tally.seat) → view_of worker.tally.seat ≡ given_of (view_of tally.seat) → length (view_of after.seat).numbers + 1 ≡ length (view_of tally.seat).numbers → Seating word places rest last before tally workers → Seating word places less last before after more
 seating_more word places rest less last before tally after workers more worker is one seat fresh best closed kept given fewer so_far = record {
   places_are = ap (λ (ws : List Worker). map place_in ws ++ (less ++ last ∷ [])) one
       ∙ ap (λ (l : List Place). l ++ (less ++ last ∷ [])) (map-append place_in workers (worker ∷ []))
@@ -112,8 +114,8 @@ seated_all word places rest last before tally workers all worker none place own 
           ∙ ap (λ (l : List Place). map place_in workers ++ (l ++ last ∷ [])) (sym none) ∙ so_far.places_are;
       tallies = λ rule is. All-same (λ (w : Worker). IsTally rule word w.tally) all (workers ++ worker ∷ []) one
           (All-push (λ (w : Worker). IsTally rule word w.tally) workers worker (All-weaker (IsFresh word) (λ (w : Worker). IsTally rule word w.tally) (fresh_tally rule word) workers so_far.fresh) (still_tally rule word before worker.tally still is));
-      nothing = λ empty. All-same (λ (w : Worker). (boxes_in w.tally.closed) ≡ []) all (workers ++ worker ∷ []) one
-          (All-push (λ (w : Worker). (boxes_in w.tally.closed) ≡ []) workers worker (All-weaker (IsFresh word) (λ (w : Worker). (boxes_in w.tally.closed) ≡ []) (λ w fresh. fresh.nothing) workers so_far.fresh) (still.closed ∙ empty));
+      nothing = λ empty. All-same (λ (w : Worker). (listed_in w.tally.closed.items) ≡ []) all (workers ++ worker ∷ []) one
+          (All-push (λ (w : Worker). (listed_in w.tally.closed.items) ≡ []) workers worker (All-weaker (IsFresh word) (λ (w : Worker). (listed_in w.tally.closed.items) ≡ []) (λ w fresh. ap listed_in fresh.nothing) workers so_far.fresh) (ap listed_in still.closed ∙ empty));
       numbers = λ number.
           let sum = sum_by-append (λ (w : Worker). times number (view_of w.tally.seat).numbers) workers (worker ∷ []) in
           let lone = sum_by-cons (λ (w : Worker). times number (view_of w.tally.seat).numbers) worker [] in

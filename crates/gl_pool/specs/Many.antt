@@ -12,7 +12,7 @@ use Rattle.gl_pool.specs.Crew.{got_weight, put_weight}
 use Rattle.gl_pool.specs.Parts.{ArePartedInto}
 use Rattle.gl_pool.specs.Settle.{StandReady, place_at}
 use Rattle.gl_pool.specs.Taken.{ends_of}
-use Rattle.gl_walk.specs.InLists.{boxes_in}
+use Rattle.gl_pool.specs.Listed.{listed_in}
 
 -- two lists of cells weigh the same, however cells are weighed
 pub record WeighSame (cells others : List Cell) : Type 0 where
@@ -42,7 +42,7 @@ pub record IsLeft (rule : Rule) (places : List Place) (tally : Tally) : Type 0 w
   pub put : List Cell
   pub strange : List Cell
   pub is_whole : spans_of first ≡ whole_cell rule.axes
-  pub parts : ArePartedInto rule None taken (boxes_in tally.closed) put strange
+  pub parts : ArePartedInto rule None taken (listed_in tally.closed.items) put strange
   pub puts : (weight : Cell → ℕ)
       → put_weight weight places ≡ weight first + sum_by weight put
   pub got : (weight : Cell → ℕ) → got_weight weight places ≡ sum_by weight taken
@@ -57,4 +57,4 @@ pub record ComesToAll (rule : Rule) (tally : Tally) : Type 0 where
   pub taken : List Cell
   pub put : List Cell
   pub strange : List Cell
-  pub all : CameToAll rule first taken put (boxes_in tally.closed) strange
+  pub all : CameToAll rule first taken put (listed_in tally.closed.items) strange

@@ -14,7 +14,7 @@ use Rattle.gl_pool.specs.declared.tally.Tally.{Tally}
 use Rattle.gl_pool.specs.Kept.{AreClosedFor}
 use Rattle.gl_pool.specs.Parts.{ArePartedInto}
 use Rattle.gl_pool.specs.Taken.{Moves}
-use Rattle.gl_walk.specs.InLists.{boxes_in}
+use Rattle.gl_pool.specs.Listed.{ArePassed, listed_in}
 
 -- the word that says what was found: 0 for nothing, else the total plus one
 abbrev pub word_of : Option Best → ℕ
@@ -22,12 +22,13 @@ word_of None = 0
 word_of (Some best) = best.total + 1
 
 -- What was found is nothing, or a legal tuple and its value; the seat has raised just that; and
--- each closed cell is closed by its reason for what the seat has seen.
+-- each closed cell is closed by its reason for what the seat has seen; and the lists pass as is said.
 pub record IsTally (rule : Rule) (word : BestWord) (tally : Tally) : Type 0 where
   pub is_seat : IsSeatOf word tally.seat
   pub sound : IsSound rule tally.best
   pub raised : (view_of tally.seat).raised ≡ word_of tally.best
-  pub closed : AreClosedFor rule tally.seat (boxes_in tally.closed)
+  pub closed : AreClosedFor rule tally.seat (listed_in tally.closed.items)
+  pub passed : ArePassed tally.closed.items
 
 -- one of two that were found, and worth no less than either
 pub record IsGreater (one other greater : Option Best) : Type 0 where
@@ -42,7 +43,7 @@ pub record Turns (rule : Rule) (before after : Place) (tally tally_after : Tally
   pub strange : List Cell
   pub moves : Moves before after taken put
   pub parts : ArePartedInto rule None taken closed put strange
-  pub joined : (boxes_in tally_after.closed) ≡ (boxes_in tally.closed) ++ closed
+  pub joined : listed_in tally_after.closed.items ≡ listed_in tally.closed.items ++ closed
   pub numbers : (view_of tally_after.seat).numbers ≡ (view_of tally.seat).numbers
   pub all_put : HasSettledAll (hand_view before.hand) → TookAllItPut (hand_view after.hand)
 
@@ -51,6 +52,7 @@ pub record Gathers (word : BestWord) (tally other after : Tally) : Type 0 where
   pub is_seat : IsSeatOf word after.seat
   pub keeps : (rule : Rule) → IsTally rule word tally → IsTally rule word other
       → IsTally rule word after
-  pub joined : (boxes_in after.closed) ≡ (boxes_in tally.closed) ++ (boxes_in other.closed)
+  pub joined : listed_in after.closed.items
+      ≡ listed_in tally.closed.items ++ listed_in other.closed.items
   pub numbers : (view_of after.seat).numbers
       ≡ (view_of tally.seat).numbers ++ (view_of other.seat).numbers

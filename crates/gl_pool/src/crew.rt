@@ -1,7 +1,7 @@
 ghost use Rattle.std.specs.Prelude.{◌≡◌, ◌≤◌, ◌<◌, [], All, IfOk, OnOk, length, map};
 ghost use Rattle.gl_best.specs.Seats.{IsSeatOf, view_of};
 ghost use Rattle.gl_pool.specs.Tally.{IsTally};
-ghost use Rattle.gl_walk.specs.InLists.{boxes_in};
+ghost use Rattle.gl_pool.specs.Listed.{listed_in};
 ghost use Rattle.gl_pool.specs.Crew.{AreSeated, Collects, HasTurned, WorkedAll, has_seat};
 
 use crate::gate::Gate;
@@ -9,7 +9,6 @@ use crate::tally::{Tally, gather, take_turn};
 use gl_best::BestWord;
 use gl_deal::Place;
 use gl_goal::Goal;
-use gl_walk::Boxes;
 use std::alloc::{AllocError, Global};
 use std::sync::Wait;
 use std::thread::{self, Threads};
@@ -44,7 +43,7 @@ fn seated(
         let shared = Tally {
             seat: word.share(&mut tally.seat),
             best: None,
-            closed: Boxes::empty(alloc),
+            closed: Vec::new(alloc),
         };
         workers.push(Worker {
             number: workers.len() as u32,
@@ -131,7 +130,7 @@ pub(crate) fn work_all<Rt: Threads + Wait + Sync, G: Goal + Sync, K: Gate + Sync
     tally: Tally,
 ) -> Result<(Vec<Place>, Tally), AllocError>
     requires tally { IsTally (G.rule goal.now) word.now tally }
-    requires nothing { boxes_in tally.closed ≡ [] }
+    requires nothing { listed_in tally.closed.items ≡ [] }
     requires some { 0 < length places.items }
     requires few { length places.items ≤ 16 }
     requires enough { length places.items ≤ length (view_of tally.seat).numbers }

@@ -2,9 +2,12 @@
 //! where its own is empty, and hears the best total that any of them found.
 #![tactic(auto)]
 
+mod added;
 mod bench;
 mod crew;
 mod gate;
+mod joined;
+mod listed;
 mod many;
 mod settle;
 mod share;

@@ -4,18 +4,18 @@ ghost use Rattle.gl_best.specs.Seats.{HasAll, IsSeatOf, view_of};
 ghost use Rattle.gl_plain.specs.Answer.{IsAnswer};
 ghost use Rattle.gl_plain.specs.Search.{IsSound};
 ghost use Rattle.gl_pool.specs.Many.{ComesToAll, IsDealt, IsLeft};
-ghost use Rattle.gl_walk.specs.InLists.{boxes_in};
+ghost use Rattle.gl_pool.specs.Listed.{listed_in};
 ghost use Rattle.gl_pool.specs.Tally.{IsTally};
 
 use crate::crew::work_all;
 use crate::gate::{Gate, OpenGate};
+use crate::joined::join_listed;
 use crate::settle::settle_all;
 use crate::tally::{Tally, take_turn};
 use gl_best::{BestWord, Seat};
 use gl_deal::{Place, deal};
 use gl_goal::{Goal, measured_legs, whole};
-use gl_plain::{Best, Found, join_in_order, search_one, warm_start};
-use gl_walk::Boxes;
+use gl_plain::{Best, Found, search_one, warm_start};
 use std::alloc::{AllocError, Global};
 use std::sync::Wait;
 use std::thread::Threads;
@@ -58,7 +58,7 @@ fn first_tally<G: Goal>(
     requires view { view_of seat ≡ first_view }
     requires sound { IsSound (G.rule goal.now) best }
     ensures tally { IsTally (G.rule goal.now) word.now result }
-    ensures nothing { boxes_in result.closed ≡ [] }
+    ensures nothing { listed_in result.closed.items ≡ [] }
     ensures numbers { (view_of result.seat).numbers ≡ (view_of seat).numbers }
 {
     if let Some(known) = best {
@@ -67,7 +67,7 @@ fn first_tally<G: Goal>(
     Tally {
         seat,
         best,
-        closed: Boxes::empty(alloc),
+        closed: Vec::new(alloc),
     }
 }
 
@@ -119,7 +119,7 @@ fn answer<G: Goal>(
     word.close(seat);
     Ok(Found {
         best,
-        closed: join_in_order(alloc, &whole(goal), closed.into_lists()?)?,
+        closed: join_listed(alloc, &whole(goal), closed)?,
     })
 }
 

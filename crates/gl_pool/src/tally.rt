@@ -2,14 +2,15 @@ ghost use Rattle.std.specs.Prelude.{OnOk};
 ghost use Rattle.gl_best.specs.Seats.{IsSeatOf};
 ghost use Rattle.gl_pool.specs.Tally.{Gathers, IsGreater, IsTally, Turns};
 
+use crate::added::{add_lists, join_lists};
 use crate::gate::Gate;
+use crate::listed::Listed;
 use crate::share::Haul;
 use crate::worker::work_on;
 use gl_best::{BestWord, Seat};
 use gl_deal::Place;
-use gl_goal::Goal;
+use gl_goal::{Goal, whole};
 use gl_plain::Best;
-use gl_walk::Boxes;
 use std::alloc::{AllocError, Global};
 use std::sync::Wait;
 use std::thread::Threads;
@@ -19,7 +20,7 @@ use std::thread::Threads;
 pub(crate) struct Tally {
     pub(crate) seat: Seat,
     pub(crate) best: Option<Best>,
-    pub(crate) closed: Boxes,
+    pub(crate) closed: Vec<Listed>,
 }
 
 /// The one that is worth more.
@@ -51,7 +52,7 @@ pub(crate) fn take_turn<Rt: Threads + Wait + Sync, G: Goal, K: Gate>(
     gate.pass(number);
     let Haul { kept, closed, .. } = work_on(rt, alloc, goal, place, word, &mut tally.seat)?;
     tally.best = kept.or(tally.best);
-    tally.closed.join(closed)
+    add_lists(alloc, &whole(goal), &mut tally.closed, closed)
 }
 
 /// Takes in what another seat raised, and the cells that were closed with it. The only error is
@@ -64,5 +65,5 @@ pub(crate) fn gather(word: &BestWord, tally: &mut Tally, other: Tally) -> Result
     let Tally { seat, best, closed } = other;
     word.gather(&mut tally.seat, seat);
     tally.best = greater(tally.best, best);
-    tally.closed.join(closed)
+    join_lists(&mut tally.closed, closed)
 }

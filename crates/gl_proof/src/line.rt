@@ -37,16 +37,15 @@ fn reason_at(text: &[u8]) -> Option<(Why, &[u8])>
     None
 }
 
-/// Appends a box. The list has room for a quarter more boxes than it needs at most, and for a few.
-/// The only error is want of memory.
+/// Makes room for a box. The list has room for a quarter more boxes than it needs at most, and for a
+/// few. The only error is want of memory.
 #[inline]
-fn add_box(cells: &mut Vec<Closed>, closed: Closed) -> Result<(), AllocError>
-    ensures { OnOk result (cells.new.items ≡ cells.old.items ++ closed ∷ []) }
+fn make_room(cells: &mut Vec<Closed>) -> Result<(), AllocError>
+    ensures { OnOk result (cells.new.items ≡ cells.old.items) }
 {
     if cells.len() == cells.capacity() {
         cells.reserve_exact(cells.len() / 4 + LEAST_ROOM)?;
     }
-    cells.push(closed)?;
     Ok(())
 }
 
@@ -83,7 +82,8 @@ fn add_spans_at<'a>(
         return Ok(None);
     }
     cell.axes = axes as u8;
-    add_box(cells, Closed { cell, why })?;
+    make_room(cells)?;
+    cells.push(Closed { cell, why })?;
     Ok(Some(after))
 }
 

@@ -62,7 +62,8 @@ fn come_back(rt: &(impl AllocGlobal + Abort), fixes: &[Fix]) -> Result<(), Fail>
     let last = fixes.len() as u32 - 1;
     let goal = FreeGoal::new(rt.alloc(), fixes, 0, last, 1_000)?;
     for way in [Shuffle::Reversed, Shuffle::Rotated, Shuffle::Swapped] {
-        let mut boxes = search_one(rt.alloc(), &goal)?.closed;
+        let found = search_one(rt.alloc(), &goal)?;
+        let mut boxes = found.closed.into_list()?;
         let searched = boxes.clone()?;
         disorder(&mut boxes, way);
         assert!(rt; boxes.as_slice() != searched.as_slice(), "{way:?}");

@@ -9,6 +9,7 @@ use gl_igc::Fix;
 use gl_pool::{OpenGate, Share, work};
 use gl_proof::{Claim, ClaimKind};
 use gl_sphere::{Grid, vector};
+use gl_walk::Boxes;
 use std::alloc::{AllocError, Global};
 use std::sync::Wait;
 use std::test::Fail;
@@ -58,7 +59,7 @@ fn share_at<Rt: Threads + Wait + Sync>(
 }
 
 /// What the checker says of boxes for the distance of one degree, from the first fix to the second.
-fn verdict_on(alloc: Global, goal: &FreeGoal, boxes: Vec<Closed>) -> Result<Verdict, AllocError> {
+fn verdict_on(alloc: Global, goal: &FreeGoal, cells: Boxes) -> Result<Verdict, AllocError> {
     let mut fixes = vec![in alloc; 0; 5]?;
     fixes[4] = 1;
     let claim = Claim {
@@ -66,9 +67,19 @@ fn verdict_on(alloc: Global, goal: &FreeGoal, boxes: Vec<Closed>) -> Result<Verd
         kind: ClaimKind::Free,
         total: Some(DEGREE),
         fixes,
-        cells: boxes,
+        cells,
     };
     check_claim(alloc, goal, &claim)
+}
+
+/// The boxes, each in a list of its own.
+fn lists_of_one(alloc: Global, boxes: &[Closed]) -> Result<Boxes, AllocError> {
+    let mut cells = Boxes::empty(alloc);
+    for closed in boxes {
+        cells.begin_if(true)?;
+        cells.push(*closed)?;
+    }
+    Ok(cells)
 }
 
 #[test]
@@ -81,8 +92,10 @@ fn a_worker_keeps_only_what_it_has_not_heard_of(rt: HostRuntime) -> Result<(), F
         assert_eq!(rt; share.kept.map(|best| best.total), kept);
         assert!(rt; share.strange.is_empty());
         assert_eq!(rt; place.hand.take(), None);
-        let verdict = verdict_on(rt.alloc(), &goal, share.closed)?;
-        assert_eq!(rt; verdict, Verdict::Yes);
+        let apart = lists_of_one(rt.alloc(), share.closed.as_slice())?;
+        assert_eq!(rt; verdict_on(rt.alloc(), &goal, apart)?, Verdict::Yes);
+        let cells = Boxes::from_list(share.closed);
+        assert_eq!(rt; verdict_on(rt.alloc(), &goal, cells)?, Verdict::Yes);
     }
     Ok(())
 }

@@ -10,9 +10,12 @@ pub(crate) fn widest(cell: &Cell) -> usize
     ensures { IsWidest (spans_of cell.now) result }
 {
     let mut widest = 0;
+    let mut most = cell.spans[0].width();
     for axis in 1..cell.axes as usize {
-        if cell.spans[axis].width() > cell.spans[widest].width() {
+        let width = cell.spans[axis].width();
+        if width > most {
             widest = axis;
+            most = width;
         }
     }
     widest

@@ -23,17 +23,12 @@ fn is_same_at(cell: &Cell, other: &Cell, axis: usize) -> bool
     span.hi == next.hi && span.lo == next.lo
 }
 
-/// Whether two cells have the same axes and spans. On the axis that is given they are looked at
-/// first.
+/// Whether two cells have the same axes and spans.
 #[inline]
-fn is_same(cell: &Cell, other: &Cell, first: usize) -> bool
-    requires { first < cell.now.axes }
+fn is_same(cell: &Cell, other: &Cell) -> bool
     ensures { IsTrue result ↔ (spans_of cell.now ≡ spans_of other.now) }
 {
     if cell.axes != other.axes {
-        return false;
-    }
-    if !is_same_at(cell, other, first) {
         return false;
     }
     for axis in 0..cell.axes as usize {
@@ -48,7 +43,8 @@ fn is_same(cell: &Cell, other: &Cell, first: usize) -> bool
 /// open ones; the upper halves on the way stay open. Answers whether the cell is there; if not, the
 /// open cells serve for nothing any more. The only error is want of memory.
 ///
-/// On the way the cells are compared on the axis of the next cut alone, on which they differ first.
+/// A box that stands where it should lies in the first open cell, so after a cut its end is looked
+/// at on that axis alone.
 #[inline]
 pub fn go_down(opened: &mut Vec<Cell>, cell: &Cell) -> Result<bool, AllocError>
     ensures there { IfOk result (λ there. IsTrue there → (more : List (List (ℕ × ℕ)))
@@ -60,8 +56,8 @@ pub fn go_down(opened: &mut Vec<Cell>, cell: &Cell) -> Result<bool, AllocError>
     let Some(mut first) = opened.pop() else {
         return Ok(false);
     };
-    let mut axis = widest(&first);
-    'halves: while !is_same(&first, cell, axis) {
+    'halves: while !is_same(&first, cell) {
+        let axis = widest(&first);
         let Some(upper) = halve_at(&mut first, axis) else {
             return Ok(false);
         };
@@ -69,7 +65,6 @@ pub fn go_down(opened: &mut Vec<Cell>, cell: &Cell) -> Result<bool, AllocError>
             return Ok(false);
         }
         opened.push(upper)?;
-        axis = widest(&first);
     }
     Ok(true)
 }

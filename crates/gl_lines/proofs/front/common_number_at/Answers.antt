@@ -1,27 +1,32 @@
-use Rattle.std.proofs.Common.{◌≡◌, ◌∙◌, sym, ap, ℕ, ◌+◌, ◌-◌, List, ◌∷◌, ◌++◌, arith}
+use Rattle.std.proofs.Common.{◌≡◌, ◌∙◌, sym, ap, ℕ, ◌+◌, ◌*◌, ◌<◌, List, ◌∷◌, ◌++◌, get_or, length, drop, arith}
 use Rattle.std.proofs.lemmas.Fmt.{decimal_digit}
+use Rattle.std.proofs.lemmas.List.{drop_more}
 use Rattle.gl_lines.proofs.Codes.{digit-joins}
 use Rattle.gl_lines.proofs.front.common_number_at.Goals as goal
 
 pub digits-init : goal.digits-init
 digits-init c =
-    let first = c.in_ok-first.field-0-0.now in
-    let number = c.from-number.result in
-    let rest = c.in_ok-first.rest.now in
-    let digit : 48 + number ≡ first = omega (arith, c.if-not-is_ascii_digit.ensures.cases, c.in_ok-first.first-is) in
+    let text = c.args.text.now in
+    let number = c.digit_of-number.result in
+    let rest = drop 1 text in
+    let some : 0 < length text = omega arith in
+    let byte : get_or text 0 0 ≡ 48 + number = c.digit_of-number.ensures.digit (omega arith) in
     record {
-      small = omega (arith, c.if-not-is_ascii_digit.ensures.cases);
-      is = c.in_ok-first.ensures.cases.0 ∙ ap (λ (k : ℕ). k ∷ rest) (sym digit) ∙ ap (λ (l : List ℕ). l ++ rest) (sym (decimal_digit number (omega (arith, c.if-not-is_ascii_digit.ensures.cases))));
+      small = omega arith;
+      is = drop_more text 0 0 some ∙ ap (λ (k : ℕ). k ∷ rest) byte ∙ ap (λ (l : List ℕ). l ++ rest) (sym (decimal_digit number (omega arith)));
     }
 
 pub digits-preserved : goal.digits-preserved
 digits-preserved c =
     let l = c.digits in
-    let digit = c.in_ok-digit.field-0-0.now in
-    let after = c.in_ok-digit.after.now in
-    let worth : 48 + (digit - 48) ≡ digit = omega (arith, c.if-not-is_ascii_digit-2.ensures.cases, c.in_ok-digit.digit-is) in
+    let text = c.args.text.now in
+    let digit = c.digit_of-digit.result in
+    let after = drop (l.bytes + 1) text in
+    let inside : l.bytes < length text = omega arith in
+    let byte : get_or text l.bytes 0 ≡ 48 + digit = c.digit_of-digit.ensures.digit (omega arith) in
+    let some : l.number ≡ 0 → ⊥ = c.if-number-eq0.false in
     record {
       small = omega arith;
-      is = digit-joins c.args.text.now l.rest.now after l.number (digit - 48) c.in_ok-number.number (omega (arith, c.if-number-eq0.false)) l.invariant.is
-          (c.in_ok-digit.ensures.cases.0 ∙ ap (λ (k : ℕ). k ∷ after) (sym worth)) (omega (arith, c.in_ok-digit.digit-is)) (omega (arith, c.if-not-is_ascii_digit-2.ensures.cases, c.in_ok-digit.digit-is)) (omega arith);
+      is = digit-joins text (drop l.bytes text) after l.number digit (l.number * 10 + digit) (omega arith) l.invariant.is
+          (drop_more text l.bytes 0 inside ∙ ap (λ (k : ℕ). k ∷ after) byte) (omega arith) (omega arith) (omega arith);
     }

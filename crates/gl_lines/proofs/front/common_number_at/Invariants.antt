@@ -1,4 +1,4 @@
-use Rattle.std.proofs.Common.{◌≡◌, ◌<◌, ◌++◌, ◌^◌}
+use Rattle.std.proofs.Common.{◌≡◌, ◌<◌, ◌++◌, ◌^◌, drop}
 use Rattle.std.specs.Fmt.{decimal}
 use Rattle.gl_lines.proofs.front.common_number_at.Given as goal
 
@@ -6,5 +6,5 @@ use Rattle.gl_lines.proofs.front.common_number_at.Given as goal
 abbrev pub invariant-digits : goal.invariant-digits
 invariant-digits l = record {
   small : l.number < 2 ^ 32;
-  is : l.fn.text ≡ decimal l.number ++ l.rest;
+  is : l.text ≡ decimal l.number ++ drop l.bytes l.text;
 }

@@ -28,7 +28,7 @@ overflow_cast-len c = omega (arith, seats_few c.args.word.now c.args.places.item
 pub loop-place-preserved : goal.loop-place-preserved
 loop-place-preserved c =
     seating_more c.args.word.now c.args.places.items c.loop-place.place-iterator.rest.items c.next.new.self.rest.items c.in-Some.last c.args.tally c.loop-place.tally _ c.loop-place.workers.items c.push.new.self.items _ c.in-Some-place.ensures.steps.0 c.in_ok-push.ensures.items c.share.ensures.seats.0
-    (record { is_seat = c.share.ensures.seats.1; none = refl; raised = ap (λ v. v.raised) c.share.ensures.given; nothing = c.empty.ensures })
+    (record { is_seat = c.share.ensures.seats.1; none = refl; raised = ap (λ v. v.raised) c.share.ensures.given; nothing = c.new.ensures.items })
     refl refl c.share.ensures.kept c.share.ensures.given c.share.ensures.fewer c.loop-place.invariant
 
 pub overflow_cast-len-2 : goal.overflow_cast-len-2

@@ -1,7 +1,8 @@
-use Rattle.std.proofs.Common.{◌≡◌, ◌∙◌, refl, sym, ap, subst, ℕ, ◌+◌, ◌<◌, List, ◌∷◌, ◌++◌, length, map, take, arith}
+use Rattle.std.proofs.Common.{◌≡◌, ◌∙◌, refl, sym, ap, subst, ℕ, ◌+◌, ◌<◌, List, [], ◌∷◌, ◌++◌, length, map, take, arith}
 use Rattle.std.specs.Prelude.{All}
 use Rattle.std.proofs.lemmas.List.{drop-set-lt, drop_more, length-set}
 use Rattle.std.proofs.lemmas.List.Elements.{All-push, All-rest}
+use Rattle.gl_box.specs.declared.closed.Closed.{Closed}
 use Rattle.gl_box.specs.declared.span.Span.{Span}
 use Rattle.gl_box.specs.Cell.{ends}
 use Rattle.gl_lines.specs.Words.{IsSpan, spaced, span_word}
@@ -67,5 +68,9 @@ returns-then-axes-eq0 c = (
   refl,
 )
 
+-- a box behind those for which room was made
+behind_room : (before roomy after : List Closed) (closed : Closed) → after ≡ roomy ++ closed ∷ [] → roomy ≡ before → after ≡ before ++ closed ∷ []
+behind_room before roomy after closed pushed same = pushed ∙ ap (λ (l : List Closed). l ++ closed ∷ []) same
+
 pub returns : goal.returns
-returns c = (_, record { are_spans = record { some = omega (arith, length-read c.axes.axes c.axes.cell.1.0 c.axes.invariant.few c.axes.invariant.ten, c.if-axes-eq0.false); most = omega (arith, length-read c.axes.axes c.axes.cell.1.0 c.axes.invariant.few c.axes.invariant.ten, c.axes.invariant.few); each = c.axes.invariant.each }; is = c.axes.invariant.is ∙ ap (λ (l : List ℕ). spaced (map span_word (map ends (take c.axes.axes c.axes.cell.1.0))) ++ l) c.in-Some-behind.ensures }, c.in_ok-add_box.ensures)
+returns c = (_, record { are_spans = record { some = omega (arith, length-read c.axes.axes c.axes.cell.1.0 c.axes.invariant.few c.axes.invariant.ten, c.if-axes-eq0.false); most = omega (arith, length-read c.axes.axes c.axes.cell.1.0 c.axes.invariant.few c.axes.invariant.ten, c.axes.invariant.few); each = c.axes.invariant.each }; is = c.axes.invariant.is ∙ ap (λ (l : List ℕ). spaced (map span_word (map ends (take c.axes.axes c.axes.cell.1.0))) ++ l) c.in-Some-behind.ensures }, behind_room _ _ _ _ c.in_ok-push.ensures.items c.in_ok-make_room.ensures)

@@ -7,6 +7,7 @@ use Rattle.gl_box.specs.declared.closed.Closed.{Closed}
 use Rattle.gl_box.specs.Cell.{spans_of}
 use Rattle.gl_plain.specs.Order.{AreParts, cells_of}
 use Rattle.gl_plain.proofs.Partings.{certified_parts}
+use Rattle.gl_walk.specs.InLists.{boxes_in}
 use Rattle.gl_search_examples.proofs.ordered.come_back.Goals as goal
 
 -- a list that was lent whole is what stands there
@@ -19,7 +20,8 @@ lent many new old same is =
 pub in_order-requires : goal.in_order-requires
 in_order-requires g c =
     let same = subst (λ (boxes : List Closed). IsPermutation boxes c.disorder.new.boxes) c.deref_mut.ensures.value c.disorder.ensures in
-    let found = c.in_ok-boxes.field-0.closed in
-    let back = lent found.len c.disorder.new.boxes found.items (length_permutation found.items c.disorder.new.boxes same) found.ok.0 in
+    let list = c.in_ok-boxes.boxes in
+    let searched = subst (λ (boxes : List Closed). IsPermutation boxes c.disorder.new.boxes) c.in_ok-boxes.ensures same in
+    let back = lent list.len c.disorder.new.boxes list.items (length_permutation list.items c.disorder.new.boxes same) list.ok.0 in
     subst (λ (boxes : List Closed). AreParts (spans_of c.whole.result) (cells_of boxes)) (sym back)
-    (subst (λ (all : List (ℕ × ℕ)). AreParts all (cells_of c.disorder.new.boxes)) (sym c.whole.ensures) (certified_parts _ _ _ found.items c.disorder.new.boxes c.in_ok-boxes.ensures.certificate same))
+    (subst (λ (all : List (ℕ × ℕ)). AreParts all (cells_of c.disorder.new.boxes)) (sym c.whole.ensures) (certified_parts _ _ _ (boxes_in c.in_ok-found.found.closed) c.disorder.new.boxes c.in_ok-found.ensures.certificate searched))

@@ -23,14 +23,11 @@ beyond low next axis a b inside covers above =
     let its = ap (λ (s : ℕ × ℕ). s.1) (span_at-spans_of next axis b other) in
     omega (arith, within.1, mine, its, above)
 
-pub is_same-requires : goal.is_same-requires
-is_same-requires c = omega (arith, c.halves.invariant.widest.inside, length-spans_of c.halves.first)
-
 pub halves-smaller : goal.halves-smaller
 halves-smaller c = spread-lower (spans_of c.halves.first) (spans_of c.halve_at.new.cell) (spans_of c.in-Some-halve_at.upper) c.in-Some-halve_at.ensures.halves
 
 pub halves-preserved : goal.halves-preserved
-halves-preserved c =
+halves-preserved c more =
     let first = spans_of c.halves.first in
     let lower = spans_of c.halve_at.new.cell in
     let upper = spans_of c.in-Some-halve_at.upper in
@@ -38,18 +35,15 @@ halves-preserved c =
     let others = open_cells c.halves.opened.items in
     let opened : open_cells c.push.new.self.items ≡ upper ∷ others = ap open_cells c.in_ok-push.ensures.items ∙ open_push c.halves.opened.items c.in-Some-halve_at.upper in
     let apart : first ≡ next → ⊥ = λ same. false≢true (sym c.halves-test.true ∙ c.is_same.ensures.1 same) in
-    record {
-      fronts = λ more. through (c.halves.invariant.fronts more)
-          (subst (λ (o : List (List (ℕ × ℕ))). AreFrontiers (first ∷ others) (next ∷ more) ↔ AreFrontiers (lower ∷ o) (next ∷ more)) (sym opened)
-          (halved_on first lower upper next others more c.in-Some-halve_at.ensures.halves apart));
-      widest = c.widest-axis-in-halves.ensures;
-    }
+    through (c.halves.invariant more)
+    (subst (λ (o : List (List (ℕ × ℕ))). AreFrontiers (first ∷ others) (next ∷ more) ↔ AreFrontiers (lower ∷ o) (next ∷ more)) (sym opened)
+    (halved_on first lower upper next others more c.in-Some-halve_at.ensures.halves apart))
 
 pub returns-clause-there : goal.returns-clause-there
 returns-clause-there c = λ yes more.
     let first = spans_of c.halves.first in
     let others = open_cells c.halves.opened.items in
-    through (c.halves.invariant.fronts more)
+    through (c.halves.invariant more)
     (subst (λ (x : List (ℕ × ℕ)). AreFrontiers (first ∷ others) (x ∷ more) ↔ AreFrontiers others more) (c.is_same.ensures.0 c.halves-test.false) (passed_on first others more))
 
 pub returns-then-cell-axis-clause-absent : goal.returns-then-cell-axis-clause-absent
@@ -61,7 +55,7 @@ returns-then-cell-axis-clause-absent c = λ no more fronts.
     let others = open_cells c.halves.opened.items in
     let halves = c.in-Some-halve_at.ensures.halves in
     let apart : first ≡ spans_of next → ⊥ = λ same. false≢true (sym c.halves-test.true ∙ c.is_same.ensures.1 same) in
-    let parted = (halved_on first (spans_of low) upper (spans_of next) others more halves apart).0 ((c.halves.invariant.fronts more).0 fronts) in
+    let parted = (halved_on first (spans_of low) upper (spans_of next) others more halves apart).0 ((c.halves.invariant more).0 fronts) in
     let covers = first_covered (spans_of low) (spans_of next) (upper ∷ others) more parted in
-    let inside : c.halves.axis < length (spans_of low) = omega (arith, c.halves.invariant.widest.inside, ap length halves.lower_is, length-set {A = ℕ × ℕ}) in
-    beyond low next c.halves.axis c.index-first-axis.result c.index-cell-axis.result inside covers c.if-cell-axis.true
+    let inside : c.widest-axis.result < length (spans_of low) = omega (arith, c.widest-axis.ensures.inside, ap length halves.lower_is, length-set {A = ℕ × ℕ}) in
+    beyond low next c.widest-axis.result c.index-first-axis.result c.index-cell-axis.result inside covers c.if-cell-axis.true

@@ -15,20 +15,14 @@ returns-then-cell-other c = (
 pub returns-then-not-is_same_at : goal.returns-then-not-is_same_at
 returns-then-not-is_same_at c = (
   λ yes. absurd (false≢true yes),
-  λ same. absurd (false≢true (sym c.if-not-is_same_at.true ∙ c.is_same_at.ensures.1 (ap (λ (spans : List (ℕ × ℕ)). span_at spans c.args.first) same))),
-)
-
-pub returns-then-not-is_same_at-2 : goal.returns-then-not-is_same_at-2
-returns-then-not-is_same_at-2 c = (
-  λ yes. absurd (false≢true yes),
-  λ same. absurd (false≢true (sym c.if-not-is_same_at-2.true ∙ c.is_same_at-in-loop-axis.ensures.1 (ap (λ (spans : List (ℕ × ℕ)). span_at spans c.loop-axis.axis) same))),
+  λ same. absurd (false≢true (sym c.if-not-is_same_at.true ∙ c.is_same_at.ensures.1 (ap (λ (spans : List (ℕ × ℕ)). span_at spans c.loop-axis.axis) same))),
 )
 
 pub loop-axis-preserved : goal.loop-axis-preserved
 loop-axis-preserved c =
     let one = spans_of c.args.cell.now in
     let other = spans_of c.args.other.now in
-    below_more (λ k. span_at one k ≡ span_at other k) c.loop-axis.axis c.loop-axis.invariant (c.is_same_at-in-loop-axis.ensures.0 c.if-not-is_same_at-2.false)
+    below_more (λ k. span_at one k ≡ span_at other k) c.loop-axis.axis c.loop-axis.invariant (c.is_same_at.ensures.0 c.if-not-is_same_at.false)
 
 pub returns : goal.returns
 returns c =
