@@ -3,6 +3,7 @@ use crate::flight::three_fixes;
 use crate::meeting::TURNS;
 use gl_box::{Cell, Tuple};
 use gl_goal::{Goal, Leg};
+use gl_plain::search_one;
 use gl_pool::{Gate, search_many};
 use std::sync::atomic::{AtomicBool, Ordering};
 use std::test::Fail;
@@ -93,6 +94,7 @@ impl<'a, G: Goal + Drop> Goal for Watched<'a, G> {
     }
 }
 
+/// The boxes of both stay in their lists, and they are those of a search by one.
 #[test]
 fn a_cell_is_stolen_from_a_worker_that_is_held(rt: HostRuntime) -> Result<(), Fail> {
     let gate = Barrier {
@@ -103,7 +105,15 @@ fn a_cell_is_stolen_from_a_worker_that_is_held(rt: HostRuntime) -> Result<(), Fa
         goal: three_fixes(rt.alloc())?,
         gate: &gate,
     };
-    search_many(&rt, rt.alloc(), &goal, 2, &gate)?;
+    let alone = search_one(rt.alloc(), &goal)?;
+    let found = search_many(&rt, rt.alloc(), &goal, 2, &gate)?;
     assert!(rt; gate.was_asked.load(Ordering::SeqCst));
+    assert!(rt;
+        !found.closed.lists.is_empty(),
+        "the lists are copied into one"
+    );
+    let boxes = found.closed.into_list()?;
+    let others = alone.closed.into_list()?;
+    assert_eq!(rt; boxes.as_slice(), others.as_slice());
     Ok(())
 }
