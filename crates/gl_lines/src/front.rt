@@ -52,9 +52,9 @@ fn digit_of(byte: u8) -> u32
 }
 
 /// The number at the front of a text, with all the digits there, for most of the numbers below
-/// 1,000,000,000 that don't stand at the text's end. It finds them sooner than `any_number_at`: since
-/// the text is long enough, no step has to look for its end. It answers by a length, since an answer
-/// of several parts that may be missing is handed over in memory.
+/// 100,000,000 that don't stand at the text's end. It finds them sooner than `any_number_at`: since
+/// the text is long enough, no step has to look for its end. It answers by a length, since an
+/// answer of several parts that may be missing is handed over in memory.
 #[inline(always)]
 fn common_number_at(text: &[u8]) -> NumberFront
     ensures within { result.bytes ≤ length text.now }
@@ -126,8 +126,8 @@ fn any_span_at(text: &[u8]) -> Option<(Span, &[u8])>
     Some((Span { lo, hi }, rest))
 }
 
-/// The span at the front of a text, and what follows it. It is made where it is read, since an answer
-/// of several parts that is handed over in memory takes longer than reading it.
+/// The span at the front of a text, and what follows it. It is made where it is read, since handing
+/// over an answer of several parts in memory takes longer than reading it.
 #[inline(always)]
 pub fn span_at(text: &[u8]) -> Option<(Span, &[u8])>
     ensures { Reads ends (IsSpanAt text.now) result }

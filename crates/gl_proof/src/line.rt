@@ -37,8 +37,8 @@ fn reason_at(text: &[u8]) -> Option<(Why, &[u8])>
     None
 }
 
-/// Makes room for a box. The list has room for a quarter more boxes than it needs at most, and for a
-/// few. The only error is want of memory.
+/// Makes room for a box. The list has room for a quarter more boxes than it needs at most, and for
+/// a few. The only error is want of memory.
 #[inline]
 fn make_room(cells: &mut Vec<Closed>) -> Result<(), AllocError>
     ensures { OnOk result (cells.new.items ≡ cells.old.items) }
