@@ -44,12 +44,16 @@ fn steal_any(passes: &mut [Pass]) -> Option<Cell>
     None
 }
 
-/// A round over the other deques, which ends with the first cell that one of them gives.
+/// Rounds over the other deques, which end with the first cell that one of them gives, and at once
+/// if there are none.
 fn steal(passes: &mut [Pass]) -> Option<Cell>
     ensures { MatchOption result
         (map end_of passes.new ≡ map end_of passes.old)
         (Steals (map end_of passes.old) (map end_of passes.new)) }
 {
+    if passes.is_empty() {
+        return None;
+    }
     for _ in 0..TRIES {
         if let Some(cell) = steal_any(passes) {
             return Some(cell);
