@@ -29,7 +29,7 @@ use Rattle.gl_pool.specs.Work.{HasHauled}
 use Rattle.gl_pool.proofs.Hearing.{above_before, all_closed_longer, keeps_on, kept_new, kept_on, word_below}
 use Rattle.gl_pool.proofs.Moving.{moves_none, moves_put, moves_taken}
 use Rattle.gl_pool.proofs.Parting.{parted_closed, parted_cut, parted_done, parted_inside, parted_outside, parted_put, parted_start}
-use Rattle.gl_walk.specs.InLists.{boxes_in}
+use Rattle.gl_pool.specs.Trail.{boxes_in}
 
 -- the same lists by other names
 parted_along : (rule : Rule) (seen : Option ℕ) (taken cells cells_too : List Cell) (closed closed_too : List Closed) (put strange strange_too : List Cell) → cells ≡ cells_too → closed ≡ closed_too → strange ≡ strange_too → AreBeingParted rule seen taken cells closed put strange → AreBeingParted rule seen taken cells_too closed_too put strange_too

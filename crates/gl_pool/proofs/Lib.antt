@@ -1,4 +1,5 @@
 pub mod Parting
+pub mod Trails
 pub mod Moving
 pub mod Hearing
 pub mod Going

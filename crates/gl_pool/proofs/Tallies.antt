@@ -21,7 +21,7 @@ use Rattle.gl_pool.specs.Tally.{Gathers, IsGreater, IsTally, Turns, word_of}
 use Rattle.gl_pool.specs.Work.{HasHauled}
 use Rattle.gl_pool.proofs.Hearing.{all_closed_longer}
 use Rattle.gl_pool.proofs.Together.{parted_any}
-use Rattle.gl_walk.specs.InLists.{boxes_in}
+use Rattle.gl_pool.specs.Trail.{boxes_in}
 use Rattle.gl_pool.specs.Listed.{ArePassed, IsPassed, listed_in}
 
 kept_sound : (rule : Rule) (before after : View) (kept best : Option Best) → IsKept rule before after kept → IsSound rule best → IsSound rule (option_or kept best)

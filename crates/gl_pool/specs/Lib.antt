@@ -1,5 +1,5 @@
 pub mod Listed
-pub mod Passage
+pub mod Trail
 pub mod Taken
 pub mod Parts
 pub mod Kept

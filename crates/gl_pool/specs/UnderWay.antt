@@ -11,7 +11,7 @@ use Rattle.gl_pool.specs.declared.bench.Bench.{Bench}
 use Rattle.gl_pool.specs.Kept.{AreClosedFor, IsKept, KeepsSeat, seen_by}
 use Rattle.gl_pool.specs.Parts.{IsFromTaken, IsPartOfTaken, IsStrange, times_closed, times_held}
 use Rattle.gl_pool.specs.Taken.{Moves}
-use Rattle.gl_walk.specs.InLists.{boxes_in}
+use Rattle.gl_pool.specs.Trail.{boxes_in}
 
 -- The cells that were taken are parted into those that the worker still has to look at, those that
 -- it closed, those that it put and the strange ones. Only a cell that stands alone can be one that

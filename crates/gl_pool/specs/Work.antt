@@ -12,7 +12,7 @@ use Rattle.gl_plain.specs.declared.found.Best.{Best}
 use Rattle.gl_box.specs.declared.closed.Closed.{Closed}
 use Rattle.gl_pool.specs.declared.share.Haul.{Haul}
 use Rattle.gl_pool.specs.declared.share.Share.{Share}
-use Rattle.gl_walk.specs.InLists.{boxes_in}
+use Rattle.gl_pool.specs.Trail.{boxes_in}
 use Rattle.gl_pool.specs.Kept.{AreClosedFor, IsKept, KeepsSeat, seen_by}
 use Rattle.gl_pool.specs.Parts.{ArePartedInto}
 use Rattle.gl_pool.specs.Taken.{Moves}

@@ -4,6 +4,7 @@ ghost use Rattle.gl_pool.specs.Tally.{IsTally};
 ghost use Rattle.gl_pool.specs.Listed.{listed_in};
 ghost use Rattle.gl_pool.specs.Crew.{AreSeated, Collects, HasTurned, WorkedAll, has_seat};
 
+use crate::crowd::Crowd;
 use crate::gate::Gate;
 use crate::tally::{Tally, gather, take_turn};
 use gl_best::BestWord;
@@ -66,6 +67,7 @@ fn turned<Rt: Threads + Wait + Sync, G: Goal, K: Gate>(
     goal: &G,
     word: &BestWord,
     gate: &K,
+    crowd: &Crowd,
     mut worker: Worker,
 ) -> Result<Worker, AllocError>
     requires { IsTally (G.rule goal.now) word.now worker.tally }
@@ -77,6 +79,7 @@ fn turned<Rt: Threads + Wait + Sync, G: Goal, K: Gate>(
         goal,
         word,
         gate,
+        crowd,
         worker.number,
         &mut worker.place,
         &mut worker.tally,
@@ -139,13 +142,14 @@ pub(crate) fn work_all<Rt: Threads + Wait + Sync, G: Goal + Sync, K: Gate + Sync
         (λ all. WorkedAll (G.rule goal.now) places.items all.0.items tally all.1) }
 {
     let workers = seated(alloc, word, places, tally)?;
+    let crowd = Crowd::new();
     let worked = thread::map_vec(
         rt,
         workers,
         &|worker: Worker| -> Result<Worker, AllocError>
             requires { IsTally (G.rule goal.now) word.now worker.tally }
             ensures { IfOk result (HasTurned (G.rule goal.entry.now) word.entry.now worker) }
-        { turned(rt, alloc, goal, word, gate, worker) },
+        { turned(rt, alloc, goal, word, gate, &crowd, worker) },
     )?;
     collected(alloc, word, worked)
 }

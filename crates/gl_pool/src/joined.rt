@@ -1,17 +1,15 @@
-ghost use Rattle.std.specs.Prelude.{◌≡◌, ◌↔◌, ℕ, List, ◌++◌, map, IfOk, IfSome, IsPermutation, IsTrue};
+ghost use Rattle.std.specs.Prelude.{◌≡◌, map, IfOk, IsPermutation, IsTrue};
 ghost use Rattle.std.specs.List.{flat_map};
 ghost use Rattle.gl_box.specs.Cell.{spans_of};
 ghost use Rattle.gl_box.specs.Frontier.{IsFrontier};
 ghost use Rattle.gl_plain.specs.Order.{AreParts, cells_of};
 ghost use Rattle.gl_walk.specs.InLists.{boxes_in};
-ghost use Rattle.gl_walk.specs.Walk.{AreFrontiers, open_cells};
 ghost use Rattle.gl_pool.specs.Listed.{ArePassed, listed_in};
-ghost use Rattle.gl_pool.specs.Passage.{Passes};
 
-use crate::listed::{Listed, Passage};
+use crate::trail::Listed;
 use gl_box::{Cell, Closed, covers};
 use gl_plain::join_in_order;
-use gl_walk::{Boxes, go_down};
+use gl_walk::Boxes;
 use std::alloc::{AllocError, Global};
 
 /// Whether two lists have the same cells.
@@ -32,32 +30,13 @@ fn are_same(cells: &[Cell], others: &[Cell]) -> bool
     true
 }
 
-/// Passes some boxes, if it is known how, from the cells that are open. Answers whether they could
-/// be passed; if not, the open cells serve for nothing any more. The only error is want of memory.
-fn go_over(
-    opened: &mut Vec<Cell>,
-    boxes: &[Closed],
-    passage: Option<Passage>,
-) -> Result<bool, AllocError>
-    requires { IfSome passage (Passes boxes.now) }
-    ensures { IfOk result (λ passed. IsTrue passed → (more : List (List (ℕ × ℕ)))
-        → AreFrontiers (open_cells opened.old.items) (cells_of boxes.now ++ more)
-        ↔ AreFrontiers (open_cells opened.new.items) more) }
+/// Whether a list follows on others that follow one another: whether the same cells are open before
+/// it as after those.
+fn follows(others_follow: bool, opened: &[Cell], before: &[Cell]) -> bool
+    ensures follow { IsTrue result → IsTrue others_follow }
+    ensures same { IsTrue result → map spans_of opened.now ≡ map spans_of before.now }
 {
-    let Some(Passage { before, after }) = passage else {
-        return Ok(false);
-    };
-    let Some(first) = boxes.first() else {
-        return Ok(false);
-    };
-    if !go_down(opened, &first.cell)? {
-        return Ok(false);
-    }
-    if !are_same(opened, &before) {
-        return Ok(false);
-    }
-    *opened = after;
-    Ok(true)
+    others_follow && are_same(opened, before)
 }
 
 /// The lists alone, and whether they are known to be a frontier of a whole cell. The only error is
@@ -78,8 +57,14 @@ fn chained(
     opened.push(*whole)?;
     let mut follow = true;
     'lists: for list in lists {
-        let Listed { boxes, passage, .. } = list;
-        follow = follow && go_over(&mut opened, &boxes, passage)?;
+        let Listed {
+            boxes,
+            before,
+            after,
+            ..
+        } = list;
+        follow = follows(follow, &opened, &before);
+        opened = after;
         all.push(boxes)?;
     }
     Ok((all, follow && opened.is_empty()))

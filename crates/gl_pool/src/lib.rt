@@ -2,18 +2,18 @@
 //! where its own is empty, and hears the best total that any of them found.
 #![tactic(auto)]
 
-mod added;
 mod bench;
 mod crew;
+mod crowd;
 mod gate;
 mod joined;
-mod listed;
 mod many;
 mod settle;
 mod share;
 mod step;
 mod taking;
 mod tally;
+mod trail;
 mod worker;
 
 pub use gate::{Gate, OpenGate};

@@ -8,6 +8,7 @@ ghost use Rattle.gl_pool.specs.Listed.{listed_in};
 ghost use Rattle.gl_pool.specs.Tally.{IsTally};
 
 use crate::crew::work_all;
+use crate::crowd::Crowd;
 use crate::gate::{Gate, OpenGate};
 use crate::joined::join_listed;
 use crate::settle::settle_all;
@@ -88,6 +89,7 @@ fn finish<Rt: Threads + Wait + Sync, G: Goal>(
     ensures numbers { OnOk result
         ((view_of tally.new.seat).numbers ≡ (view_of tally.old.seat).numbers) }
 {
+    let crowd = Crowd::new();
     for number in 0..places.len() {
         take_turn(
             rt,
@@ -95,6 +97,7 @@ fn finish<Rt: Threads + Wait + Sync, G: Goal>(
             goal,
             word,
             &OpenGate,
+            &crowd,
             number as u32,
             &mut places[number],
             tally,

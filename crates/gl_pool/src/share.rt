@@ -1,9 +1,9 @@
 ghost use Rattle.std.specs.Prelude.{◌≡◌, [], None};
-ghost use Rattle.gl_walk.specs.InLists.{boxes_in};
+ghost use Rattle.gl_pool.specs.Trail.{IsTrail, boxes_in};
 
+use crate::trail::{Trail, empty_trail};
 use gl_box::{Cell, Closed};
 use gl_plain::Best;
-use gl_walk::Boxes;
 use std::alloc::Global;
 
 /// What one worker has to show for a call: the best tuple that it kept, if it kept one; the cells
@@ -19,7 +19,7 @@ pub struct Share {
 #[derive(Drop)]
 pub(crate) struct Haul {
     pub(crate) kept: Option<Best>,
-    pub(crate) closed: Boxes,
+    pub(crate) closed: Trail,
     pub(crate) strange: Vec<Cell>,
 }
 
@@ -28,11 +28,12 @@ impl Haul {
     pub(crate) fn empty(alloc: Global) -> Haul
         ensures kept { result.kept ≡ None }
         ensures closed { boxes_in result.closed ≡ [] }
+        ensures trail { IsTrail result.closed [] }
         ensures strange { result.strange.items ≡ [] }
     {
         Haul {
             kept: None,
-            closed: Boxes::empty(alloc),
+            closed: empty_trail(alloc),
             strange: Vec::new(alloc),
         }
     }

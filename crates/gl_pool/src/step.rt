@@ -4,18 +4,18 @@ ghost use Rattle.gl_plain.specs.Steps.{Closes};
 ghost use Rattle.gl_best.specs.declared.word.BestWord.{BestWord};
 ghost use Rattle.gl_best.specs.declared.word.Seat.{Seat};
 ghost use Rattle.gl_deal.specs.declared.place.Place.{Place};
-ghost use Rattle.gl_walk.specs.InLists.{boxes_in};
 ghost use Rattle.gl_pool.specs.Taken.{Moves};
+ghost use Rattle.gl_pool.specs.Trail.{IsOnTrail, IsTrail};
 ghost use Rattle.gl_pool.specs.UnderWay.{GoesOn, IsAtWork, Steps};
 
 use crate::bench::Bench;
+use crate::trail::come_to;
 use gl_best::{BestWord, Seat};
 use gl_box::{Cell, Closed, Why, covers, halve};
 use gl_deal::Place;
 use gl_goal::{Goal, whole};
 use gl_plain::{Best, Verdict, test_for};
-use gl_walk::Boxes;
-use std::alloc::AllocError;
+use std::alloc::{AllocError, Global};
 use std::sync::Wait;
 
 /// How many cells a worker tests before it looks at the best word again and puts a cell.
@@ -26,13 +26,13 @@ const KEPT_CELLS: usize = 1;
 
 /// Closes the last cell. The only error is want of memory.
 #[inline]
-fn close(cells: &mut Vec<Cell>, closed: &mut Boxes, why: Why) -> Result<(), AllocError>
+fn close(cells: &mut Vec<Cell>, boxes: &mut Vec<Closed>, why: Why) -> Result<(), AllocError>
     requires { 0 < vec_len cells.old }
     ensures { OnOk result
-        (Closes cells.old.items cells.new.items (boxes_in closed.old) (boxes_in closed.new) why) }
+        (Closes cells.old.items cells.new.items boxes.old.items boxes.new.items why) }
 {
     if let Some(cell) = cells.pop() {
-        closed.push(Closed { cell, why })?;
+        boxes.push(Closed { cell, why })?;
     }
     Ok(())
 }
@@ -51,13 +51,15 @@ fn step<G: Goal>(
     requires at_work { (place : Place)
         × IsAtWork (G.rule goal.now) word.now place seat.old bench.old }
     requires legs { G.are_legs goal.now bench.old.legs.items }
+    requires trail { IsOnTrail bench.old }
     ensures on { OnOk result
         (Steps (G.rule goal.now) word.now seat.old seat.new bench.old bench.new) }
     ensures legs { OnOk result (G.are_legs goal.now bench.new.legs.items) }
+    ensures trail { OnOk result (IsOnTrail bench.new) }
 {
     let top = bench.cells.len() - 1;
     match test_for(goal, &bench.cells[top], bench.seen, &mut bench.legs) {
-        Verdict::Closed(why) => close(&mut bench.cells, &mut bench.share.closed, why)?,
+        Verdict::Closed(why) => close(&mut bench.cells, &mut bench.share.closed.last.boxes, why)?,
         Verdict::Open(bound) => match halve(&mut bench.cells[top]) {
             Some(lower) => bench.cells.push(lower)?,
             None => {
@@ -67,7 +69,11 @@ fn step<G: Goal>(
                 });
                 word.raise(seat, bound);
                 bench.seen = word.look(seat);
-                close(&mut bench.cells, &mut bench.share.closed, Why::Bound)?;
+                close(
+                    &mut bench.cells,
+                    &mut bench.share.closed.last.boxes,
+                    Why::Bound,
+                )?;
             }
         },
     }
@@ -84,9 +90,11 @@ fn stretch<G: Goal>(
     requires at_work { (place : Place)
         × IsAtWork (G.rule goal.now) word.now place seat.old bench.old }
     requires legs { G.are_legs goal.now bench.old.legs.items }
+    requires trail { IsOnTrail bench.old }
     ensures on { OnOk result
         (Steps (G.rule goal.now) word.now seat.old seat.new bench.old bench.new) }
     ensures legs { OnOk result (G.are_legs goal.now bench.new.legs.items) }
+    ensures trail { OnOk result (IsOnTrail bench.new) }
 {
     for _ in 0..STRETCH {
         if bench.cells.is_empty() {
@@ -103,11 +111,13 @@ fn put_oldest(place: &mut Place, bench: &mut Bench) -> Result<(), AllocError>
     ensures on { OnOk result ((rule : Rule) (word : BestWord) (seat : Seat)
         → GoesOn rule word place.old place.new seat seat bench.old bench.new) }
     ensures legs { bench.new.legs.items ≡ bench.old.legs.items }
+    ensures trail { OnOk result (IsOnTrail bench.old → IsOnTrail bench.new) }
 {
     if bench.cells.len() > KEPT_CELLS {
         let oldest = bench.cells.remove(0);
-        if let Err(back) = place.hand.put(oldest) {
-            bench.cells.insert(0, back)?;
+        match place.hand.put(oldest) {
+            Ok(()) => bench.share.closed.last.after.push(oldest)?,
+            Err(back) => bench.cells.insert(0, back)?,
         }
     }
     Ok(())
@@ -124,10 +134,12 @@ pub(crate) fn finish<Rt: Wait, G: Goal>(
 ) -> Result<(), AllocError>
     requires at_work { IsAtWork (G.rule goal.now) word.now place.old seat.old bench.old }
     requires legs { G.are_legs goal.now bench.old.legs.items }
+    requires trail { IsOnTrail bench.old }
     ensures on { OnOk result (GoesOn (G.rule goal.now) word.now
         place.old place.new seat.old seat.new bench.old bench.new) }
     ensures none { OnOk result (bench.new.cells.items ≡ []) }
     ensures legs { OnOk result (G.are_legs goal.now bench.new.legs.items) }
+    ensures trail { OnOk result (IsOnTrail bench.new) }
 {
     for _ in rt.forever() {
         stretch(goal, word, seat, bench)?;
@@ -141,14 +153,23 @@ pub(crate) fn finish<Rt: Wait, G: Goal>(
 }
 
 /// Begins with a cell that was taken. The only error is want of memory.
-pub(crate) fn begin<G: Goal>(goal: &G, cell: Cell, bench: &mut Bench) -> Result<(), AllocError>
-    requires { bench.old.cells.items ≡ [] }
+pub(crate) fn begin<G: Goal>(
+    alloc: Global,
+    goal: &G,
+    cell: Cell,
+    bench: &mut Bench,
+) -> Result<(), AllocError>
+    requires none { bench.old.cells.items ≡ [] }
+    requires trail { IsTrail bench.old.share.closed [] }
     ensures on { OnOk result ((word : BestWord) (place place_after : Place) (seat : Seat)
         → Moves place place_after (cell ∷ []) []
         → GoesOn (G.rule goal.now) word place place_after seat seat bench.old bench.new) }
     ensures legs { bench.new.legs.items ≡ bench.old.legs.items }
+    ensures trail { OnOk result (IsOnTrail bench.new) }
 {
-    if covers(&whole(goal), &cell) {
+    let all = whole(goal);
+    if covers(&all, &cell) {
+        come_to(alloc, &all, &cell, &mut bench.share.closed)?;
         bench.cells.push(cell)?;
     } else {
         bench.share.strange.push(cell)?;

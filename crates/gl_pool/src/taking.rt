@@ -3,19 +3,13 @@ ghost use Rattle.gl_deal.specs.Tokens.{end_of, pass_deque, pass_view};
 ghost use Rattle.gl_deal.specs.Views.{with_stolen};
 ghost use Rattle.gl_pool.specs.Taken.{FindsNone, Moves, Steals};
 
+use crate::crowd::Crowd;
 use gl_box::Cell;
 use gl_deal::{Pass, Place, Steal};
 use std::thread;
 
 /// How often each other deque is tried in a round.
 const TRIES: u32 = 64;
-
-/// A cell that a worker has next, and whether it comes from another one's deque.
-#[derive(Clone, Copy, Debug)]
-pub(crate) struct Next {
-    pub(crate) cell: Cell,
-    pub(crate) is_stolen: bool,
-}
 
 /// Tries another deque once.
 fn steal_from(pass: &mut Pass) -> Option<Cell>
@@ -44,9 +38,9 @@ fn steal_any(passes: &mut [Pass]) -> Option<Cell>
     None
 }
 
-/// Rounds over the other deques, which end with the first cell that one of them gives, and at once
-/// if there are none.
-fn steal(passes: &mut [Pass]) -> Option<Cell>
+/// Rounds over the other deques, which end with the first cell that one of them gives, with a round
+/// after which nobody has a cell any more, and at once if there are no other deques.
+fn steal(passes: &mut [Pass], crowd: &Crowd) -> Option<Cell>
     ensures { MatchOption result
         (map end_of passes.new ≡ map end_of passes.old)
         (Steals (map end_of passes.old) (map end_of passes.new)) }
@@ -58,29 +52,36 @@ fn steal(passes: &mut [Pass]) -> Option<Cell>
         if let Some(cell) = steal_any(passes) {
             return Some(cell);
         }
+        if crowd.is_over() {
+            return None;
+        }
         thread::yield_now();
     }
     None
 }
 
-/// The newest cell of the worker's own deque, or one from the others where that is empty. `None`
-/// where it is empty and a round over the others gave nothing.
-pub(crate) fn next_cell(place: &mut Place) -> Option<Next>
+/// The next cell of a worker that is through with its last one, if it had any: the newest of its own
+/// deque, or one from the others where that is empty. `None` where it is empty and a round over the
+/// others gave nothing.
+pub(crate) fn next_cell(place: &mut Place, crowd: &Crowd, had_any: bool) -> Option<Cell>
     ensures { MatchOption result
         (FindsNone place.old place.new)
-        (λ next. Moves place.old place.new (next.cell ∷ []) []) }
+        (λ cell. Moves place.old place.new (cell ∷ []) []) }
 {
     match place.hand.take() {
-        Some(cell) => Some(Next {
-            cell,
-            is_stolen: false,
-        }),
-        None => match steal(place.passes.as_mut_slice()) {
-            Some(stolen) => Some(Next {
-                cell: stolen,
-                is_stolen: true,
-            }),
-            None => None,
-        },
+        Some(cell) => {
+            crowd.tell(had_any, true);
+            Some(cell)
+        }
+        None => {
+            crowd.tell(had_any, false);
+            match steal(place.passes.as_mut_slice(), crowd) {
+                Some(stolen) => {
+                    crowd.tell(false, true);
+                    Some(stolen)
+                }
+                None => None,
+            }
+        }
     }
 }

@@ -2,14 +2,14 @@ ghost use Rattle.std.specs.Prelude.{OnOk};
 ghost use Rattle.gl_best.specs.Seats.{IsSeatOf};
 ghost use Rattle.gl_pool.specs.Tally.{Gathers, IsGreater, IsTally, Turns};
 
-use crate::added::{add_lists, join_lists};
+use crate::crowd::Crowd;
 use crate::gate::Gate;
-use crate::listed::Listed;
 use crate::share::Haul;
+use crate::trail::{Listed, add_trail, join_lists};
 use crate::worker::work_on;
 use gl_best::{BestWord, Seat};
 use gl_deal::Place;
-use gl_goal::{Goal, whole};
+use gl_goal::Goal;
 use gl_plain::Best;
 use std::alloc::{AllocError, Global};
 use std::sync::Wait;
@@ -41,6 +41,7 @@ pub(crate) fn take_turn<Rt: Threads + Wait + Sync, G: Goal, K: Gate>(
     goal: &G,
     word: &BestWord,
     gate: &K,
+    crowd: &Crowd,
     number: u32,
     place: &mut Place,
     tally: &mut Tally,
@@ -50,9 +51,9 @@ pub(crate) fn take_turn<Rt: Threads + Wait + Sync, G: Goal, K: Gate>(
     ensures turn { OnOk result (Turns (G.rule goal.now) place.old place.new tally.old tally.new) }
 {
     gate.pass(number);
-    let Haul { kept, closed, .. } = work_on(rt, alloc, goal, place, word, &mut tally.seat)?;
+    let Haul { kept, closed, .. } = work_on(rt, alloc, goal, place, word, &mut tally.seat, crowd)?;
     tally.best = kept.or(tally.best);
-    add_lists(alloc, &whole(goal), &mut tally.closed, closed)
+    add_trail(&mut tally.closed, closed)
 }
 
 /// Takes in what another seat raised, and the cells that were closed with it. The only error is

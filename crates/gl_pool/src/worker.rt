@@ -1,13 +1,15 @@
 ghost use Rattle.std.specs.Prelude.{◌≡◌, [], None, IfOk};
 ghost use Rattle.gl_best.specs.Seats.{IsSeatOf};
-ghost use Rattle.gl_walk.specs.InLists.{boxes_in};
+ghost use Rattle.gl_pool.specs.Trail.{IsTrail, boxes_in};
 ghost use Rattle.gl_pool.specs.Work.{HasHauled, HasWorked};
 
 use crate::bench::Bench;
+use crate::crowd::Crowd;
 use crate::gate::Gate;
 use crate::share::{Haul, Share};
 use crate::step::{begin, finish};
 use crate::taking::next_cell;
+use crate::trail::boxes_of;
 use gl_best::{BestWord, Seat};
 use gl_deal::Place;
 use gl_goal::{Goal, measured_legs};
@@ -27,6 +29,7 @@ fn empty_bench<G: Goal>(alloc: Global, goal: &G, seen: Option<u64>) -> Result<Be
     ensures seen { IfOk result (λ bench. bench.seen ≡ seen) }
     ensures kept { IfOk result (λ bench. bench.share.kept ≡ None) }
     ensures closed { IfOk result (λ bench. boxes_in bench.share.closed ≡ []) }
+    ensures trail { IfOk result (λ bench. IsTrail bench.share.closed []) }
     ensures strange { IfOk result (λ bench. bench.share.strange.items ≡ []) }
 {
     Ok(Bench {
@@ -46,24 +49,25 @@ pub(crate) fn work_on<Rt: Wait, G: Goal>(
     place: &mut Place,
     word: &BestWord,
     seat: &mut Seat,
+    crowd: &Crowd,
 ) -> Result<Haul, AllocError>
     requires { IsSeatOf word.now seat.old }
-    ensures { IfOk result
+    ensures hauled { IfOk result
         (HasHauled (G.rule goal.now) word.now place.old place.new seat.old seat.new) }
+    ensures trail { IfOk result (λ haul. IsTrail haul.closed []) }
 {
     let seen = word.look(seat);
-    let Some(mut next) = next_cell(place) else {
+    let Some(mut next) = next_cell(place, crowd, false) else {
         return Ok(Haul::empty(alloc));
     };
     let mut bench = empty_bench(alloc, goal, seen)?;
     for _ in rt.forever() {
-        begin(goal, next.cell, &mut bench)?;
+        begin(alloc, goal, next, &mut bench)?;
         finish(rt, goal, word, place, seat, &mut bench)?;
-        let Some(other) = next_cell(place) else {
+        let Some(other) = next_cell(place, crowd, true) else {
             let Bench { share, .. } = bench;
             return Ok(share);
         };
-        bench.share.closed.begin_if(other.is_stolen)?;
         next = other;
     }
     unreachable!()
@@ -91,10 +95,10 @@ pub fn work<Rt: Threads + Wait + Sync, G: Goal, K: Gate>(
         kept,
         closed,
         strange,
-    } = work_on(rt, alloc, goal, place, word, seat)?;
+    } = work_on(rt, alloc, goal, place, word, seat, &Crowd::of_others())?;
     Ok(Share {
         kept,
-        closed: closed.into_list()?,
+        closed: boxes_of(alloc, closed)?,
         strange,
     })
 }

@@ -17,8 +17,9 @@ use Rattle.gl_pool.specs.Parts.{IsFromTaken}
 use Rattle.gl_pool.proofs.Going.{going_closed, going_cut, going_kept}
 use Rattle.gl_pool.proofs.Hearing.{closed_by_word}
 use Rattle.gl_pool.proofs.Parting.{from_covered}
+use Rattle.gl_pool.proofs.Trails.{boxes_more, closed_on, cut_on}
 use Rattle.gl_pool.proofs.step.step.Goals as goal
-use Rattle.gl_walk.specs.InLists.{boxes_in}
+use Rattle.gl_pool.specs.Listed.{listed_in}
 
 pub test_for-requires-clause-covers : goal.test_for-requires-clause-covers
 test_for-requires-clause-covers g c =
@@ -35,9 +36,10 @@ returns-in_ok-close-in-Closed-clause-on g c place call way =
     let items = bench.cells.items in
     let some : 0 < length items = omega (arith, c.requires.some, bench.cells.ok.0) in
     let last : c.len-top.result - 1 ≡ length items - 1 = omega (arith, c.len-top.ensures, bench.cells.ok.0) in
-    let closes : Closes items c.close.new.cells.items (boxes_in bench.share.closed) (boxes_in c.close.new.closed) c.in-Closed.why = c.in_ok-close-in-Closed.ensures in
+    let trail = bench.share.closed in
+    let closes : Closes items c.close.new.cells.items trail.last.boxes.items c.close.new.boxes.items c.in-Closed.why = c.in_ok-close-in-Closed.ensures in
     let same = same_top items (take (c.len-top.result - 1) items) c.close.new.cells.items c.index.result.now closes.cell (top_is items (c.len-top.result - 1) c.index.result.now some last c.index.ensures) closes.top in
-    going_closed rule c.args.word.now call place c.args.seat.now bench _ way closes.cell c.in-Closed.why closes.top closes.box refl refl refl
+    going_closed rule c.args.word.now call place c.args.seat.now bench _ way closes.cell c.in-Closed.why closes.top (boxes_more (listed_in trail.lists.items) trail.last.boxes.items c.close.new.boxes.items _ closes.box) refl refl refl
     (subst (λ (cell : Cell). IsClosedFor rule bench.seen (spans_of cell) c.in-Closed.why) same c.in-Closed.ensures.verdict)
 
 pub returns-in_ok-push-in-Some-clause-on : goal.returns-in_ok-push-in-Some-clause-on
@@ -104,8 +106,50 @@ returns-in_ok-close-in-None-clause-on g c place call way =
     let kept = going_kept rule c.args.word.now call place c.args.seat.now bench keeps way c.look-bench.new.seat best (record { cells = refl; closed = refl; strange = refl }) refl c.look-bench.ensures.seen
     (record { is_seat = c.look-bench.ensures.seat; numbers = c.look-bench.ensures.numbers ∙ c.raise.ensures.numbers; no_less = omega (arith, c.look-bench.ensures.no_less, c.raise.ensures.no_less) })
     (c.look-bench.ensures.raised ∙ c.raise.ensures.raised) reached promises.above in
-    let closes : Closes (slice_set items n c.halve.new.cell) c.close-in-None.new.cells.items (boxes_in bench.share.closed) (boxes_in c.close-in-None.new.closed) Bound = c.in_ok-close-in-None.ensures in
+    let trail = bench.share.closed in
+    let closes : Closes (slice_set items n c.halve.new.cell) c.close-in-None.new.cells.items trail.last.boxes.items c.close-in-None.new.boxes.items Bound = c.in_ok-close-in-None.ensures in
     let closed = same_top items (take n items) c.close-in-None.new.cells.items c.index_mut.result.now closes.cell top (sym whole ∙ closes.top) in
     let reason = closed_by_word rule (view_of c.look-bench.new.seat).seen (spans_of closes.cell) c.in-Open.bound (omega (arith, c.look-bench.ensures.no_less, c.raise.ensures.seen)) (ap (λ (cell : Cell). rule.bound (spans_of cell)) (sym closed) ∙ sym promises.is_bound) in
-    going_closed rule c.args.word.now call place c.look-bench.new.seat keeps _ kept closes.cell Bound (sym whole ∙ closes.top) closes.box refl refl refl
+    going_closed rule c.args.word.now call place c.look-bench.new.seat keeps _ kept closes.cell Bound (sym whole ∙ closes.top) (boxes_more (listed_in trail.lists.items) trail.last.boxes.items c.close-in-None.new.boxes.items _ closes.box) refl refl refl
     (subst (λ (total : Option ℕ). IsClosedFor rule total (spans_of closes.cell) Bound) (sym c.look-bench.ensures.seen) reason)
+
+pub returns-in_ok-close-in-Closed-clause-trail : goal.returns-in_ok-close-in-Closed-clause-trail
+returns-in_ok-close-in-Closed-clause-trail g c =
+    let bench = c.args.bench.now in
+    let items = bench.cells.items in
+    let trail = bench.share.closed in
+    let closes : Closes items c.close.new.cells.items trail.last.boxes.items c.close.new.boxes.items c.in-Closed.why = c.in_ok-close-in-Closed.ensures in
+    record {
+      passed = c.requires.trail.passed;
+      leads = closed_on trail items c.close.new.cells.items closes.cell c.in-Closed.why c.close.new.boxes.items c.requires.trail closes.top closes.box;
+    }
+
+pub returns-in_ok-push-in-Some-clause-trail : goal.returns-in_ok-push-in-Some-clause-trail
+returns-in_ok-push-in-Some-clause-trail g c =
+    let bench = c.args.bench.now in
+    let items = bench.cells.items in
+    let n = c.len-top.result - 1 in
+    let some : 0 < length items = omega (arith, c.requires.some, bench.cells.ok.0) in
+    let last : n ≡ length items - 1 = omega (arith, c.len-top.ensures, bench.cells.ok.0) in
+    let top = top_is items n c.index_mut.result.now some last c.index_mut.ensures.value in
+    record {
+      passed = c.requires.trail.passed;
+      leads = cut_on bench.share.closed items (take n items) _ c.index_mut.result.now c.in-Some.lower c.halve.new.cell c.requires.trail top
+          (c.in_ok-push-in-Some.ensures.items ∙ ap (λ (cells : List Cell). cells ++ c.in-Some.lower ∷ []) (set_top items n c.halve.new.cell some last)) c.in-Some.ensures.halves;
+    }
+
+pub returns-in_ok-close-in-None-clause-trail : goal.returns-in_ok-close-in-None-clause-trail
+returns-in_ok-close-in-None-clause-trail g c =
+    let bench = c.args.bench.now in
+    let items = bench.cells.items in
+    let trail = bench.share.closed in
+    let n = c.len-top.result - 1 in
+    let some : 0 < length items = omega (arith, c.requires.some, bench.cells.ok.0) in
+    let last : n ≡ length items - 1 = omega (arith, c.len-top.ensures, bench.cells.ok.0) in
+    let top = top_is items n c.index_mut.result.now some last c.index_mut.ensures.value in
+    let whole : slice_set items n c.halve.new.cell ≡ items = set_top items n c.halve.new.cell some last ∙ ap (λ (cell : Cell). take n items ++ cell ∷ []) c.in-None.ensures.same ∙ sym top in
+    let closes : Closes (slice_set items n c.halve.new.cell) c.close-in-None.new.cells.items trail.last.boxes.items c.close-in-None.new.boxes.items Bound = c.in_ok-close-in-None.ensures in
+    record {
+      passed = c.requires.trail.passed;
+      leads = closed_on trail items c.close-in-None.new.cells.items closes.cell Bound c.close-in-None.new.boxes.items c.requires.trail (sym whole ∙ closes.top) closes.box;
+    }

@@ -9,4 +9,5 @@ pub loop-preserved : goal.loop-preserved
 loop-preserved g c = record {
   on = λ place call way. c.in_ok-step.ensures.on place call (c.loop.invariant.on place call way);
   legs = c.in_ok-step.ensures.legs;
+  trail = c.in_ok-step.ensures.trail;
 }

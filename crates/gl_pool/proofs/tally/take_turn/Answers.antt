@@ -11,12 +11,12 @@ on_ok_both (Err e) f x y = tt
 
 pub returns-clause-tally : goal.returns-clause-tally
 returns-clause-tally g c =
-    on_ok_both c.add_lists.result
-    (λ closed passed. tally_on (g.G.Goal.rule c.args.goal.now) c.args.word.now c.args.place.now c.work_on.new.place c.args.tally.now _ c.in_ok-kept.field-0 c.requires c.in_ok-kept.ensures c.or-tally.ensures closed passed)
-    c.add_lists.ensures.boxes c.add_lists.ensures.passed
+    on_ok_both c.add_trail.result
+    (λ closed passed. tally_on (g.G.Goal.rule c.args.goal.now) c.args.word.now c.args.place.now c.work_on.new.place c.args.tally.now _ c.in_ok-kept.field-0 c.requires c.in_ok-kept.ensures.hauled c.or-tally.ensures closed passed)
+    c.add_trail.ensures.boxes c.add_trail.ensures.passed
 
 pub returns-clause-turn : goal.returns-clause-turn
 returns-clause-turn g c =
-    on_ok_weaker c.add_lists.result
-    (λ closed. turns_on (g.G.Goal.rule c.args.goal.now) c.args.word.now c.args.place.now c.work_on.new.place c.args.tally.now _ c.in_ok-kept.field-0 c.in_ok-kept.ensures closed)
-    c.add_lists.ensures.boxes
+    on_ok_weaker c.add_trail.result
+    (λ closed. turns_on (g.G.Goal.rule c.args.goal.now) c.args.word.now c.args.place.now c.work_on.new.place c.args.tally.now _ c.in_ok-kept.field-0 c.in_ok-kept.ensures.hauled closed)
+    c.add_trail.ensures.boxes
