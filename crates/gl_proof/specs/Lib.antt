@@ -4,6 +4,7 @@ pub mod Fronts
 pub mod Line
 pub mod Number
 pub mod Passage
+pub mod Reading
 pub mod Refusal
 pub mod Text
 pub use Rattle.gl_box.specs.Cell

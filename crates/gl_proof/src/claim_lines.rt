@@ -4,6 +4,7 @@ ghost use Rattle.gl_proof.specs.Claim.{fix_lines, statement_of};
 ghost use Rattle.gl_proof.specs.Number.{is_number};
 ghost use Rattle.gl_lines.specs.Misfit.{OrMemory};
 ghost use Rattle.gl_proof.specs.Passage.{AreBoxesAt, AreClaimedAt, IsClaimRead, LacksClaim, LacksFixes};
+ghost use Rattle.gl_proof.specs.Reading.{AddsBoxes};
 
 use crate::claim::Claim;
 use crate::line::{add_box_at, claim_line_at, fixes_at};
@@ -14,16 +15,25 @@ use gl_walk::Boxes;
 use std::alloc::{AllocError, Global};
 use std::str::from_utf8;
 
+/// Adds the boxes whose lines stand at the front of a text to some boxes, and hands out what
+/// follows them. The only error is want of memory.
+pub fn add_boxes_at<'a>(cells: &mut Vec<Closed>, text: &'a [u8]) -> Result<&'a [u8], AllocError>
+    ensures { IfOk result (λ rest. AddsBoxes text.now cells.old.items cells.new.items rest.now) }
+{
+    let mut rest = text;
+    'boxes: while let Some(after) = add_box_at(cells, rest)? {
+        rest = after;
+    }
+    Ok(rest)
+}
+
 /// The boxes whose lines stand at the front of a text, and what follows them. The only error is
 /// want of memory.
 fn boxes_at(alloc: Global, text: &[u8]) -> Result<(Vec<Closed>, &[u8]), AllocError>
     ensures { IfOk result (λ read. AreBoxesAt text.now (map box_of read.0.items) read.1.now) }
 {
     let mut cells = Vec::new(alloc);
-    let mut rest = text;
-    'boxes: while let Some(after) = add_box_at(&mut cells, rest)? {
-        rest = after;
-    }
+    let rest = add_boxes_at(&mut cells, text)?;
     Ok((cells, rest))
 }
 

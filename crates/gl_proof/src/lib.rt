@@ -8,6 +8,7 @@ mod entrant;
 mod line;
 mod proof;
 mod read;
+mod reader;
 mod version;
 mod write;
 
@@ -15,5 +16,6 @@ pub use claim::{Claim, ClaimKind};
 pub use gl_lines::ProofError;
 pub use proof::Proof;
 pub use read::read_proof;
+pub use reader::ProofReader;
 pub use version::Version;
 pub use write::{write_boxes, write_claim, write_front};

@@ -1,14 +1,17 @@
-ghost use Rattle.std.specs.Prelude.{◌≡◌, ◌≢◌, ◌↔◌, ◌⊎◌, ◌++◌, ℕ, List, IfOk, IfErr, IsErrOf, IsTrue, MatchResult};
+ghost use Rattle.std.specs.Prelude.{◌≡◌, ◌≢◌, ◌↔◌, ◌⊎◌, ◌++◌, ◌<◌, ℕ, List, length, map, IfOk, IfErr, IsErrOf, IsTrue, MatchResult};
 ghost use Rattle.gl_lines.specs.Fronts.{Reads};
 ghost use Rattle.gl_lines.specs.declared.error.ProofError.{ProofError};
 ghost use Rattle.gl_lines.specs.declared.error.ProofError.TheVariants.{Memory};
-ghost use Rattle.gl_proof.specs.Claim.{Statement};
+ghost use Rattle.gl_proof.specs.Claim.{Statement, statement_of};
 ghost use Rattle.gl_proof.specs.Fronts.{IsHeadingAt};
 ghost use Rattle.gl_proof.specs.Line.{EndLine, ended};
+ghost use Rattle.gl_proof.specs.Passage.{NoBox};
+ghost use Rattle.gl_proof.specs.Reading.{AreClaimsAt};
 ghost use Rattle.gl_proof.specs.Refusal.{IsRefused};
 ghost use Rattle.gl_proof.specs.Text.{IsTextOf, statements_of};
 ghost use Rattle.gl_proof.specs.declared.version.Version.{Version};
 
+use crate::claim::Claim;
 use crate::claim_lines::claim_at;
 use crate::proof::Proof;
 use crate::version::Version;
@@ -19,7 +22,7 @@ use std::alloc::Global;
 const END: &[u8] = b"END\n";
 
 /// The version that the heading at the front of a text tells, and what follows the heading.
-fn heading_at(text: &[u8]) -> Option<(Version, &[u8])>
+pub(crate) fn heading_at(text: &[u8]) -> Option<(Version, &[u8])>
     ensures { Reads (λ version. version) (IsHeadingAt text.now) result }
 {
     if let Some(rest) = behind(text, b"GLIDEPROOF 1\n") {
@@ -38,16 +41,24 @@ fn is_end(text: &[u8]) -> bool
     behind(text, END).is_some()
 }
 
-/// The proof of a text, or why it is none.
-fn read_lines(alloc: Global, text: &[u8]) -> Result<Proof, ProofError>
-    ensures ok { IfOk result (λ proof. IsTextOf proof.version text.now (statements_of proof)) }
-    ensures refused { IfErr result (IsRefused text.now) }
+/// The proof of a text whose first claims are read already, the last of them with all its boxes, or
+/// why it is none. What follows them is given, and the number of its first line.
+pub(crate) fn read_claims(
+    alloc: Global,
+    version: Version,
+    mut claims: Vec<Claim>,
+    text: &[u8],
+    mut line: u32,
+) -> Result<Proof, ProofError>
+    requires { 0 < length claims.items → NoBox text.now }
+    ensures ok { IfOk result (λ proof. (whole : List ℕ)
+        → AreClaimsAt version whole (map statement_of claims.items) text.now line
+        → IsTextOf proof.version whole (statements_of proof)) }
+    ensures refused { IfErr result (λ error. (whole : List ℕ)
+        → AreClaimsAt version whole (map statement_of claims.items) text.now line
+        → IsRefused whole error) }
 {
-    let Some((version, mut rest)) = heading_at(text) else {
-        return Err(ProofError::Heading);
-    };
-    let mut line = 2;
-    let mut claims = Vec::new(alloc);
+    let mut rest = text;
     'claims: while !is_end(rest) {
         let (claim, after, next) = match claim_at(alloc, rest, line) {
             Ok(read) => read,
@@ -61,6 +72,17 @@ fn read_lines(alloc: Global, text: &[u8]) -> Result<Proof, ProofError>
         return Err(ProofError::Line(later(line, 1)));
     }
     Ok(Proof { version, claims })
+}
+
+/// The proof of a text, or why it is none.
+pub(crate) fn read_lines(alloc: Global, text: &[u8]) -> Result<Proof, ProofError>
+    ensures ok { IfOk result (λ proof. IsTextOf proof.version text.now (statements_of proof)) }
+    ensures refused { IfErr result (IsRefused text.now) }
+{
+    let Some((version, rest)) = heading_at(text) else {
+        return Err(ProofError::Heading);
+    };
+    read_claims(alloc, version, Vec::new(alloc), rest, 2)
 }
 
 /// Reads a proof from its text, as docs/proof-file.md has it: the one proof, of the one version, with
