@@ -1,15 +1,16 @@
 -- The files of a generated day pass the tests of `score`.
-use Rattle.std.proofs.Common.{◌≡◌, ◌∙◌, refl, sym, ap, subst, arith, ℕ, true, false, List, length, map, Option, None, Some, Ok, Err, codes}
+use Rattle.std.proofs.Common.{◌≡◌, ◌∙◌, refl, sym, ap, subst, arith, ℕ, inl, inr, Bool, true, false, List, length, map, Option, None, Some, codes}
+use Rattle.std.proofs.lemmas.Bool.{lt-ltb}
 use Rattle.std.proofs.lemmas.List.Elements.{All-cons, All-map}
 use Rattle.std.proofs.lemmas.Str.{IsUtf8-from_is_utf8}
 use Rattle.std.specs.Char.{encode_utf8}
 use Rattle.std.specs.List.{range_with_len}
+use Rattle.std.specs.Option.{option_and_then}
 use Rattle.std.specs.Prelude.{All, Any, is_some, nat_lt, slice_index, unwrap_or}
 use Rattle.std.specs.Str.{chars, is_utf8}
 use Rattle.toml.proofs.OnLiterals.{toml_on_literals}
 use Rattle.toml.specs.Data.{Members, no_members}
 use Rattle.toml.specs.Parse.{parse_document}
-use Rattle.gl_airspace.specs.declared.volume.Airspace.{Airspace}
 use Rattle.gl_desk.specs.Limits.{most_bytes}
 use Rattle.gl_demo.specs.Day.{entrant_file, generated_files}
 use Rattle.gl_demo.specs.Recording.{recording_name}
@@ -24,17 +25,15 @@ use Rattle.gl_sphere.specs.Sine.{half_turn_sine, quarter_sine, radians, sine_sum
 use Rattle.gl_task_file.specs.Keys.{first_failed, said}
 use Rattle.gl_task_file.specs.Places.{grid_at, grid_of_text, other_point}
 use Rattle.gl_task.specs.SamePoint.{is_same_vector}
-use Rattle.gl_task_file.specs.Reading.{IsDocument, IsReadFrom}
+use Rattle.gl_task_file.specs.Reading.{IsDocument}
 use Rattle.gl_task_file.specs.Tests.{course_tests, day_tests, entrant_tests, entrants_tests, finish_tests, head_tests, lists_tests, numbered_tests, part_tests, people_tests, pilot_tests, plan_tests, rules_tests, start_tests, tests, way_tests, word_tests, zone_tests, zones_tests}
 use Rattle.gl_task_file.specs.Values.{day_of, file_name, kind_of, list_word_of, recent_day}
-use Rattle.gl_task_file.specs.declared.error.TaskError.{TaskError}
-use Rattle.gl_task.specs.declared.task.Task.{Task}
 use Rattle.gl_text.specs.Digits.{number_of}
-use Rattle.gl_files.specs.declared.day_files.DayFiles.{DayFiles}
 use Rattle.gl_files.specs.declared.refusal.Refusal.{Refusal}
-use Rattle.gl_files.specs.DayFiles.{IfPassed, IsAirspaceFor, IsDayOf, IsEmptyAirspace, IsRefusedFor, IsScoreTested, IsTaskIn, Tested, task_cause}
-use Rattle.gl_files.proofs.DayPasses.{listed_then, new_then, ok_or_err, small_then, task_passed}
-use Rattle.gl_files.proofs.Readings.{document_same, table_refused}
+use Rattle.gl_files.specs.declared.refusal.Cause.{Cause}
+use Rattle.gl_files.specs.DayFiles.{IsScoreSeen, ScoreSeen, airspace_tests, named_airspace, score_tests, task_tests}
+use Rattle.gl_files.specs.FileTests.{FirstFails, IsNoText, TaskText, task_cause}
+use Rattle.gl_files.proofs.Readings.{table_refused}
 use Rattle.gl_app.specs.Demo.{HasJust, demo_names}
 
 -- the table of the task
@@ -71,33 +70,33 @@ pub demo_names_no_airspace : said (codes "airspace") file_name demo_table ≡ No
 unfolding toml_on_literals task_text demo_table
 demo_names_no_airspace = refl
 
+large_or_not : (large : Bool) → large ≡ false → large ≡ true → ⊥
+large_or_not large small is = cc
+
 -- the text is small
 demo_text_small : nat_lt most_bytes (length task_text) ≡ false
 unfolding task_text
 demo_text_small = refl
 
-task_in : (refusal : Refusal) → IsTaskIn task_file_name task_text (Err refusal) → ⊥
-task_in refusal (Ok read, is, same) = ok_or_err read refusal (sym same)
-task_in refusal (Err error, is, refused) =
-    subst (λ (e : TaskError). IsRefusedFor {X = Task} task_file_name (task_cause e) (Err refusal))
-    (table_refused task_text demo_table error demo_document demo_table_passes is) refused
+no_refusal : (cause : Cause) → IsNoText TaskText task_text cause → ⊥
+no_refusal cause (error, is, why) =
+    let memory = table_refused task_text demo_table error demo_document demo_table_passes is in
+    let e : ◌≡◌ {A = Option Cause} None (Some cause) = sym (ap task_cause memory) ∙ why in cc
 
-no_airspace : (read : Task) → IsReadFrom task_text read → read.airspace ≡ None
-no_airspace read is =
-    sym is.says.airspace
-    ∙ subst (λ (file : Members). said (codes "airspace") file_name file ≡ None) (document_same task_text demo_table is.file demo_document is.document) demo_names_no_airspace
+-- it names no airspace file
+no_airspace : named_airspace task_text ≡ None
+unfolding named_airspace
+no_airspace = ap (option_and_then (said (codes "airspace") file_name)) demo_reads ∙ demo_names_no_airspace
 
-airspace_in : (folder : Option FilesByName) (v : Task) (then : Tested Airspace) (refusal : Refusal) → v.airspace ≡ None → IsAirspaceFor folder v.airspace then → IfPassed {Y = DayFiles} then (Err refusal) (λ air. ◌≡◌ {A = Tested DayFiles} (Err refusal) (Ok (record { task = v; airspace = air }))) → ⊥
-airspace_in folder v (Ok a) refusal none is same = ok_or_err _ refusal (sym same)
-airspace_in folder v (Err other) refusal none is same =
-    let empty : IsEmptyAirspace (Err other) = subst (λ (file : Option (List ℕ)). IsAirspaceFor folder file (Err other)) none is in
-    ok_or_err empty.0 other (sym empty.2)
+no_tests : (file seen : Option (List ℕ)) (refusal : Refusal) → file ≡ None → FirstFails (airspace_tests file seen) refusal → ⊥
+no_tests None seen refusal none fails = fails
+no_tests (Some file) seen refusal none fails = absurd (cc)
 
-day_in : (folder : Option FilesByName) (refusal : Refusal) → IsDayOf folder task_file_name task_text (Err refusal) → ⊥
-day_in folder refusal (Ok v, is, then) =
-    airspace_in folder v then.0 refusal (no_airspace v (task_passed task_file_name task_text v is).reads) then.1 then.2
-day_in folder refusal (Err other, is, same) =
-    task_in other (small_then (nat_lt most_bytes (length task_text)) _ (IsTaskIn task_file_name task_text (Err other)) demo_text_small is)
+-- so no test fails of that text
+text_passes : (file : List ℕ) (air : Option (List ℕ)) (refusal : Refusal) → FirstFails (task_tests file (record { text = Some task_text; airspace = air })) refusal → ⊥
+text_passes file air refusal (inl (same, (large, why))) = large_or_not (nat_lt most_bytes (length task_text)) demo_text_small (lt-ltb most_bytes (length task_text) large)
+text_passes file air refusal (inr (small, inl (same, wrong))) = no_refusal refusal.cause wrong
+text_passes file air refusal (inr (small, inr (reads, fails))) = no_tests (named_airspace task_text) air refusal no_airspace fails
 
 -- each name begins with D
 abbrev BeginsWithD : List ℕ × List ℕ → Type 0
@@ -132,8 +131,15 @@ unfolding generated_files
 task_there number folder has = has.each 0 (task_file_name, task_text) (omega arith)
 
 -- the tests of `score` refuse no file of a generated day
-pub demo_not_refused : (number : ℕ) (folder : FilesByName) (refusal : Refusal) → HasJust (generated_files number) folder → IsScoreTested (Some folder) demo_names (Err refusal) → ⊥
-demo_not_refused number folder refusal has (seen, there, is) =
-    let at = listed_then {X = DayFiles} task_file_name seen task_text (Err refusal) _ (sym there ∙ task_there number folder has) is in
-    day_in (Some folder) refusal
-    (new_then at.0 (IsDayOf (Some folder) task_file_name task_text (Err refusal)) _ (no_proof number folder at.0 has at.1) at.2)
+not_refused : (text proof air : Option (List ℕ)) (refusal : Refusal) → text ≡ Some task_text → proof ≡ None → FirstFails (score_tests demo_names (record { task = record { text = text; airspace = air }; proof = proof })) refusal → ⊥
+not_refused None proof air refusal there new fails = absurd (cc)
+not_refused (Some text) (Some bytes) air refusal there new fails = absurd (cc)
+not_refused (Some text) None air refusal there new (inl (same, (none, why))) = cc
+not_refused (Some text) None air refusal there new (inr (listed, inl (same, (some, why)))) = cc
+not_refused (Some text) None air refusal there new (inr (listed, inr (unlisted, fails))) =
+    let e : text ≡ task_text = cc in
+    text_passes task_file_name air refusal (subst (λ (t : List ℕ). FirstFails (task_tests task_file_name (record { text = Some t; airspace = air })) refusal) e fails)
+
+pub demo_not_refused : (number : ℕ) (folder : FilesByName) (seen : ScoreSeen) (refusal : Refusal) → HasJust (generated_files number) folder → IsScoreSeen demo_names (Some folder) seen → FirstFails (score_tests demo_names seen) refusal → ⊥
+demo_not_refused number folder seen refusal has is fails =
+    not_refused seen.task.text seen.proof seen.task.airspace refusal (sym is.task.text ∙ task_there number folder has) (no_proof number folder seen.proof has is.proof) fails

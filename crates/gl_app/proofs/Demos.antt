@@ -1,8 +1,7 @@
 -- What `demo` announces.
-use Rattle.std.proofs.Common.{◌≡◌, ◌∙◌, sym, ap, subst, refl, ℕ, ◌≤◌, inl, inr, Bool, false, List, [], ◌++◌, length, Option, None, Some, Ok, Err, arith}
-use Rattle.std.proofs.lemmas.Bool.{ltb-false}
+use Rattle.std.proofs.Common.{◌≡◌, ◌∙◌, sym, ap, subst, refl, ℕ, ◌≤◌, inl, inr, List, [], ◌++◌, length, Option, None, Some, arith}
 use Rattle.std.specs.Option.{unwrap_or}
-use Rattle.std.specs.Prelude.{IfSome, Vec, nat_lt}
+use Rattle.std.specs.Prelude.{IfSome, Vec}
 use Rattle.std.specs.declared.alloc.Global.{Global}
 use Rattle.std.proofs.lemmas.List.{get_or-map, length-map}
 use Rattle.std.proofs.lemmas.List.Elements.{All-map}
@@ -20,7 +19,7 @@ use Rattle.gl_answer.specs.Answer.{Answer, saying}
 use Rattle.gl_app.specs.Check.{IsScoredFolder}
 use Rattle.gl_app.specs.Demo.{HasJust, IsCountOf, IsDemo, claims_line, demo_names}
 use Rattle.gl_app.specs.Score.{IsScore}
-use Rattle.gl_app.proofs.Accepting.{score_ended}
+use Rattle.gl_app.proofs.Accepting.{proof_new, score_ended}
 use Rattle.gl_app.proofs.DemoTask.{demo_not_refused}
 
 -- a file as contracts see it
@@ -44,8 +43,8 @@ pub record ScoredThere (stewards : List StewardRules) (number : ℕ) (folder : F
   pub is : IsScore (Some folder) stewards names answer
 
 done_so : (folder : FilesByName) (stewards : List StewardRules) (number : ℕ) (scored : Answer) → HasJust (generated_files number) folder → IsScore (Some folder) stewards demo_names scored → scored.status ≡ status.Done
-done_so folder stewards number scored has (Ok day, tested, is) = is.ended
-done_so folder stewards number scored has (Err refusal, tested, same) = absurd (demo_not_refused number folder refusal has tested)
+done_so folder stewards number scored has (seen, there, inl (passes, (day, read, is))) = is.ended
+done_so folder stewards number scored has (seen, there, inr (refusal, fails, same)) = absurd (demo_not_refused number folder seen refusal has there fails)
 
 -- a `score` that was asked so ended with a sheet
 pub demo_done : (stewards : List StewardRules) (number : ℕ) (folder : FilesByName) (names : DayNames) (scored : Answer) → ScoredThere stewards number folder names scored → scored.status ≡ status.Done
@@ -54,10 +53,10 @@ demo_done stewards number folder names scored there =
 
 -- and its sheet is announced with the count of claims
 announced_so : (folder : FilesByName) (stewards : List StewardRules) (number : ℕ) (scored answer : Answer) (claims : ℕ) → HasJust (generated_files number) folder → IsScore (Some folder) stewards demo_names scored → IsCountOf scored.appended claims → answer ≡ saying status.Done (scored.said ++ claims_line claims) → IsDemo stewards number answer
-announced_so folder stewards number scored answer claims has (Ok day, tested, is) counted says =
-    (folder, has, day, tested, record { scored = scored; is = is; claims = claims; counted = counted; says = says })
-announced_so folder stewards number scored answer claims has (Err refusal, tested, same) counted says =
-    absurd (demo_not_refused number folder refusal has tested)
+announced_so folder stewards number scored answer claims has (seen, there, inl (passes, (day, read, is))) counted says =
+    (folder, has, day, (seen, there, passes, read), record { scored = scored; is = is; claims = claims; counted = counted; says = says })
+announced_so folder stewards number scored answer claims has (seen, there, inr (refusal, fails, same)) counted says =
+    absurd (demo_not_refused number folder seen refusal has there fails)
 
 pub demo_announced : (stewards : List StewardRules) (number : ℕ) (folder : FilesByName) (names : DayNames) (scored answer : Answer) (claims : ℕ) → ScoredThere stewards number folder names scored → IsCountOf scored.appended claims → answer ≡ saying status.Done (scored.said ++ claims_line claims) → IsDemo stewards number answer
 demo_announced stewards number folder names scored answer claims there counted says =
@@ -81,7 +80,7 @@ scored_folder most x y before files stewards names answer x_is y_is scored done 
     let wrote = given.written.appended in
     let P : Option FilesByName → Option FilesByName → Type 0 = λ f g. FileTakes f g names.proof answer.appended in
     let takes : P (Some before) (Some files) = subst (λ f. P f (Some files)) x_is (subst (λ g. P x.folder g) y_is wrote.1) in
-    let proof = taken before files names.proof answer.appended _ ended.proof_new ended.scored.appended takes in (
+    let proof = taken before files names.proof answer.appended _ (proof_new before stewards names answer ended) ended.scored.appended takes in (
       record {
         before = before;
         stewards = stewards;

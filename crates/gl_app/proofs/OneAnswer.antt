@@ -1,6 +1,5 @@
 -- In a folder two right answers of `score` end and say the same.
-use Rattle.std.proofs.Common.{◌≡◌, ◌∙◌, refl, sym, subst, ℕ, List, [], ◌∷◌, Option, Some, Ok, Err}
-use Rattle.std.specs.Prelude.{MatchResult}
+use Rattle.std.proofs.Common.{◌≡◌, ◌∙◌, refl, sym, ap, subst, ℕ, ◌⊎◌, inl, inr, List, [], ◌∷◌, Option, Some}
 use Rattle.std.specs.List.{AllZip}
 use Rattle.gl_desk.specs.Desk.{FilesByName}
 use Rattle.gl_proof.proofs.Unique.{text_unique}
@@ -12,16 +11,18 @@ use Rattle.gl_day.specs.Flight.{IsFlight, StewardRules}
 use Rattle.gl_day.specs.Laws.Sheets.{sheet_of-one}
 use Rattle.gl_words.specs.Words.{DayNames}
 use Rattle.gl_files.specs.declared.day_files.DayFiles.{DayFiles}
-use Rattle.gl_files.specs.DayFiles.{Tested}
-use Rattle.gl_files.proofs.DayPasses.{seen_alone}
-use Rattle.gl_files.proofs.OneDay.{tests_one}
+use Rattle.gl_files.specs.declared.refusal.Refusal.{Refusal}
+use Rattle.gl_files.specs.DayFiles.{ScoreSeen, score_tests}
+use Rattle.gl_files.specs.FileTests.{AllPass, FirstFails}
+use Rattle.gl_files.proofs.FileTests.{none_fails}
+use Rattle.gl_files.proofs.OneDay.{day_one, refusal_one, seen_alone, seen_one}
 use Rattle.gl_tally.specs.Alike.{AreAlike}
 use Rattle.gl_tally.specs.Scored.{IsScored, Scored, flights_of_all, statements_of_all}
 use Rattle.gl_tally.proofs.Flights.{zip-append}
 use Rattle.gl_tally.proofs.OneFlight.{IsOneFlight, flight_one}
 use Rattle.gl_answer.specs.Answer.{Answer, refused}
 use Rattle.gl_app.specs.Laws.{AreProofsAlike, HasOneAnswer}
-use Rattle.gl_app.specs.Score.{IsDayScored, IsScore}
+use Rattle.gl_app.specs.Score.{IsDayScored, IsScore, IsScoreTold}
 
 -- two answers end and say the same, and append proofs that are alike
 pub record IsOneAnswer (one other : Answer) : Type 0 where
@@ -61,8 +62,8 @@ proofs_alike one other ss ts alike is also statements others is_one is_other =
     (subst (λ (list : List Statement). AllZip AreAlike list ts) (text_unique one ss statements is is_one) alike)
 
 -- a day has one answer
-day_one : (files : FilesByName) (day : DayFiles) (stewards : List StewardRules) (one other : Answer) → IsDayScored (Some files) day stewards one → IsDayScored (Some files) day stewards other → IsOneAnswer one other
-day_one files day stewards one other is also =
+day_answer : (files : FilesByName) (day : DayFiles) (stewards : List StewardRules) (one other : Answer) → IsDayScored (Some files) day stewards one → IsDayScored (Some files) day stewards other → IsOneAnswer one other
+day_answer files day stewards one other is also =
     let same = each_one files day stewards day.task.entrants is.scored also.scored is.each also.each in
     record {
       status = is.ended ∙ sym also.ended;
@@ -83,15 +84,25 @@ same_one one other same = subst (IsOneAnswer one) same
       proofs = λ statements others is also. subst (λ (list : List Statement). AllZip AreAlike statements list) (text_unique one.appended statements others is also) (same_alike statements);
     })
 
--- what the tests ended with gives one answer
-tested_one : (files : FilesByName) (stewards : List StewardRules) (x : Tested DayFiles) (one other : Answer) → MatchResult x (λ day. IsDayScored (Some files) day stewards one) (λ refusal. one ≡ refused refusal.file refusal.cause) → MatchResult x (λ day. IsDayScored (Some files) day stewards other) (λ refusal. other ≡ refused refusal.file refusal.cause) → IsOneAnswer one other
-tested_one files stewards (Ok day) one other is also = day_one files day stewards one other is also
-tested_one files stewards (Err refusal) one other is also = same_one one other (is ∙ sym also)
+-- what is seen gives one answer
+abbrev IsAnswered : FilesByName → List StewardRules → DayNames → Answer → ScoreSeen → Type 0
+IsAnswered files stewards names answer seen =
+    (AllPass (score_tests names seen) × IsScoreTold (Some files) stewards seen answer)
+    ⊎ ((refusal : Refusal) × FirstFails (score_tests names seen) refusal × (answer ≡ refused refusal.file refusal.cause))
+
+seen_answer : (files : FilesByName) (stewards : List StewardRules) (names : DayNames) (seen : ScoreSeen) (one other : Answer) → IsAnswered files stewards names one seen → IsAnswered files stewards names other seen → IsOneAnswer one other
+seen_answer files stewards names seen one other (inl (passes, (day, read, is))) (inl (pass, (second, too, also))) =
+    day_answer files day stewards one other is
+    (subst (λ (d : DayFiles). IsDayScored (Some files) d stewards other) (day_one seen.task second day too read) also)
+seen_answer files stewards names seen one other (inl (passes, is)) (inr (refusal, fails, same)) = absurd (none_fails (score_tests names seen) refusal passes fails)
+seen_answer files stewards names seen one other (inr (refusal, fails, same)) (inl (passes, is)) = absurd (none_fails (score_tests names seen) refusal passes fails)
+seen_answer files stewards names seen one other (inr (refusal, fails, is)) (inr (second, fail, also)) =
+    same_one one other (is ∙ ap (λ (r : Refusal). refused r.file r.cause) (refusal_one names seen refusal second fails fail) ∙ sym also)
 
 answer_one : (files : FilesByName) (stewards : List StewardRules) (names : DayNames) (one other : Answer) → IsScore (Some files) stewards names one → IsScore (Some files) stewards names other → IsOneAnswer one other
-answer_one files stewards names one other (x, tested, is) (y, too, also) =
-    tested_one files stewards x one other is
-    (subst (λ (t : Tested DayFiles). MatchResult t (λ day. IsDayScored (Some files) day stewards other) (λ refusal. other ≡ refused refusal.file refusal.cause)) (tests_one files names y x too tested) also)
+answer_one files stewards names one other (seen, there, is) (second, too, also) =
+    seen_answer files stewards names seen one other is
+    (subst (IsAnswered files stewards names other) (seen_one files names seen second there too) also)
 
 -- in a folder two right answers of `score` end and say the same, and their proofs are alike
 pub one_right : HasOneAnswer

@@ -17,8 +17,8 @@ use Rattle.gl_app.specs.Check.{checked_answer}
 use Rattle.gl_answer.specs.ByTests.{IsByTests, PassByTests}
 use Rattle.gl_answer.specs.Promise.{IsTold, Promise}
 
--- The answer says the three lines of a recording's badge claims, and appends the text, in version 2,
--- of a proof that has exactly these claims, in their order, each proved.
+-- The answer says the three lines of a recording's badge claims, and appends the text, in version
+-- 2, of a proof that has exactly these claims, in their order, each proved.
 pub record IsBadgeSaid (recording : Recording) (answer : Answer) : Type 0 where
   pub statements : List Statement
   pub found : IsBadgeFound recording answer.said statements
@@ -51,8 +51,8 @@ badge_promise folder words = record {
   target = Some words.proof;
 }
 
--- the answer says what is to be said of the claims of the proof that was seen, by the recording that
--- was
+-- the answer says what is to be said of the claims of the proof that was seen, by the recording
+-- that was
 abbrev pub IsBadgeJudged : BadgeWords → BadgeSeen → Answer → Type 0
 IsBadgeJudged words seen answer =
     (read : Recording × Proof) × AreBadgeCheckRead seen read
@@ -64,8 +64,8 @@ abbrev pub IsBadgeCheck : Option FilesByName → BadgeWords → Answer → Type 
 IsBadgeCheck folder words answer =
     IsByTests (IsBadgeSeen words folder) (badge_check_tests words) (IsBadgeJudged words) answer
 
--- A folder in which `badge` ended with a result: it has the proof that was appended, of a size that is
--- read, and else the files that it had before.
+-- A folder in which `badge` ended with a result: it has the proof that was appended, of a size that
+-- is read, and else the files that it had before.
 pub record IsBadgeFolder (files : FilesByName) (words : BadgeWords) : Type 0 where
   pub before : FilesByName
   pub answer : Answer

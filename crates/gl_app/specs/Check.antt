@@ -1,5 +1,5 @@
 -- The right answer of `check`.
-use Rattle.std.specs.Prelude.{◌≡◌, ◌≢◌, ℕ, ◌≤◌, List, Option, Some, Ok, MatchResult, length, None}
+use Rattle.std.specs.Prelude.{◌≡◌, ◌≢◌, ℕ, ◌≤◌, List, Option, Some, length, None}
 use Rattle.gl_desk.specs.Desk.{FilesByName}
 use Rattle.gl_proof.specs.declared.proof.Proof.{Proof}
 use Rattle.gl_proof.specs.Text.{statements_of}
@@ -10,11 +10,12 @@ use Rattle.gl_day.specs.Fault.{box_of_fault, word_of}
 use Rattle.gl_day.specs.Flight.{StewardRules}
 use Rattle.gl_words.specs.Words.{DayNames}
 use Rattle.gl_files.specs.declared.day_files.DayFiles.{DayFiles}
-use Rattle.gl_files.specs.DayFiles.{IfPassed, IsCheckTested, Tested}
+use Rattle.gl_files.specs.DayFiles.{IsCheckRead, IsScoreSeen, ScoreSeen, check_tests}
 use Rattle.gl_files.specs.FileTests.{most_proof_bytes}
 use Rattle.gl_tally.specs.DayChecked.{IsDayChecked}
 use Rattle.gl_answer.specs.declared.status.Status.TheVariants as status
-use Rattle.gl_answer.specs.Answer.{Answer, refused, saying}
+use Rattle.gl_answer.specs.Answer.{Answer, saying}
+use Rattle.gl_answer.specs.ByTests.{IsByTests, PassByTests}
 use Rattle.gl_answer.specs.Promise.{IsTold, Promise}
 use Rattle.gl_app.specs.Score.{IsScore}
 use Rattle.gl_answer.specs.Texts.{accepted_line, wrong_line}
@@ -28,28 +29,24 @@ abbrev pub checked_answer : Checked → Answer
 checked_answer (Accepted claims) = saying status.Done (accepted_line claims)
 checked_answer (Refused wrong) = saying status.NotProved (not_proved_line wrong)
 
--- what is said of the proof that the folder has, where the files pass the tests, or the first
--- refusal; the proof has at most so many bytes
-abbrev pub IsProofChecked : ℕ → Option FilesByName → DayNames → Tested Checked → Type 0
-IsProofChecked most folder names tested =
-    (files : Tested (DayFiles × Proof)) × IsCheckTested most folder names files
-    × IfPassed files tested (λ passed. (said : Checked)
-    × IsDayChecked folder passed.0 (statements_of passed.1) said × (tested ≡ Ok said))
+-- what is to be said of the proof that was seen, by the day that was
+abbrev pub IsProofChecked : Option FilesByName → ScoreSeen → Checked → Type 0
+IsProofChecked folder seen said =
+    (read : DayFiles × Proof) × IsCheckRead seen read
+    × IsDayChecked folder read.0 (statements_of read.1) said
 
--- the answer of `check`: what is said of the proof, or the first refusal
+abbrev pub IsCheckTold : Option FilesByName → ScoreSeen → Answer → Type 0
+IsCheckTold folder seen answer =
+    (said : Checked) × IsProofChecked folder seen said × (answer ≡ checked_answer said)
+
+-- the answer of `check`
 abbrev pub IsCheck : Option FilesByName → DayNames → Answer → Type 0
 IsCheck folder names answer =
-    (tested : Tested Checked) × IsProofChecked most_proof_bytes folder names tested
-    × MatchResult tested (λ said. answer ≡ checked_answer said)
-    (λ refusal. answer ≡ refused refusal.file refusal.cause)
+    IsByTests (IsScoreSeen names folder) (check_tests most_proof_bytes names) (IsCheckTold folder)
+    answer
 
--- the files of a folder that pass every test of `check`
-abbrev pub PassesCheck : FilesByName → DayNames → Type 0
-PassesCheck files names =
-    (passed : DayFiles × Proof) × IsCheckTested most_proof_bytes (Some files) names (Ok passed)
-
--- A folder in which `score` ended with a result: it has the proof that was appended, of at most so many
--- bytes, and else the files that it had before.
+-- A folder in which `score` ended with a result: it has the proof that was appended, of at most so
+-- many bytes, and else the files that it had before.
 pub record IsScoredFolder (most : ℕ) (files : FilesByName) (names : DayNames) : Type 0 where
   pub before : FilesByName
   pub stewards : List StewardRules
@@ -65,7 +62,7 @@ abbrev pub check_promise : Option FilesByName → DayNames → Promise
 check_promise folder names = record {
   IsRight = IsCheck folder names;
   IsBegun = λ text. ⊥;
-  Passes = IsTold folder (λ files. PassesCheck files names);
+  Passes = PassByTests folder (IsScoreSeen names) (check_tests most_proof_bytes names);
   ChecksOwn = IsTold folder (λ files. IsScoredFolder most_proof_bytes files names);
   target = None;
 }

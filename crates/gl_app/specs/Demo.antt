@@ -1,5 +1,5 @@
 -- The right answer of `demo`.
-use Rattle.std.specs.Prelude.{◌≡◌, ℕ, List, [], ◌∷◌, ◌++◌, length, Option, Some, Ok, IsSome, All, Any, codes, ⊤}
+use Rattle.std.specs.Prelude.{◌≡◌, ℕ, List, [], ◌∷◌, ◌++◌, length, Option, Some, IsSome, All, Any, codes, ⊤}
 use Rattle.std.specs.Fmt.{decimal}
 use Rattle.gl_demo.specs.Day.{generated_files}
 use Rattle.gl_demo.specs.Task.{task_file_name}
@@ -10,11 +10,10 @@ use Rattle.gl_proof.specs.declared.version.Version.TheVariants.{Two}
 use Rattle.gl_day.specs.Flight.{StewardRules}
 use Rattle.gl_words.specs.Words.{DayNames}
 use Rattle.gl_files.specs.declared.day_files.DayFiles.{DayFiles}
-use Rattle.gl_files.specs.DayFiles.{IsScoreTested}
 use Rattle.gl_answer.specs.declared.status.Status.TheVariants.{Done}
 use Rattle.gl_answer.specs.Answer.{Answer, saying}
 use Rattle.gl_answer.specs.Promise.{IsTold, Promise, reading}
-use Rattle.gl_app.specs.Score.{IsDayScored}
+use Rattle.gl_app.specs.Score.{IsDayScored, IsScoreDay}
 
 -- the folder has these files, and no other
 pub record HasJust (files : List (List ℕ × List ℕ)) (folder : FilesByName) : Type 0 where
@@ -49,7 +48,7 @@ pub record IsDayAnnounced (folder : FilesByName) (day : DayFiles) (stewards : Li
 abbrev pub IsDemo : List StewardRules → ℕ → Answer → Type 0
 IsDemo stewards number answer =
     (folder : FilesByName) × HasJust (generated_files number) folder
-    × (day : DayFiles) × IsScoreTested (Some folder) demo_names (Ok day)
+    × (day : DayFiles) × IsScoreDay (Some folder) demo_names day
     × IsDayAnnounced folder day stewards answer
 
 -- the promise of `demo`: a generated day passes its tests, whatever the folder has

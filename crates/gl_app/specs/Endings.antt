@@ -32,8 +32,8 @@ program_stewards =
 -- where there is no memory for them or for the stewards, nothing is read, written or said.
 abbrev pub IsEnding : Given → Ending → Told → Told → Type 0
 IsEnding given (Ran status) before after = MatchResult given
-    (λ words. IsRun (map string_bytes (drop 1 (into_iter_items words))) program_stewards program_stewards
-    status before after)
+    (λ words. IsRun (map string_bytes (drop 1 (into_iter_items words)))
+    program_stewards program_stewards status before after)
     (λ error. ⊥)
 IsEnding given NoMemory before after = (after ≡ before)
     × IfErr given (λ error. error_kind error ≡ OutOfMemory)

@@ -17,9 +17,9 @@ AreProofsAlike one other =
     (statements others : List Statement) → IsTextOf Two one statements → IsTextOf Two other others
     → AllZip AreAlike statements others
 
--- In a folder, `score` has one status, one sheet and one proof but for the choice of fixes and boxes:
--- two answers that are both right for it end and say the same, and their proofs have the same claims
--- with the same totals.
+-- In a folder, `score` has one status, one sheet and one proof but for the choice of fixes and
+-- boxes: two answers that are both right for it end and say the same, and their proofs have the
+-- same claims with the same totals.
 abbrev pub HasOneAnswer : Type 0
 HasOneAnswer =
     (files : FilesByName) (stewards : List StewardRules) (names : DayNames) (one other : Answer)

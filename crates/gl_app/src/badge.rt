@@ -18,8 +18,8 @@ use gl_tally::append_claim;
 use gl_words::BadgeWords;
 use std::alloc::Global;
 
-/// Appends the lines of claims to a proof, one claim after the other. After an error a first part of
-/// them was appended.
+/// Appends the lines of claims to a proof, one claim after the other. After an error a first part
+/// of them was appended.
 fn append_claims<D: Desk>(
     alloc: Global,
     desk: &mut D,
@@ -57,8 +57,8 @@ fn append_proof<D: Desk>(
     append_piece(alloc, desk, proof, end_line())
 }
 
-/// The answer of `badge FILE PROOF`: which badge limits a flight met. The proof of it is appended to
-/// the file.
+/// The answer of `badge FILE PROOF`: which badge limits a flight met. The proof of it is appended
+/// to the file.
 pub fn badge<D: Desk>(
     alloc: Global,
     desk: &mut D,

@@ -1,7 +1,9 @@
 ghost use Rattle.std.specs.Prelude.{◌≡◌, IfOk};
 ghost use Rattle.gl_desk.specs.Answers.{OnlyReads, stop_of};
 ghost use Rattle.gl_words.specs.DayNames.{names_seen};
-ghost use Rattle.gl_files.specs.Halts.{IsTested, halt_stop};
+ghost use Rattle.gl_files.specs.DayFiles.{IsScoreSeen, check_tests};
+ghost use Rattle.gl_files.specs.FileTests.{HasTested};
+ghost use Rattle.gl_files.specs.Halts.{halt_stop};
 ghost use Rattle.gl_answer.specs.Answer.{answer_of};
 ghost use Rattle.gl_app.specs.Check.{IsCheck, IsProofChecked, checked_answer};
 
@@ -21,8 +23,9 @@ pub fn check_proof<D: Desk>(
     day: DayNames<'_>,
     most: u64,
 ) -> Result<Checked, Halt>
-    ensures checked { IsTested
-        (IsProofChecked most (D.told desk.old).folder (names_seen day.entry)) result }
+    ensures checked { HasTested (IsScoreSeen (names_seen day.entry) (D.told desk.old).folder)
+        (check_tests most (names_seen day.entry))
+        (IsProofChecked (D.told desk.old).folder) result }
     ensures reads { OnlyReads (halt_stop result) (D.told desk.old) (D.told desk.new) }
 {
     let names = desk.names(alloc)?;

@@ -42,8 +42,8 @@ fn size_of(shelf: &Shelf, file: &Name) -> u64
     }
 }
 
-/// How many claims the proof of so many bytes has that `score` wrote: the checker reads it again, and
-/// accepts it.
+/// How many claims the proof of so many bytes has that `score` wrote: the checker reads it again,
+/// and accepts it.
 fn accepted_claims(
     alloc: Global,
     shelf: &mut Shelf,

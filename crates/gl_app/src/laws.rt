@@ -1,5 +1,5 @@
-//! What the answers are like, beside their rules. Each function states one law, which holds of every
-//! folder; a call of it does nothing.
+//! What the answers are like, beside their rules. Each function states one law, which holds of
+//! every folder; a call of it does nothing.
 ghost use Rattle.gl_app.specs.Laws.{HasOneAnswer};
 
 /// A folder has one answer to `score`: two that are both right end with one status, say one sheet,

@@ -1,5 +1,5 @@
-//! The commands: from words and a folder to a status and what is said. `run` is all that the program
-//! does.
+//! The commands: from words and a folder to a status and what is said. `run` is all that the
+//! program does.
 #![tactic(auto)]
 
 mod badge;

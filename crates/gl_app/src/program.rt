@@ -64,8 +64,8 @@ fn names(alloc: Global, mut words: Args) -> Result<Vec<Name>, AllocError>
     names_of(alloc, words)
 }
 
-/// Carries out a command with the program's two stewards, that of the ceiling and that of the engine.
-/// The only error is want of memory for them.
+/// Carries out a command with the program's two stewards, that of the ceiling and that of the
+/// engine. The only error is want of memory for them.
 fn run_with_stewards<Rt: Threads + Wait + Sync, D: Desk>(
     rt: &Rt,
     alloc: Global,
@@ -120,7 +120,8 @@ pub fn carry_out_words<Rt: Threads + Wait + Sync, D: Desk>(
     ending_of(rt, alloc, words, desk).exit_code()
 }
 
-/// The program: carries out the words of the system over the current folder and the standard output.
+/// The program: carries out the words of the system over the current folder and the standard
+/// output.
 pub fn run_program<Rt: Files + Print + Env + AllocGlobal + Threads + Wait + Sync + Drop>(
     rt: Rt,
 ) -> ExitCode

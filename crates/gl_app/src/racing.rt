@@ -25,8 +25,8 @@ pub(crate) fn race<Rt: Threads + Wait + Sync, K: Gate + Sync>(
     search_many(rt, alloc, goal, workers.count, gate)
 }
 
-/// The claims of a day are searched by a closure. A closure and not a type of its own holds what the
-/// workers share, since only a function's bounds are known in other threads.
+/// The claims of a day are searched by a closure. A closure and not a type of its own holds what
+/// the workers share, since only a function's bounds are known in other threads.
 #[derive(Clone, Copy)]
 pub(crate) struct Racing<'a, F> {
     pub(crate) race: &'a F,

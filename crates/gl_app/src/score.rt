@@ -13,7 +13,8 @@ use gl_tally::score_day;
 use gl_words::DayNames;
 use std::alloc::Global;
 
-/// The answer of `score TASK PROOF WORKERS`: the sheet of the day. Its proof is appended to the file.
+/// The answer of `score TASK PROOF WORKERS`: the sheet of the day. Its proof is appended to the
+/// file.
 pub fn score<D: Desk, S: Search>(
     alloc: Global,
     desk: &mut D,

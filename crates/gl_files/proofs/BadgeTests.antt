@@ -1,39 +1,18 @@
 -- The tests of the files of `badge` and `badgecheck`, one after the other.
-use Rattle.std.proofs.Common.{◌≡◌, refl, sym, ap, subst, ℕ, inl, inr, List, Option, None, Some, Result, Ok, Err}
+use Rattle.std.proofs.Common.{refl, ap, ℕ, inl, inr, List, Option, None, Some, Result, Ok, Err}
 use Rattle.std.specs.Prelude.{Contains}
 use Rattle.gl_desk.specs.Desk.{FilesByName, HasFile, ListsNames}
 use Rattle.gl_igc.specs.declared.recording.Recording.{Recording}
-use Rattle.gl_lines.specs.declared.error.ProofError.{ProofError}
-use Rattle.gl_lines.specs.declared.error.ProofError.TheVariants as proof
 use Rattle.gl_proof.specs.declared.proof.Proof.{Proof}
-use Rattle.gl_proof.specs.Refusal.{IsRefused}
 use Rattle.gl_desk.specs.Limits.{most_bytes}
 use Rattle.gl_words.specs.Words.{BadgeWords}
 use Rattle.gl_files.specs.declared.halt.Halt.{Halt}
 use Rattle.gl_files.specs.declared.halt.Halt.TheVariants.{Refused, Stopped}
-use Rattle.gl_files.specs.declared.refusal.Cause.{Cause}
 use Rattle.gl_files.specs.declared.refusal.Refusal.{Refusal}
-use Rattle.gl_files.specs.BadgeFiles.{AreBadgeCheckRead, IsBadgeRead, IsBadgeSeen, IsProofOfText, badge_check_tests, badge_tests}
-use Rattle.gl_files.specs.FileTests.{HasRead, HasReadFile, HasTested, IsNeeded, IsRecordingOf, IsUnused, ProofText, RecordingText, most_proof_bytes, proof_cause, text_tests}
-use Rattle.gl_files.specs.Halts.{RefusesFor}
+use Rattle.gl_files.specs.BadgeFiles.{AreBadgeCheckRead, IsBadgeRead, IsBadgeSeen, badge_check_tests, badge_tests}
+use Rattle.gl_files.specs.FileTests.{HasReadFile, HasTested, IsNeeded, IsProofOfText, IsRecordingOf, IsUnused, ProofText, RecordingText, most_proof_bytes, text_tests}
 use Rattle.gl_files.proofs.DayTests.{has_file, is_listed, not_listed, seen_some}
 use Rattle.gl_files.proofs.FileTests.{all_pass, fails_behind, fails_in_front, some_text_fails, some_text_passes}
-
--- a text that is no proof
-no_proof : (file text : List ℕ) (error : ProofError) (cause : Cause) (halt : Halt) → IsRefused text error → proof_cause error ≡ Some cause → RefusesFor file (Some cause) halt → HasRead ProofText file text IsProofOfText (Err halt)
-no_proof file text error cause (Refused refusal) told why same =
-    (ap (λ (r : Refusal). r.file) same, (error, told, subst (λ (c : Cause). proof_cause error ≡ Some c) (ap (λ (r : Refusal). r.cause) (sym same)) why))
-no_proof file text error cause (Stopped stop) told why same = tt
-
-memory_read : (file text : List ℕ) (halt : Halt) → RefusesFor file None halt → HasRead ProofText file text IsProofOfText (Err halt)
-memory_read file text (Refused refusal) wanting = absurd (cc)
-memory_read file text (Stopped stop) wanting = tt
-
-pub proof_refused : (file text : List ℕ) (error : ProofError) (halt : Halt) → IsRefused text error → RefusesFor file (proof_cause error) halt → HasRead ProofText file text IsProofOfText (Err halt)
-proof_refused file text proof.Heading halt told refused = no_proof file text proof.Heading _ halt told refl refused
-proof_refused file text (proof.Line line) halt told refused = no_proof file text (proof.Line line) _ halt told refl refused
-proof_refused file text proof.Cut halt told refused = no_proof file text proof.Cut _ halt told refl refused
-proof_refused file text proof.Memory halt told refused = memory_read file text halt refused
 
 -- `badge`: the recording isn't listed
 pub flight_missing : (folder : Option FilesByName) (names : List (List ℕ)) (words : BadgeWords) (halt : Halt) → ListsNames folder names → IsNeeded names words.flight (Err halt) → HasTested (IsBadgeSeen words folder) (badge_tests words) IsBadgeRead (Err halt)

@@ -1,24 +1,22 @@
--- What is refused of the files of a day has a name without an LF.
-use Rattle.std.proofs.Common.{◌≡◌, refl, sym, subst, ℕ, Bool, true, false, not, List, length, Option, None, Some, Ok, Err, codes, arith}
-use Rattle.std.specs.Prelude.{MatchBool, MatchOption, nat_lt}
+-- The files of a day have names without an LF.
+use Rattle.std.proofs.Common.{◌≡◌, refl, subst, ℕ, Bool, true, false, not, if◌then◌else◌, List, Option, None, Some, codes, arith}
 use Rattle.std.specs.List.{list_all}
 use Rattle.std.specs.Cmp.{first_so, second_so}
+use Rattle.std.specs.Option.{option_and_then}
 use Rattle.std.proofs.lemmas.List.Sums.{AllPass-from_list_all, list_all-from_AllPass}
 use Rattle.std.proofs.lemmas.List.Elements.{All-weaker}
-use Rattle.gl_airspace.specs.declared.volume.Airspace.{Airspace}
-use Rattle.gl_desk.specs.Desk.{FilesByName}
-use Rattle.gl_proof.specs.declared.proof.Proof.{Proof}
+use Rattle.toml.specs.Data.{Data, Members, as_str, get_member}
+use Rattle.toml.specs.Parse.{parse_document}
 use Rattle.gl_task.specs.Forms as forms
-use Rattle.gl_task.specs.declared.task.Task.{Task}
-use Rattle.gl_desk.specs.Limits.{most_bytes}
+use Rattle.gl_task_file.specs.Keys.{said}
+use Rattle.gl_task_file.specs.Values.{file_name, in_form}
 use Rattle.gl_words.specs.Words.{DayNames}
 use Rattle.gl_words.proofs.Unbroken.{is_inside, is_unbroken, AreUnbroken}
-use Rattle.gl_files.specs.declared.day_files.DayFiles.{DayFiles}
-use Rattle.gl_files.specs.declared.refusal.Cause.{Cause}
-use Rattle.gl_files.specs.DayFiles.{IfListed, IfPassed, IsAirspaceFor, IsAirspaceIn, IsAirspaceOf, IsCheckTested, IsDayOf, IsProofIn, IsProofOf, IsRefusedFor, IsScoreTested, IsTaskIn, IsTaskOf, Tested, airspace_cause, proof_cause, task_cause}
-use Rattle.gl_files.specs.Refusals.{file_refusal}
+use Rattle.gl_files.specs.DayFiles.{ScoreSeen, TaskSeen, airspace_file, airspace_tests, check_tests, named_airspace, score_tests, task_tests}
+use Rattle.gl_files.specs.FileTests.{ProofText, text_tests}
+use Rattle.gl_files.proofs.FileTests.{AreNamed, all_named}
 
--- nor has the name of the airspace file of a task
+-- the name of the airspace file of a task has none
 inside-file_byte : (b : ℕ) → forms.is_in_file_name b ≡ true → is_inside b ≡ true
 inside-file_byte b named = grind arith
 
@@ -29,81 +27,44 @@ file_unbroken file named =
     let bytes : list_all forms.is_in_file_name file ≡ true = second_so _ _ but_own in
     list_all-from_AllPass is_inside file (All-weaker (λ b. forms.is_in_file_name b ≡ true) (λ b. is_inside b ≡ true) inside-file_byte file (AllPass-from_list_all forms.is_in_file_name file bytes))
 
--- what is refused, if something is, has a name without LF
-abbrev pub RefusesNamed : {X : Type 0} → Tested X → Type 0
-RefusesNamed (Ok x) = Unit {0}
-RefusesNamed (Err refusal) = is_unbroken refusal.file ≡ true
+form_is : (text file : List ℕ) (fits : Bool) → forms.is_file_name text ≡ fits → (if fits then Some text else None) ≡ Some file → is_unbroken file ≡ true
+form_is text file true fits same =
+    let e : text ≡ file = cc in
+    file_unbroken file (subst (λ (t : List ℕ). forms.is_file_name t ≡ true) e fits)
+form_is text file false fits same = absurd (cc)
 
-pub refuses : {X : Type 0} (tested : Tested X) (file : List ℕ) (cause : Cause) → is_unbroken file ≡ true → tested ≡ Err (file_refusal file cause) → RefusesNamed tested
-refuses tested file cause named same = subst RefusesNamed (sym same) named
+text_is : (text : Option (List ℕ)) (file : List ℕ) → option_and_then (in_form forms.is_file_name) text ≡ Some file → is_unbroken file ≡ true
+text_is None file same = absurd (cc)
+text_is (Some text) file same = form_is text file (forms.is_file_name text) refl same
 
-pub passes : {X : Type 0} (tested : Tested X) (x : X) → tested ≡ Ok x → RefusesNamed tested
-passes tested x same = subst RefusesNamed (sym same) tt
+value_is : (value : Option Data) (file : List ℕ) → option_and_then file_name value ≡ Some file → is_unbroken file ≡ true
+value_is None file same = absurd (cc)
+value_is (Some value) file same = text_is (as_str value) file same
 
-pub refuses_for : {X : Type 0} (tested : Tested X) (file : List ℕ) (cause : Option Cause) → is_unbroken file ≡ true → IsRefusedFor file cause tested → RefusesNamed tested
-refuses_for tested file None named is = absurd is
-refuses_for tested file (Some cause) named is = refuses tested file cause named is
+table_is : (table : Option Members) (file : List ℕ) → option_and_then (said (codes "airspace") file_name) table ≡ Some file → is_unbroken file ≡ true
+table_is None file same = absurd (cc)
+table_is (Some table) file same = value_is (get_member (codes "airspace") table) file same
 
-pub large_or : {X : Type 0} (large : Bool) (tested : Tested X) (file : List ℕ) (cause : Cause) (P : Type 0) → is_unbroken file ≡ true → (P → RefusesNamed tested) → MatchBool large (tested ≡ Err (file_refusal file cause)) P → RefusesNamed tested
-large_or true tested file cause P named follows is = refuses tested file cause named is
-large_or false tested file cause P named follows is = follows is
+named_unbroken : (text file : List ℕ) → named_airspace text ≡ Some file → is_unbroken file ≡ true
+unfolding named_airspace
+named_unbroken text file same = table_is (parse_document text) file same
 
-pub listed_or : {X : Type 0} (seen : Option (List ℕ)) (tested : Tested X) (file : List ℕ) (P : List ℕ → Type 0) → is_unbroken file ≡ true → ((bytes : List ℕ) → P bytes → RefusesNamed tested) → IfListed file seen tested P → RefusesNamed tested
-listed_or None tested file P named follows is = refuses tested file _ named is
-listed_or (Some bytes) tested file P named follows is = follows bytes is
+seen_unbroken : (seen : Option (List ℕ)) (file : List ℕ) → airspace_file seen ≡ Some file → is_unbroken file ≡ true
+seen_unbroken None file same = absurd (cc)
+seen_unbroken (Some text) file same = named_unbroken text file same
 
-new_or : {X : Type 0} (seen : Option (List ℕ)) (tested : Tested X) (P Q : Type 0) → (P → RefusesNamed tested) → (Q → RefusesNamed tested) → MatchOption seen P (λ _. Q) → RefusesNamed tested
-new_or None tested P Q new listed is = new is
-new_or (Some bytes) tested P Q new listed is = listed is
+airspace_named : (file seen : Option (List ℕ)) → ((name : List ℕ) → file ≡ Some name → is_unbroken name ≡ true) → AreNamed (airspace_tests file seen)
+airspace_named None seen named = tt
+airspace_named (Some file) seen named = (named file refl, (named file refl, (named file refl, tt)))
 
-pub passed_or : {X Y : Type 0} (first : Tested X) (tested : Tested Y) (P : X → Type 0) → RefusesNamed first → ((x : X) → first ≡ Ok x → P x → RefusesNamed tested) → IfPassed first tested P → RefusesNamed tested
-passed_or (Ok x) tested P named follows is = follows x refl is
-passed_or (Err refusal) tested P named follows is = subst RefusesNamed (sym is) named
+task_named : (file : List ℕ) (seen : TaskSeen) → is_unbroken file ≡ true → AreNamed (task_tests file seen)
+task_named file seen named = (named, (named, airspace_named (airspace_file seen.text) seen.airspace (seen_unbroken seen.text)))
 
-task_in : (file text : List ℕ) (tested : Tested Task) → is_unbroken file ≡ true → IsTaskIn file text tested → RefusesNamed tested
-task_in file text tested named (Ok read, is, same) = passes tested read same
-task_in file text tested named (Err error, is, wrong) = refuses_for tested file (task_cause error) named wrong
+pub score_named : (names : DayNames) → AreUnbroken names → (seen : ScoreSeen) → AreNamed (score_tests names seen)
+score_named names named seen = (named.task, (named.proof, task_named names.task seen.task named.task))
 
-task_of : (file bytes : List ℕ) (tested : Tested Task) → is_unbroken file ≡ true → IsTaskOf file bytes tested → RefusesNamed tested
-task_of file bytes tested named is = large_or (nat_lt most_bytes (length bytes)) tested file _ (IsTaskIn file bytes tested) named (task_in file bytes tested named) is
-
-airspace_in : (file text : List ℕ) (tested : Tested Airspace) → is_unbroken file ≡ true → IsAirspaceIn file text tested → RefusesNamed tested
-airspace_in file text tested named (Ok read, is, same) = passes tested read same
-airspace_in file text tested named (Err error, is, wrong) = refuses_for tested file (airspace_cause error) named wrong
-
-airspace_of : (file bytes : List ℕ) (tested : Tested Airspace) → is_unbroken file ≡ true → IsAirspaceOf file bytes tested → RefusesNamed tested
-airspace_of file bytes tested named is = large_or (nat_lt most_bytes (length bytes)) tested file _ (IsAirspaceIn file bytes tested) named (airspace_in file bytes tested named) is
-
-airspace_for : (folder : Option FilesByName) (airspace : Option (List ℕ)) (tested : Tested Airspace) → ((file : List ℕ) → airspace ≡ Some file → is_unbroken file ≡ true) → IsAirspaceFor folder airspace tested → RefusesNamed tested
-airspace_for folder None tested named (air, none, same) = passes tested air same
-airspace_for folder (Some file) tested named (seen, there, is) =
-    listed_or seen tested file (λ bytes. IsAirspaceOf file bytes tested) (named file refl) (λ bytes. airspace_of file bytes tested (named file refl)) is
-
-proof_in : (file text : List ℕ) (tested : Tested Proof) → is_unbroken file ≡ true → IsProofIn file text tested → RefusesNamed tested
-proof_in file text tested named (Ok read, is, same) = passes tested read same
-proof_in file text tested named (Err error, is, wrong) = refuses_for tested file (proof_cause error) named wrong
-
-proof_of : (most : ℕ) (file bytes : List ℕ) (tested : Tested Proof) → is_unbroken file ≡ true → IsProofOf most file bytes tested → RefusesNamed tested
-proof_of most file bytes tested named is = large_or (nat_lt most (length bytes)) tested file _ (IsProofIn file bytes tested) named (proof_in file bytes tested named) is
-
-task_names : (task : Task) (file : List ℕ) → task.airspace ≡ Some file → is_unbroken file ≡ true
-task_names task file named = file_unbroken file (task.airspace_form file named)
-
-day_of : (folder : Option FilesByName) (file bytes : List ℕ) (tested : Tested DayFiles) → is_unbroken file ≡ true → IsDayOf folder file bytes tested → RefusesNamed tested
-day_of folder file bytes tested named (first, is, then) =
-    passed_or first tested _ (task_of file bytes first named is)
-    (λ task _ (air, of, last). passed_or air tested _ (airspace_for folder task.airspace air (task_names task) of)
-    (λ a _ same. passes tested _ same) last) then
-
-pub score_tested : (folder : Option FilesByName) (names : DayNames) (tested : Tested DayFiles) → AreUnbroken names → IsScoreTested folder names tested → RefusesNamed tested
-score_tested folder names tested named (seen, there, is) =
-    listed_or seen tested names.task _ named.task
-    (λ bytes (proof, also, or). new_or proof tested (IsDayOf folder names.task bytes tested) _ (day_of folder names.task bytes tested named.task) (refuses tested names.proof _ named.proof) or) is
-
-pub check_tested : (most : ℕ) (folder : Option FilesByName) (names : DayNames) (tested : Tested (DayFiles × Proof)) → AreUnbroken names → IsCheckTested most folder names tested → RefusesNamed tested
-check_tested most folder names tested named (seen, there, is) =
-    listed_or seen tested names.task _ named.task
-    (λ bytes (proof, also, or). listed_or proof tested names.proof _ named.proof
-    (λ proof_bytes (first, day, then). passed_or first tested _ (day_of folder names.task bytes first named.task day)
-    (λ files _ (read, of, last). passed_or read tested _ (proof_of most names.proof proof_bytes read named.proof of)
-    (λ p _ same. passes tested _ same) last) then) or) is
+pub check_named : (most : ℕ) (names : DayNames) → AreUnbroken names → (seen : ScoreSeen) → AreNamed (check_tests most names seen)
+check_named most names named seen = (
+  named.task,
+  (named.proof, all_named (task_tests names.task seen.task) (text_tests ProofText most names.proof seen.proof) (task_named names.task seen.task named.task) (named.proof, (named.proof, tt))),
+)

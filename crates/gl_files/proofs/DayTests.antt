@@ -1,62 +1,41 @@
 -- The tests of the files of a day, one after the other.
-use Rattle.std.proofs.Common.{◌≡◌, ◌∙◌, refl, sym, ap, subst, rules, ℕ, ◌<◌, ◌≤◌, Bool, true, List, [], length, Option, None, Some, Result, Ok, Err, Vec}
-use Rattle.std.specs.Prelude.{Contains, IsSome, MatchBool, nat_eq}
+use Rattle.std.proofs.Common.{◌≡◌, ◌∙◌, refl, sym, ap, subst, rules, ℕ, inl, inr, Bool, true, List, [], ◌∷◌, Option, None, Some, Result, Ok, Err, codes}
+use Rattle.std.specs.Prelude.{Contains, IsSome, IsSomeAnd, nat_eq}
 use Rattle.std.specs.List.{list_any}
 use Rattle.std.specs.Cmp.Lexicographic.{pointwise}
+use Rattle.std.specs.Option.{option_and_then}
 use Rattle.std.proofs.lemmas.Map.Views.{Contains-from_any}
-use Rattle.std.specs.declared.alloc.Global.{Global}
-use Rattle.std.proofs.lemmas.Bool.{lt-ltb, le-ltb}
+use Rattle.gl_airspace.specs.Airspace.{IsAirspace}
+use Rattle.gl_airspace.specs.Parts.{Tells}
+use Rattle.gl_airspace.specs.Volumes.{readings_of, refusal_of}
+use Rattle.gl_airspace.specs.declared.error.AirError.{AirError}
+use Rattle.gl_airspace.specs.declared.volume.Airspace.{Airspace}
 use Rattle.gl_desk.specs.Desk.{FilesByName, HasFile, IsSeenIn, ListsNames}
+use Rattle.gl_desk.specs.Limits.{most_bytes}
 use Rattle.gl_proof.specs.declared.proof.Proof.{Proof}
 use Rattle.gl_task.specs.declared.task.Task.{Task}
+use Rattle.gl_task_file.specs.Keys.{said}
+use Rattle.gl_task_file.specs.Reading.{IsReadFrom, IsRefusalOf}
+use Rattle.gl_task_file.specs.Values.{file_name}
+use Rattle.gl_task_file.specs.declared.error.TaskError.{TaskError}
 use Rattle.gl_words.specs.Words.{DayNames}
 use Rattle.gl_files.specs.declared.day_files.DayFiles.{DayFiles}
 use Rattle.gl_files.specs.declared.halt.Halt.{Halt}
 use Rattle.gl_files.specs.declared.halt.Halt.TheVariants.{Refused, Stopped}
-use Rattle.gl_files.specs.declared.refusal.Cause.{Cause}
-use Rattle.gl_files.specs.declared.refusal.Cause.TheVariants.{NotListed, Listed, TooLarge}
 use Rattle.gl_files.specs.declared.refusal.Refusal.{Refusal}
-use Rattle.gl_files.specs.DayFiles.{IfSmall, IsAirspaceFor, IsCheckTested, IsDayOf, IsProofOf, IsScoreTested, IsTaskOf, SeesBytes, Tested}
-use Rattle.gl_files.specs.Halts.{AreBytes, IsTested, Refuses}
-use Rattle.gl_files.specs.Refusals.{file_refusal}
+use Rattle.gl_files.specs.DayFiles.{IsAirspaceRead, IsAirspaceSeen, IsCheckRead, IsDayRead, IsScoreRead, IsScoreSeen, IsTaskSeen, airspace_file, airspace_tests, check_tests, named_airspace, score_tests, task_tests}
+use Rattle.gl_files.specs.FileTests.{AirspaceText, HasRead, HasReadFile, HasTested, IsNeeded, IsProofOfText, IsUnused, ProofText, Reads, TaskText, airspace_cause, task_cause, text_tests}
+use Rattle.gl_files.specs.Halts.{RefusesFor}
+use Rattle.gl_files.proofs.FileTests.{all_pass, fails_behind, fails_in_front, small_fails, small_passes, some_text_fails, some_text_passes, text_refused}
 
--- a file of more bytes than the limit is refused
-is_large : {X : Type 0} (most : ℕ) (file bytes : List ℕ) (tested : Tested X) (P : Type 0) → most < length bytes → tested ≡ Err (file_refusal file TooLarge) → IfSmall most file bytes tested P
-is_large most file bytes tested P more refused =
-    subst (λ (b : Bool). MatchBool b (tested ≡ Err (file_refusal file TooLarge)) P) (sym (lt-ltb most (length bytes) more)) refused
+-- a text that gives no task, and one that gives no airspace
+pub task_text_refused : (file text : List ℕ) (error : TaskError) (halt : Halt) → IsRefusalOf text error → RefusesFor file (task_cause error) halt → HasRead TaskText file text IsReadFrom (Err halt)
+task_text_refused file text error halt told refused =
+    text_refused TaskText file text (task_cause error) halt IsReadFrom (λ cause why. (error, told, why)) refused
 
--- of any other file its text decides
-is_small : {X : Type 0} (most : ℕ) (file bytes : List ℕ) (tested : Tested X) (P : Type 0) → length bytes ≤ most → P → IfSmall most file bytes tested P
-is_small most file bytes tested P fits holds =
-    subst (λ (b : Bool). MatchBool b (tested ≡ Err (file_refusal file TooLarge)) P) (sym (le-ltb most (length bytes) fits)) holds
-
--- a file whose bytes weren't read
-pub bytes_refused : {X : Type 0} (folder : Option FilesByName) (file : List ℕ) (most : ℕ) (halt : Halt) (P : List ℕ → Tested X → Type 0)
-    → AreBytes folder file most (Err halt) → IsTested (λ tested. SeesBytes folder file (λ bytes. IfSmall most file bytes tested (P bytes tested))) (Err halt)
-bytes_refused folder file most (Refused refusal) P refused =
-    (refused.0.0, refused.0.2, is_large most file refused.0.0 (Err refusal) (P refused.0.0 (Err refusal)) refused.0.1 (ap Err refused.1))
-bytes_refused folder file most (Stopped stop) P refused = tt
-
--- a file whose bytes were read
-pub bytes_tested : {X : Type 0} (folder : Option FilesByName) (file : List ℕ) (most : ℕ) (bytes : Vec ℕ Global) (result : Result X Halt) (P : List ℕ → Tested X → Type 0)
-    → AreBytes folder file most (Ok bytes) → IsTested (P bytes.items) result → IsTested (λ tested. SeesBytes folder file (λ seen. IfSmall most file seen tested (P seen tested))) result
-bytes_tested folder file most bytes (Ok x) P read tested =
-    (bytes.items, read.0, is_small most file bytes.items (Ok x) (P bytes.items (Ok x)) read.1 tested)
-bytes_tested folder file most bytes (Err (Refused refusal)) P read tested =
-    (bytes.items, read.0, is_small most file bytes.items (Err refusal) (P bytes.items (Err refusal)) read.1 tested)
-bytes_tested folder file most bytes (Err (Stopped stop)) P read tested = tt
-
--- a refusal for a cause is the answer of a test that asks for it
-pub refused_tested : {X : Type 0} (file : List ℕ) (cause : Cause) (halt : Halt) (P : Tested X → Type 0)
-    → Refuses file cause halt → P (Err (file_refusal file cause)) → IsTested P (Err halt)
-refused_tested file cause (Refused refusal) P same holds = subst (λ (r : Refusal). P (Err r)) (sym same) holds
-refused_tested file cause (Stopped stop) P same holds = tt
-
--- a fact that follows from the one that was tested
-pub tested_then : {X : Type 0} (P Q : Tested X → Type 0) (result : Result X Halt) → ((tested : Tested X) → P tested → Q tested) → IsTested P result → IsTested Q result
-tested_then P Q (Ok x) follows holds = follows (Ok x) holds
-tested_then P Q (Err (Refused refusal)) follows holds = follows (Err refusal) holds
-tested_then P Q (Err (Stopped stop)) follows holds = tt
+pub airspace_text_refused : (file text : List ℕ) (error : AirError) (halt : Halt) → Tells (refusal_of (readings_of text)) error → RefusesFor file (airspace_cause error) halt → HasRead AirspaceText file text IsAirspace (Err halt)
+airspace_text_refused file text error halt told refused =
+    text_refused AirspaceText file text (airspace_cause error) halt IsAirspace (λ cause why. (error, told, why)) refused
 
 -- a file that isn't among the names is none of the folder's
 none_seen : (seen : Option (List ℕ)) → (IsSome seen → ⊥) → seen ≡ None
@@ -72,6 +51,10 @@ pub seen_some : (folder : Option FilesByName) (file : List ℕ) → (seen : Opti
 seen_some None file = (None, tt)
 seen_some (Some files) file = (files file, refl)
 
+airspace_seen : (folder : Option FilesByName) (file : Option (List ℕ)) → (seen : Option (List ℕ)) × IsAirspaceSeen folder file seen
+airspace_seen folder None = (None, refl)
+airspace_seen folder (Some file) = seen_some folder file
+
 -- a file that the folder has
 some_seen : (seen : Option (List ℕ)) → IsSome seen → (bytes : List ℕ) × (seen ≡ Some bytes)
 some_seen None there = cc
@@ -80,21 +63,6 @@ some_seen (Some bytes) there = (bytes, refl)
 pub is_listed : (folder : Option FilesByName) (file : List ℕ) → HasFile folder file → (bytes : List ℕ) × IsSeenIn folder file (Some bytes)
 is_listed None file there = ([], tt)
 is_listed (Some files) file there = some_seen (files file) there
-
--- the airspace file of a task isn't listed
-pub airspace_missing : (folder : Option FilesByName) (names : List (List ℕ)) (airspace : Option (List ℕ)) (file : List ℕ) (halt : Halt)
-    → airspace ≡ Some file → ListsNames folder names → (Contains names file → ⊥) → Refuses file NotListed halt → IsTested (IsAirspaceFor folder airspace) (Err halt)
-airspace_missing folder names airspace file halt named lists none refused =
-    subst (λ (o : Option (List ℕ)). IsTested (IsAirspaceFor folder o) (Err halt)) (sym named)
-    (refused_tested file NotListed halt (IsAirspaceFor folder (Some file)) refused (None, not_listed folder names file lists none, refl))
-
--- the airspace of a day was refused
-pub day_airspace_refused : (folder : Option FilesByName) (file : List ℕ) (task : Task) (halt : Halt)
-    → SeesBytes folder file (λ bytes. IsTaskOf file bytes (Ok task)) → IsTested (IsAirspaceFor folder task.airspace) (Err halt)
-    → IsTested {X = DayFiles} (λ tested. SeesBytes folder file (λ bytes. IsDayOf folder file bytes tested)) (Err halt)
-day_airspace_refused folder file task (Refused refusal) read refused =
-    (read.0, read.1, (Ok task, read.2, (Err refusal, refused, refl)))
-day_airspace_refused folder file task (Stopped stop) read refused = tt
 
 -- a file among the names is one of the folder's
 pub has_file : (folder : Option FilesByName) (names : List (List ℕ)) (file : List ℕ) → ListsNames folder names → Contains names file → HasFile folder file
@@ -109,62 +77,126 @@ pub is_named : (names : List (List ℕ)) (file : List ℕ) (found : Bool) → fo
 is_named names file found value has =
     Contains-from_any {eq = λ (a b : List ℕ). pointwise nat_eq b a} same_name file names (sym value ∙ has)
 
--- the task isn't listed: the first test of either command
-pub score_task_missing : (folder : Option FilesByName) (names : List (List ℕ)) (day : DayNames) (halt : Halt)
-    → ListsNames folder names → (Contains names day.task → ⊥) → Refuses day.task NotListed halt → IsTested (IsScoreTested folder day) (Err halt)
-score_task_missing folder names day halt lists none refused =
-    refused_tested day.task NotListed halt (IsScoreTested folder day) refused (None, not_listed folder names day.task lists none, refl)
+-- a text that reads names the airspace file of its task
+pub named_is : (text : List ℕ) (task : Task) → IsReadFrom text task → named_airspace text ≡ task.airspace
+unfolding named_airspace
+named_is text task is = ap (option_and_then (said (codes "airspace") file_name)) is.document.reads ∙ is.says.airspace
 
-pub check_task_missing : (most : ℕ) (folder : Option FilesByName) (names : List (List ℕ)) (day : DayNames) (halt : Halt)
-    → ListsNames folder names → (Contains names day.task → ⊥) → Refuses day.task NotListed halt → IsTested (IsCheckTested most folder day) (Err halt)
-check_task_missing most folder names day halt lists none refused =
-    refused_tested day.task NotListed halt (IsCheckTested most folder day) refused (None, not_listed folder names day.task lists none, refl)
+pub file_is : (seen : Option (List ℕ)) (task : Task) → IsSomeAnd seen (λ text. IsReadFrom text task) → airspace_file seen ≡ task.airspace
+file_is None task reads = absurd reads
+file_is (Some text) task reads = named_is text task reads
+
+-- the airspace file isn't among the names
+pub airspace_missing : (folder : Option FilesByName) (names : List (List ℕ)) (file : List ℕ) (halt : Halt) → ListsNames folder names → IsNeeded names file (Err halt)
+    → HasTested {X = Airspace} (IsAirspaceSeen folder (Some file)) (airspace_tests (Some file)) IsAirspaceRead (Err halt)
+airspace_missing folder names file (Refused refusal) lists (none, same) =
+    (None, not_listed folder names file lists none, inl (ap (λ (r : Refusal). r.file) same, (refl, ap (λ (r : Refusal). r.cause) same)))
+airspace_missing folder names file (Stopped stop) lists needed = tt
+
+air_read : (seen : Option (List ℕ)) (air : Airspace) → IsSomeAnd seen (λ text. IsAirspace text air) → IsAirspaceRead seen air
+air_read None air reads = absurd reads
+air_read (Some text) air reads = reads
+
+-- it is, and was read or refused
+pub airspace_tested : (folder : Option FilesByName) (file : List ℕ) (result : Result Airspace Halt) → HasReadFile AirspaceText most_bytes folder file IsAirspace result
+    → HasTested (IsAirspaceSeen folder (Some file)) (airspace_tests (Some file)) IsAirspaceRead result
+airspace_tested folder file (Ok air) (seen, is, passes, reads) =
+    (seen, is, (some_text_passes AirspaceText most_bytes file seen passes, passes), air_read seen air reads)
+airspace_tested folder file (Err (Refused refusal)) (seen, is, fails) = (seen, is, inr (some_text_fails AirspaceText most_bytes file seen refusal fails, fails))
+airspace_tested folder file (Err (Stopped stop)) read = tt
+
+-- the task was refused
+pub task_refused : (folder : Option FilesByName) (file : List ℕ) (halt : Halt) → HasReadFile {X = Task} TaskText most_bytes folder file IsReadFrom (Err halt)
+    → HasTested (IsTaskSeen file folder) (task_tests file) IsDayRead (Err halt)
+task_refused folder file (Refused refusal) (seen, is, fails) =
+    let air = airspace_seen folder (airspace_file seen) in
+    (record { text = seen; airspace = air.0 }, record { text = is; airspace = air.1 }, fails_in_front (text_tests TaskText most_bytes file seen) (airspace_tests (airspace_file seen) air.0) refusal fails)
+task_refused folder file (Stopped stop) read = tt
+
+-- the task was read, and its airspace was refused
+pub day_refused : (folder : Option FilesByName) (file : List ℕ) (task : Task) (halt : Halt) → HasReadFile TaskText most_bytes folder file IsReadFrom (Ok task)
+    → HasTested {X = Airspace} (IsAirspaceSeen folder task.airspace) (airspace_tests task.airspace) IsAirspaceRead (Err halt) → HasTested (IsTaskSeen file folder) (task_tests file) IsDayRead (Err halt)
+day_refused folder file task (Refused refusal) (seen, is, passes, reads) tested =
+    let named = sym (file_is seen task reads) in
+    let air = subst (λ (o : Option (List ℕ)). HasTested {X = Airspace} (IsAirspaceSeen folder o) (airspace_tests o) IsAirspaceRead (Err (Refused refusal))) named tested in
+    (record { text = seen; airspace = air.0 }, record { text = is; airspace = air.1 }, fails_behind (text_tests TaskText most_bytes file seen) (airspace_tests (airspace_file seen) air.0) refusal passes air.2)
+day_refused folder file task (Stopped stop) read tested = tt
+
+-- both were read
+pub day_read : (folder : Option FilesByName) (file : List ℕ) (task : Task) (air : Airspace) → HasReadFile TaskText most_bytes folder file IsReadFrom (Ok task)
+    → HasTested (IsAirspaceSeen folder task.airspace) (airspace_tests task.airspace) IsAirspaceRead (Ok air) → HasTested (IsTaskSeen file folder) (task_tests file) IsDayRead (Ok (record { task = task; airspace = air }))
+day_read folder file task air (seen, is, passes, reads) tested =
+    let named = sym (file_is seen task reads) in
+    let over = subst (λ (o : Option (List ℕ)). HasTested (IsAirspaceSeen folder o) (airspace_tests o) IsAirspaceRead (Ok air)) named tested in
+    (record { text = seen; airspace = over.0 }, record { text = is; airspace = over.1 }, all_pass (text_tests TaskText most_bytes file seen) (airspace_tests (airspace_file seen) over.0) passes over.2, record { task = reads; airspace = over.3 })
+
+-- the task isn't listed: the first test of either command
+pub score_task_missing : (folder : Option FilesByName) (names : List (List ℕ)) (day : DayNames) (halt : Halt) → ListsNames folder names → IsNeeded names day.task (Err halt)
+    → HasTested (IsScoreSeen day folder) (score_tests day) IsScoreRead (Err halt)
+score_task_missing folder names day (Refused refusal) lists (none, same) =
+    let proof = seen_some folder day.proof in
+    (record { task = record { text = None; airspace = None }; proof = proof.0 }, record { task = record { text = not_listed folder names day.task lists none; airspace = refl }; proof = proof.1 }, inl (ap (λ (r : Refusal). r.file) same, (refl, ap (λ (r : Refusal). r.cause) same)))
+score_task_missing folder names day (Stopped stop) lists needed = tt
+
+pub check_task_missing : (most : ℕ) (folder : Option FilesByName) (names : List (List ℕ)) (day : DayNames) (halt : Halt) → ListsNames folder names → IsNeeded names day.task (Err halt)
+    → HasTested (IsScoreSeen day folder) (check_tests most day) IsCheckRead (Err halt)
+check_task_missing most folder names day (Refused refusal) lists (none, same) =
+    let proof = seen_some folder day.proof in
+    (record { task = record { text = None; airspace = None }; proof = proof.0 }, record { task = record { text = not_listed folder names day.task lists none; airspace = refl }; proof = proof.1 }, inl (ap (λ (r : Refusal). r.file) same, (refl, ap (λ (r : Refusal). r.cause) same)))
+check_task_missing most folder names day (Stopped stop) lists needed = tt
 
 -- the task is listed, and the proof of `score` is too
-pub score_proof_listed : (folder : Option FilesByName) (day : DayNames) (halt : Halt)
-    → HasFile folder day.task → HasFile folder day.proof → Refuses day.proof Listed halt → IsTested (IsScoreTested folder day) (Err halt)
-score_proof_listed folder day halt task proof refused =
-    let task_seen = is_listed folder day.task task in
-    let proof_seen = is_listed folder day.proof proof in
-    refused_tested day.proof Listed halt (IsScoreTested folder day) refused (Some task_seen.0, task_seen.1, (Some proof_seen.0, proof_seen.1, refl))
+pub score_proof_listed : (folder : Option FilesByName) (names : List (List ℕ)) (day : DayNames) (halt : Halt) → ListsNames folder names → HasFile folder day.task → IsUnused names day.proof (Err halt)
+    → HasTested (IsScoreSeen day folder) (score_tests day) IsScoreRead (Err halt)
+score_proof_listed folder names day (Refused refusal) lists task (listed, same) =
+    let text = is_listed folder day.task task in
+    let air = airspace_seen folder (named_airspace text.0) in
+    let proof = is_listed folder day.proof (has_file folder names day.proof lists listed) in
+    (record { task = record { text = Some text.0; airspace = air.0 }; proof = Some proof.0 }, record { task = record { text = text.1; airspace = air.1 }; proof = proof.1 }, inr (refl, inl (ap (λ (r : Refusal). r.file) same, (refl, ap (λ (r : Refusal). r.cause) same))))
+score_proof_listed folder names day (Stopped stop) lists task used = tt
 
 -- the task is listed, and the proof of `check` isn't
-pub check_proof_missing : (most : ℕ) (folder : Option FilesByName) (names : List (List ℕ)) (day : DayNames) (halt : Halt)
-    → ListsNames folder names → HasFile folder day.task → (Contains names day.proof → ⊥) → Refuses day.proof NotListed halt → IsTested (IsCheckTested most folder day) (Err halt)
-check_proof_missing most folder names day halt lists task none refused =
-    let task_seen = is_listed folder day.task task in
-    refused_tested day.proof NotListed halt (IsCheckTested most folder day) refused (Some task_seen.0, task_seen.1, (None, not_listed folder names day.proof lists none, refl))
+pub check_proof_missing : (most : ℕ) (folder : Option FilesByName) (names : List (List ℕ)) (day : DayNames) (halt : Halt) → ListsNames folder names → HasFile folder day.task → IsNeeded names day.proof (Err halt)
+    → HasTested (IsScoreSeen day folder) (check_tests most day) IsCheckRead (Err halt)
+check_proof_missing most folder names day (Refused refusal) lists task (none, same) =
+    let text = is_listed folder day.task task in
+    let air = airspace_seen folder (named_airspace text.0) in
+    (record { task = record { text = Some text.0; airspace = air.0 }; proof = None }, record { task = record { text = text.1; airspace = air.1 }; proof = not_listed folder names day.proof lists none }, inr (refl, inl (ap (λ (r : Refusal). r.file) same, (refl, ap (λ (r : Refusal). r.cause) same))))
+check_proof_missing most folder names day (Stopped stop) lists task needed = tt
 
 -- the task is listed, the proof of `score` isn't, and the day was tested
-pub score_tested : (folder : Option FilesByName) (names : List (List ℕ)) (day : DayNames) (result : Result DayFiles Halt)
-    → ListsNames folder names → (Contains names day.proof → ⊥) → IsTested (λ tested. SeesBytes folder day.task (λ bytes. IsDayOf folder day.task bytes tested)) result
-    → IsTested (IsScoreTested folder day) result
-score_tested folder names day result lists none tested =
-    let P : Tested DayFiles → Type 0 = λ t. SeesBytes folder day.task (λ bytes. IsDayOf folder day.task bytes t) in
-    tested_then P (IsScoreTested folder day) result
-    (λ t seen. (Some seen.0, seen.1, (None, not_listed folder names day.proof lists none, seen.2))) tested
+pub score_tested : (folder : Option FilesByName) (names : List (List ℕ)) (day : DayNames) (result : Result DayFiles Halt) → ListsNames folder names → ¬ Contains names day.proof
+    → HasTested (IsTaskSeen day.task folder) (task_tests day.task) IsDayRead result → HasTested (IsScoreSeen day folder) (score_tests day) IsScoreRead result
+score_tested folder names day (Ok files) lists new (seen, is, passes, reads) =
+    let rest = airspace_tests (airspace_file seen.text) seen.airspace in
+    (record { task = seen; proof = None }, record { task = is; proof = not_listed folder names day.proof lists new }, (small_passes most_bytes day.task seen.text (Reads TaskText day.task seen.text ∷ rest) passes, (refl, passes)), reads)
+score_tested folder names day (Err (Refused refusal)) lists new (seen, is, fails) =
+    let rest = airspace_tests (airspace_file seen.text) seen.airspace in
+    (record { task = seen; proof = None }, record { task = is; proof = not_listed folder names day.proof lists new }, inr (small_fails most_bytes day.task seen.text (Reads TaskText day.task seen.text ∷ rest) refusal fails, inr (refl, fails)))
+score_tested folder names day (Err (Stopped stop)) lists new tested = tt
 
 -- both are listed, and the day was refused
-pub check_day_refused : (most : ℕ) (folder : Option FilesByName) (day : DayNames) (halt : Halt)
-    → HasFile folder day.proof → IsTested {X = DayFiles} (λ tested. SeesBytes folder day.task (λ bytes. IsDayOf folder day.task bytes tested)) (Err halt)
-    → IsTested (IsCheckTested most folder day) (Err halt)
-check_day_refused most folder day (Refused refusal) proof seen =
-    let proof_seen = is_listed folder day.proof proof in
-    (Some seen.0, seen.1, (Some proof_seen.0, proof_seen.1, (Err refusal, seen.2, refl)))
-check_day_refused most folder day (Stopped stop) proof seen = tt
+pub check_day_refused : (most : ℕ) (folder : Option FilesByName) (day : DayNames) (halt : Halt) → HasFile folder day.proof
+    → HasTested {X = DayFiles} (IsTaskSeen day.task folder) (task_tests day.task) IsDayRead (Err halt) → HasTested (IsScoreSeen day folder) (check_tests most day) IsCheckRead (Err halt)
+check_day_refused most folder day (Refused refusal) there (seen, is, fails) =
+    let proof = is_listed folder day.proof there in
+    let rest = airspace_tests (airspace_file seen.text) seen.airspace in
+    (record { task = seen; proof = Some proof.0 }, record { task = is; proof = proof.1 }, inr (small_fails most_bytes day.task seen.text (Reads TaskText day.task seen.text ∷ rest) refusal fails, inr (refl, fails_in_front (task_tests day.task seen) (text_tests ProofText most day.proof (Some proof.0)) refusal fails)))
+check_day_refused most folder day (Stopped stop) there tested = tt
 
 -- both are listed, the day passed, and the proof was refused
 pub check_proof_refused : (most : ℕ) (folder : Option FilesByName) (day : DayNames) (files : DayFiles) (halt : Halt)
-    → SeesBytes folder day.task (λ bytes. IsDayOf folder day.task bytes (Ok files))
-    → IsTested {X = Proof} (λ tested. SeesBytes folder day.proof (λ bytes. IsProofOf most day.proof bytes tested)) (Err halt)
-    → IsTested (IsCheckTested most folder day) (Err halt)
-check_proof_refused most folder day files (Refused refusal) seen proof =
-    (Some seen.0, seen.1, (Some proof.0, proof.1, (Ok files, seen.2, (Err refusal, proof.2, refl))))
-check_proof_refused most folder day files (Stopped stop) seen proof = tt
+    → HasTested (IsTaskSeen day.task folder) (task_tests day.task) IsDayRead (Ok files) → HasReadFile {X = Proof} ProofText most folder day.proof IsProofOfText (Err halt)
+    → HasTested (IsScoreSeen day folder) (check_tests most day) IsCheckRead (Err halt)
+check_proof_refused most folder day files (Refused refusal) (seen, is, passes, reads) (proof, there, fails) =
+    let rest = airspace_tests (airspace_file seen.text) seen.airspace in
+    (record { task = seen; proof = proof }, record { task = is; proof = there }, inr (small_passes most_bytes day.task seen.text (Reads TaskText day.task seen.text ∷ rest) passes, inr (some_text_fails ProofText most day.proof proof refusal fails, fails_behind (task_tests day.task seen) (text_tests ProofText most day.proof proof) refusal passes fails)))
+check_proof_refused most folder day files (Stopped stop) tested read = tt
 
 -- both are listed, and passed
 pub check_passed : (most : ℕ) (folder : Option FilesByName) (day : DayNames) (files : DayFiles) (read : Proof)
-    → SeesBytes folder day.task (λ bytes. IsDayOf folder day.task bytes (Ok files)) → SeesBytes folder day.proof (λ bytes. IsProofOf most day.proof bytes (Ok read))
-    → IsCheckTested most folder day (Ok (files, read))
-check_passed most folder day files read seen proof =
-    (Some seen.0, seen.1, (Some proof.0, proof.1, (Ok files, seen.2, (Ok read, proof.2, refl))))
+    → HasTested (IsTaskSeen day.task folder) (task_tests day.task) IsDayRead (Ok files) → HasReadFile ProofText most folder day.proof IsProofOfText (Ok read)
+    → HasTested (IsScoreSeen day folder) (check_tests most day) IsCheckRead (Ok (files, read))
+check_passed most folder day files read (seen, is, passes, reads) (proof, there, pass, are) =
+    let rest = airspace_tests (airspace_file seen.text) seen.airspace in
+    (record { task = seen; proof = proof }, record { task = is; proof = there }, (small_passes most_bytes day.task seen.text (Reads TaskText day.task seen.text ∷ rest) passes, (some_text_passes ProofText most day.proof proof pass, all_pass (task_tests day.task seen) (text_tests ProofText most day.proof proof) passes pass)), record { day = reads; proof = are })

@@ -1,14 +1,16 @@
 -- What holds of any tests of files.
-use Rattle.std.proofs.Common.{◌≡◌, ◌≢◌, ◌∙◌, refl, sym, ap, ℕ, inl, inr, true, arith, List, [], ◌∷◌, ◌++◌, Option, None, Some, Result, Ok, Err, Vec}
+use Rattle.std.proofs.Common.{◌≡◌, ◌≢◌, ◌∙◌, refl, sym, ap, subst, ℕ, inl, inr, true, arith, List, [], ◌∷◌, ◌++◌, Option, None, Some, Result, Ok, Err, Vec}
 use Rattle.std.specs.Prelude.{IsSome}
 use Rattle.std.specs.declared.alloc.Global.{Global}
 use Rattle.gl_desk.specs.Desk.{FilesByName}
 use Rattle.gl_igc.specs.Reading.{Reading, recording_of}
 use Rattle.gl_igc.specs.declared.error.IgcError.{IgcError}
 use Rattle.gl_igc.specs.declared.error.IgcError.TheVariants as igc
-use Rattle.gl_near.proofs.Reading.{text_refused}
+use Rattle.gl_lines.specs.declared.error.ProofError.{ProofError}
+use Rattle.gl_near.proofs.Reading as near
 use Rattle.gl_plain.proofs.StepLines.{schedule_told}
 use Rattle.gl_proof.proofs.Unique as proof
+use Rattle.gl_proof.specs.Refusal.{IsRefused}
 use Rattle.gl_series.proofs.Lines.{list_told}
 use Rattle.gl_series.proofs.Sheets.{sheet_told}
 use Rattle.gl_words.proofs.Unbroken.{is_unbroken}
@@ -16,11 +18,16 @@ use Rattle.gl_files.specs.declared.halt.Halt.{Halt}
 use Rattle.gl_files.specs.declared.halt.Halt.TheVariants.{Refused, Stopped}
 use Rattle.gl_files.specs.declared.refusal.Cause.{Cause}
 use Rattle.gl_files.specs.declared.refusal.Refusal.{Refusal}
-use Rattle.gl_files.specs.FileTests.{AllPass, Fails, NearProofText, ProofText, SeriesListText, SheetText, list_cause, near_proof_cause, proof_cause, sheet_cause, FileTest, FirstFails, HasRead, HasReadFile, IsNoText, IsText, Kind, Listed, Passes, Reads, RecordingText, ScheduleText, Small, Unlisted, file_of, recording_cause, schedule_cause, text_tests}
+use Rattle.gl_files.specs.FileTests.{AirspaceText, AllPass, Fails, NearProofText, ProofText, SeriesListText, SheetText, TaskText, airspace_cause, list_cause, near_proof_cause, proof_cause, sheet_cause, task_cause, FileTest, FirstFails, HasRead, HasReadFile, IsNoText, IsProofOfText, IsText, Kind, Listed, Passes, Reads, RecordingText, ScheduleText, Small, Unlisted, file_of, recording_cause, schedule_cause, text_tests}
 use Rattle.gl_files.specs.Halts.{AreBytes, RefusesFor}
+use Rattle.gl_files.proofs.Readings.{airspace_refused, task_refused}
 
 -- no text is of a kind and isn't
 text_or_not : (kind : Kind) (text : List ℕ) (cause : Cause) → IsText kind text → IsNoText kind text cause → ⊥
+text_or_not TaskText text cause (read, is) (error, told, why) =
+    let e : ◌≡◌ {A = Option Cause} None (Some cause) = sym (ap task_cause (task_refused text read error is told)) ∙ why in cc
+text_or_not AirspaceText text cause (read, is) (error, told, why) =
+    let e : ◌≡◌ {A = Option Cause} None (Some cause) = sym (ap airspace_cause (airspace_refused text read error is told)) ∙ why in cc
 text_or_not (RecordingText day) text cause (reading, reads) (error, told, why) =
     let e : ◌≡◌ {A = Result Reading IgcError} (Ok reading) (Err error) = sym reads ∙ told in cc
 text_or_not ScheduleText text cause (steps, is) (error, told, why) =
@@ -28,14 +35,14 @@ text_or_not ScheduleText text cause (steps, is) (error, told, why) =
 text_or_not ProofText text cause (version, statements, is) (error, told, why) =
     let e : ◌≡◌ {A = Option Cause} None (Some cause) = sym (ap proof_cause (proof.text_refused text statements error is told)) ∙ why in cc
 text_or_not NearProofText text cause (best, boxes, is) (error, told, why) =
-    let e : ◌≡◌ {A = Option Cause} None (Some cause) = sym (ap near_proof_cause (text_refused text best boxes error is told)) ∙ why in cc
+    let e : ◌≡◌ {A = Option Cause} None (Some cause) = sym (ap near_proof_cause (near.text_refused text best boxes error is told)) ∙ why in cc
 text_or_not SeriesListText text cause (series, is) (error, told, why) =
     let e : ◌≡◌ {A = Option Cause} None (Some cause) = sym (ap list_cause (list_told text series error is told)) ∙ why in cc
 text_or_not SheetText text cause (day, is) (error, told, why) =
     let e : ◌≡◌ {A = Option Cause} None (Some cause) = sym (ap sheet_cause (sheet_told text day error is told)) ∙ why in cc
 
 -- no test passes and fails
-passes_or_fails : (test : FileTest) (cause : Cause) → Passes test → Fails test cause → ⊥
+pub passes_or_fails : (test : FileTest) (cause : Cause) → Passes test → Fails test cause → ⊥
 passes_or_fails (Listed file None) cause passes fails = cc
 passes_or_fails (Listed file (Some bytes)) cause passes (none, why) = cc
 passes_or_fails (Unlisted file None) cause passes (some, why) = cc
@@ -65,45 +72,59 @@ pub all_pass : (front back : List FileTest) → AllPass front → AllPass back �
 all_pass [] back front behind = behind
 all_pass (test ∷ tests) back front behind = (front.0, all_pass tests back front.1 behind)
 
--- a file whose text was tested is listed
+-- a file whose size was tested is listed
+pub small_fails : (most : ℕ) (file : List ℕ) (seen : Option (List ℕ)) (tests : List FileTest) (refusal : Refusal) → FirstFails (Small most file seen ∷ tests) refusal → IsSome seen
+small_fails most file None tests refusal (inl (same, fails)) = absurd fails.0
+small_fails most file None tests refusal (inr (passes, fails)) = absurd passes
+small_fails most file (Some text) tests refusal fails = refl
+
+pub small_passes : (most : ℕ) (file : List ℕ) (seen : Option (List ℕ)) (tests : List FileTest) → AllPass (Small most file seen ∷ tests) → IsSome seen
+small_passes most file None tests passes = absurd passes.0
+small_passes most file (Some text) tests passes = refl
+
+-- so is one whose text was tested
 pub some_text_fails : (kind : Kind) (most : ℕ) (file : List ℕ) (seen : Option (List ℕ)) (refusal : Refusal) → FirstFails (text_tests kind most file seen) refusal → IsSome seen
-some_text_fails kind most file None refusal (inl (same, fails)) = absurd fails.0
-some_text_fails kind most file None refusal (inr (passes, fails)) = absurd passes
-some_text_fails kind most file (Some text) refusal fails = refl
+some_text_fails kind most file seen refusal fails = small_fails most file seen (Reads kind file seen ∷ []) refusal fails
 
 pub some_text_passes : (kind : Kind) (most : ℕ) (file : List ℕ) (seen : Option (List ℕ)) → AllPass (text_tests kind most file seen) → IsSome seen
-some_text_passes kind most file None passes = absurd passes.0
-some_text_passes kind most file (Some text) passes = refl
+some_text_passes kind most file seen passes = small_passes most file seen (Reads kind file seen ∷ []) passes
 
 -- the files of tests have names without an LF
 abbrev pub AreNamed : List FileTest → Type 0
 AreNamed [] = Unit {0}
 AreNamed (test ∷ tests) = (is_unbroken (file_of test) ≡ true) × AreNamed tests
 
+pub all_named : (front back : List FileTest) → AreNamed front → AreNamed back → AreNamed (front ++ back)
+all_named [] back named behind = behind
+all_named (test ∷ front) back named behind = (named.0, all_named front back named.1 behind)
+
 pub refusal_named : (tests : List FileTest) (refusal : Refusal) → AreNamed tests → FirstFails tests refusal → is_unbroken refusal.file ≡ true
 refusal_named [] refusal named fails = absurd fails
 refusal_named (test ∷ tests) refusal named (inl (file, fails)) = ap is_unbroken file ∙ named.0
 refusal_named (test ∷ tests) refusal named (inr (pass, fails)) = refusal_named tests refusal named.1 fails
 
--- a text that is no recording, and one that is no schedule
-no_recording : {X : Type 0} (day : _) (file text : List ℕ) (error : IgcError) (cause : Cause) (halt : Halt) (IsOf : List ℕ → X → Type 0)
-    → recording_of text day ≡ Err error → recording_cause error ≡ Some cause → RefusesFor file (Some cause) halt → HasRead (RecordingText day) file text IsOf (Err halt)
-no_recording day file text error cause (Refused refusal) IsOf told why same =
-    (ap (λ (r : Refusal). r.file) same, (error, told, why ∙ ap (λ (r : Refusal). Some r.cause) (sym same)))
-no_recording day file text error cause (Stopped stop) IsOf told why same = tt
+-- A text that isn't of its kind refuses its file for a cause, if there is one; if not, memory was wanting.
+pub text_refused : {X : Type 0} (kind : Kind) (file text : List ℕ) (cause : Option Cause) (halt : Halt) (IsOf : List ℕ → X → Type 0)
+    → ((why : Cause) → cause ≡ Some why → IsNoText kind text why) → RefusesFor file cause halt → HasRead kind file text IsOf (Err halt)
+text_refused kind file text None (Refused refusal) IsOf isnt wanting = absurd (cc)
+text_refused kind file text None (Stopped stop) IsOf isnt wanting = tt
+text_refused kind file text (Some cause) (Refused refusal) IsOf isnt same =
+    (ap (λ (r : Refusal). r.file) same, subst (IsNoText kind text) (ap (λ (r : Refusal). r.cause) (sym same)) (isnt cause refl))
+text_refused kind file text (Some cause) (Stopped stop) IsOf isnt same = tt
 
-stopped_read : {X : Type 0} (kind : Kind) (file text : List ℕ) (halt : Halt) (IsOf : List ℕ → X → Type 0) → RefusesFor file None halt → HasRead kind file text IsOf (Err halt)
-stopped_read kind file text (Refused refusal) IsOf wanting = absurd (cc)
-stopped_read kind file text (Stopped stop) IsOf wanting = tt
+-- want of memory says nothing of a recording
+caused : (error : IgcError) (cause : Cause) → recording_cause error ≡ Some cause → error ≢ igc.Memory
+caused error cause why memory =
+    let e : ◌≡◌ {A = Option Cause} None (Some cause) = sym (ap recording_cause memory) ∙ why in cc
 
 pub recording_refused : {X : Type 0} (day : _) (file text : List ℕ) (error : IgcError) (halt : Halt) (IsOf : List ℕ → X → Type 0)
     → (error ≢ igc.Memory → recording_of text day ≡ Err error) → RefusesFor file (recording_cause error) halt → HasRead (RecordingText day) file text IsOf (Err halt)
-recording_refused day file text igc.NotIgc halt IsOf told refused = no_recording day file text igc.NotIgc _ halt IsOf (told (λ memory. cc)) refl refused
-recording_refused day file text igc.NoDate halt IsOf told refused = no_recording day file text igc.NoDate _ halt IsOf (told (λ memory. cc)) refl refused
-recording_refused day file text (igc.WrongDay other) halt IsOf told refused = no_recording day file text (igc.WrongDay other) _ halt IsOf (told (λ memory. cc)) refl refused
-recording_refused day file text (igc.TooManyFixes line) halt IsOf told refused = no_recording day file text (igc.TooManyFixes line) _ halt IsOf (told (λ memory. cc)) refl refused
-recording_refused day file text igc.NoFix halt IsOf told refused = no_recording day file text igc.NoFix _ halt IsOf (told (λ memory. cc)) refl refused
-recording_refused day file text igc.Memory halt IsOf told refused = stopped_read (RecordingText day) file text halt IsOf refused
+recording_refused day file text error halt IsOf told refused =
+    text_refused (RecordingText day) file text (recording_cause error) halt IsOf (λ cause why. (error, told (caused error cause why), why)) refused
+
+pub proof_refused : (file text : List ℕ) (error : ProofError) (halt : Halt) → IsRefused text error → RefusesFor file (proof_cause error) halt → HasRead ProofText file text IsProofOfText (Err halt)
+proof_refused file text error halt told refused =
+    text_refused ProofText file text (proof_cause error) halt IsProofOfText (λ cause why. (error, told, why)) refused
 
 -- a file whose bytes weren't read
 pub bytes_refused : {X : Type 0} (folder : Option FilesByName) (kind : Kind) (file : List ℕ) (most : ℕ) (halt : Halt) (IsOf : List ℕ → X → Type 0)

@@ -1,5 +1,4 @@
 pub mod BadgeTests
-pub mod DayPasses
 pub mod DayRefusals
 pub mod DayTests
 pub mod FileTests

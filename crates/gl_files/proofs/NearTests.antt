@@ -5,36 +5,23 @@ use Rattle.gl_desk.specs.Desk.{FilesByName, HasFile, ListsNames}
 use Rattle.gl_igc.specs.declared.recording.Recording.{Recording}
 use Rattle.gl_lines.specs.Refusal.{IsRefusal}
 use Rattle.gl_lines.specs.declared.error.ProofError.{ProofError}
-use Rattle.gl_lines.specs.declared.error.ProofError.TheVariants as proof
 use Rattle.gl_near.specs.Line.{near_grammar}
 use Rattle.gl_near.specs.declared.claim.NearClaim.{NearClaim}
 use Rattle.gl_desk.specs.Limits.{most_bytes}
 use Rattle.gl_words.specs.Words.{NearWords}
 use Rattle.gl_files.specs.declared.halt.Halt.{Halt}
 use Rattle.gl_files.specs.declared.halt.Halt.TheVariants.{Refused, Stopped}
-use Rattle.gl_files.specs.declared.refusal.Cause.{Cause}
 use Rattle.gl_files.specs.declared.refusal.Refusal.{Refusal}
 use Rattle.gl_files.specs.FileTests.{AllPass, FileTest, FirstFails, HasRead, HasReadFile, HasTested, IsNeeded, IsRecordingOf, IsUnused, Listed, NearProofText, Passes, RecordingText, Unlisted, most_proof_bytes, near_proof_cause, text_tests}
 use Rattle.gl_files.specs.Halts.{RefusesFor}
 use Rattle.gl_files.specs.NearFiles.{AreFlightsSeen, AreNearCheckRead, AreNearRead, IsClaimOf, IsNearSeen, NearSeen, day_of, day_read, flights_tests, near_check_tests, near_tests, recording_tests}
 use Rattle.gl_files.proofs.DayTests.{has_file, is_listed, not_listed, seen_some}
-use Rattle.gl_files.proofs.FileTests.{all_pass, fails_behind, fails_in_front, some_text_fails, some_text_passes}
+use Rattle.gl_files.proofs.FileTests.{all_pass, fails_behind, fails_in_front, some_text_fails, some_text_passes, text_refused}
 
 -- a text that is no proof of a closest approach
-no_claim : (file text : List ℕ) (error : ProofError) (cause : Cause) (halt : Halt) → IsRefusal near_grammar text error → near_proof_cause error ≡ Some cause → RefusesFor file (Some cause) halt → HasRead NearProofText file text IsClaimOf (Err halt)
-no_claim file text error cause (Refused refusal) told why same =
-    (ap (λ (r : Refusal). r.file) same, (error, told, subst (λ (c : Cause). near_proof_cause error ≡ Some c) (ap (λ (r : Refusal). r.cause) (sym same)) why))
-no_claim file text error cause (Stopped stop) told why same = tt
-
-memory_read : (file text : List ℕ) (halt : Halt) → RefusesFor file None halt → HasRead NearProofText file text IsClaimOf (Err halt)
-memory_read file text (Refused refusal) wanting = absurd (cc)
-memory_read file text (Stopped stop) wanting = tt
-
 pub claim_refused : (file text : List ℕ) (error : ProofError) (halt : Halt) → IsRefusal near_grammar text error → RefusesFor file (near_proof_cause error) halt → HasRead NearProofText file text IsClaimOf (Err halt)
-claim_refused file text proof.Heading halt told refused = no_claim file text proof.Heading _ halt told refl refused
-claim_refused file text (proof.Line line) halt told refused = no_claim file text (proof.Line line) _ halt told refl refused
-claim_refused file text proof.Cut halt told refused = no_claim file text proof.Cut _ halt told refl refused
-claim_refused file text proof.Memory halt told refused = memory_read file text halt refused
+claim_refused file text error halt told refused =
+    text_refused NearProofText file text (near_proof_cause error) halt IsClaimOf (λ cause why. (error, told, why)) refused
 
 -- the day of a recording that was read
 day_is : (seen : Option (List ℕ)) (recording : Recording) → IsSomeAnd seen (λ text. IsRecordingOf None text recording) → day_of seen ≡ Some recording.date

@@ -1,17 +1,16 @@
 -- In a folder the tests of `score` end in one way.
-use Rattle.std.proofs.Common.{◌≡◌, ◌∙◌, refl, sym, ap, subst, ℕ, ◌⊎◌, inl, inr, Bool, true, false, List, length, Option, None, Some, Ok, Err}
-use Rattle.std.specs.Prelude.{MatchBool, MatchOption, min, nat_lt}
+use Rattle.std.proofs.Common.{◌≡◌, ◌∙◌, refl, sym, ap, subst, ℕ, ◌⊎◌, inl, inr, List, [], ◌∷◌, Option, None, Some}
+use Rattle.std.specs.Prelude.{IsSomeAnd, min}
 use Rattle.toml.specs.Data.{Members}
 use Rattle.gl_airspace.specs.Parts.{Tells}
 use Rattle.gl_airspace.specs.Volumes as volumes
 use Rattle.gl_airspace.specs.declared.error.AirError.{AirError}
 use Rattle.gl_airspace.specs.declared.error.AirError.TheVariants as air
 use Rattle.gl_airspace.specs.declared.volume.Airspace.{Airspace}
-use Rattle.gl_desk.specs.Limits.{most_bytes}
 use Rattle.gl_airspace.proofs.SameAirspace.{airspace_same, no_volumes_same}
-use Rattle.gl_desk.specs.Desk.{FilesByName}
+use Rattle.gl_desk.specs.Desk.{FilesByName, IsSeenIn}
 use Rattle.gl_task_file.specs.Keys.{first_failed}
-use Rattle.gl_task_file.specs.Reading.{FailsFirst, IsDocument, IsRefusalOf}
+use Rattle.gl_task_file.specs.Reading.{FailsFirst, IsDocument, IsReadFrom, IsRefusalOf}
 use Rattle.gl_task_file.specs.Tests.{tests}
 use Rattle.gl_task_file.specs.declared.error.TaskError.{TaskError}
 use Rattle.gl_task_file.specs.declared.error.TaskError.TheVariants as task
@@ -19,63 +18,60 @@ use Rattle.gl_task.specs.declared.task.Task.{Task}
 use Rattle.gl_words.specs.Words.{DayNames}
 use Rattle.gl_files.specs.declared.day_files.DayFiles.{DayFiles}
 use Rattle.gl_files.specs.declared.refusal.Cause.{Cause}
-use Rattle.gl_files.specs.declared.refusal.Cause.TheVariants.{Listed, TooLarge}
 use Rattle.gl_files.specs.declared.refusal.Refusal.{Refusal}
-use Rattle.gl_files.specs.DayFiles.{IfListed, IfPassed, IsAirspaceFor, IsAirspaceIn, IsAirspaceOf, IsDayOf, IsRefusedFor, IsScoreTested, IsTaskIn, IsTaskOf, Tested, airspace_cause, task_cause}
-use Rattle.gl_files.specs.Refusals.{file_refusal}
-use Rattle.gl_files.proofs.DayPasses.{seen_alone}
-use Rattle.gl_files.proofs.Readings.{airspace_refused, document_same, task_refused}
+use Rattle.gl_files.specs.DayFiles.{IsAirspaceRead, IsAirspaceSeen, IsDayRead, IsScoreSeen, IsTaskSeen, ScoreSeen, TaskSeen, airspace_file, airspace_tests, score_tests}
+use Rattle.gl_files.specs.FileTests.{AirspaceText, Fails, FileTest, FirstFails, IsNoText, Kind, Reads, TaskText, airspace_cause, task_cause}
+use Rattle.gl_files.proofs.FileTests.{passes_or_fails}
+use Rattle.gl_files.proofs.Readings.{document_same}
 use Rattle.gl_files.proofs.TaskSame.{one, task_same}
+
+-- a folder has one file under a name
+pub seen_alone : (files : FilesByName) (file : List ℕ) (a b : Option (List ℕ)) → IsSeenIn (Some files) file a → IsSeenIn (Some files) file b → b ≡ a
+seen_alone files file a b is also = sym also ∙ is
+
+airspace_alone : (files : FilesByName) (file : Option (List ℕ)) (a b : Option (List ℕ)) → IsAirspaceSeen (Some files) file a → IsAirspaceSeen (Some files) file b → b ≡ a
+airspace_alone files None a b is also = also ∙ sym is
+airspace_alone files (Some file) a b is also = seen_alone files file a b is also
+
+task_seen_one : (files : FilesByName) (file : List ℕ) (s t : TaskSeen) → IsTaskSeen file (Some files) s → IsTaskSeen file (Some files) t → t ≡ s
+task_seen_one files file s t is also =
+    let text = seen_alone files file s.text t.text is.text also.text in
+    let air = airspace_alone files (airspace_file s.text) s.airspace t.airspace is.airspace (subst (λ (o : Option (List ℕ)). IsAirspaceSeen (Some files) (airspace_file o) t.airspace) text also.airspace) in
+    λ i. record { text = text i; airspace = air i }
+
+-- so one thing is seen of the files of `score` and `check`
+pub seen_one : (files : FilesByName) (names : DayNames) (s t : ScoreSeen) → IsScoreSeen names (Some files) s → IsScoreSeen names (Some files) t → t ≡ s
+seen_one files names s t is also =
+    let day = task_seen_one files names.task s.task t.task is.task also.task in
+    let proof = seen_alone files names.proof s.proof t.proof is.proof also.proof in
+    λ i. record { task = day i; proof = proof i }
+
+-- of which one day is read
+task_one : (seen : Option (List ℕ)) (v w : Task) → IsSomeAnd seen (λ text. IsReadFrom text v) → IsSomeAnd seen (λ text. IsReadFrom text w) → v ≡ w
+task_one None v w is also = absurd is
+task_one (Some text) v w is also = task_same text v w is also
+
+airspace_one : (seen : Option (List ℕ)) (a b : Airspace) → IsAirspaceRead seen a → IsAirspaceRead seen b → a ≡ b
+airspace_one None a b is also = no_volumes_same a b is also
+airspace_one (Some text) a b is also = airspace_same text a b is also
+
+pub day_one : (seen : TaskSeen) (a b : DayFiles) → IsDayRead seen a → IsDayRead seen b → a ≡ b
+day_one seen a b is also =
+    let tasks = task_one seen.text a.task b.task is.task also.task in
+    let airs = airspace_one seen.airspace a.airspace b.airspace is.airspace also.airspace in
+    λ i. record { task = tasks i; airspace = airs i }
 
 -- two errors are one, unless memory is wanting
 abbrev AreOne : {E : Type 0} → E → E → E → Type 0
 AreOne memory a b = (a ≡ memory) ⊎ ((b ≡ memory) ⊎ (a ≡ b))
 
--- a cause refuses a file in one way
-cause_one : {X : Type 0} (file : List ℕ) (cause : Option Cause) (x y : Tested X) → IsRefusedFor file cause x → IsRefusedFor file cause y → x ≡ y
-cause_one file None x y is also = absurd is
-cause_one file (Some cause) x y is also = is ∙ sym also
-
--- so do two errors that are one, where want of memory is no cause
-error_one : {E X : Type 0} (cause : E → Option Cause) (memory a b : E) (file : List ℕ) (x y : Tested X) → cause memory ≡ None → AreOne memory a b → IsRefusedFor file (cause a) x → IsRefusedFor file (cause b) y → x ≡ y
-error_one cause memory a b file x y none (inl wanting) is also =
-    absurd (subst (λ (c : Option Cause). IsRefusedFor file c x) (ap cause wanting ∙ none) is)
-error_one cause memory a b file x y none (inr (inl wanting)) is also =
-    absurd (subst (λ (c : Option Cause). IsRefusedFor file c y) (ap cause wanting ∙ none) also)
-error_one cause memory a b file x y none (inr (inr same)) is also =
-    cause_one file (cause b) x y (subst (λ (c : Option Cause). IsRefusedFor file c x) (ap cause same) is) also
-
--- a file that is too large is refused in one way
-small_one : {X : Type 0} (large : Bool) (refusal : Refusal) (x y : Tested X) (P Q : Type 0) → MatchBool large (x ≡ Err refusal) P → MatchBool large (y ≡ Err refusal) Q → (P → Q → x ≡ y) → x ≡ y
-small_one true refusal x y P Q is also small = is ∙ sym also
-small_one false refusal x y P Q is also small = small is also
-
--- so is one that isn't listed
-listed_one : {X : Type 0} (file : List ℕ) (seen other : Option (List ℕ)) (x y : Tested X) (P Q : List ℕ → Type 0) → other ≡ seen → IfListed file seen x P → IfListed file other y Q → ((bytes : List ℕ) → P bytes → Q bytes → x ≡ y) → x ≡ y
-listed_one file None None x y P Q same is also listed = is ∙ sym also
-listed_one file None (Some b) x y P Q same is also listed = absurd (cc)
-listed_one file (Some a) None x y P Q same is also listed = absurd (cc)
-listed_one file (Some a) (Some b) x y P Q same is also listed =
-    let e : b ≡ a = cc in
-    listed a is (subst Q e also)
-
--- and one that is listed where it is to be made
-new_one : {X : Type 0} (seen other : Option (List ℕ)) (refusal : Refusal) (x y : Tested X) (P Q : Type 0) → other ≡ seen → MatchOption seen P (λ _. x ≡ Err refusal) → MatchOption other Q (λ _. y ≡ Err refusal) → (P → Q → x ≡ y) → x ≡ y
-new_one None None refusal x y P Q same is also new = new is also
-new_one None (Some b) refusal x y P Q same is also new = absurd (cc)
-new_one (Some a) None refusal x y P Q same is also new = absurd (cc)
-new_one (Some a) (Some b) refusal x y P Q same is also new = is ∙ sym also
-
--- tests behind tests that end in one way
-passed_one : {X Y : Type 0} (first other : Tested X) (x y : Tested Y) (P Q : X → Type 0) → first ≡ other → IfPassed first x P → IfPassed other y Q → ((a : X) → P a → Q a → x ≡ y) → x ≡ y
-passed_one (Ok a) (Ok b) x y P Q same is also passed =
-    let e : b ≡ a = cc in
-    passed a is (subst Q e also)
-passed_one (Ok a) (Err s) x y P Q same is also passed = absurd (cc)
-passed_one (Err r) (Ok b) x y P Q same is also passed = absurd (cc)
-passed_one (Err r) (Err s) x y P Q same is also passed =
-    let e : r ≡ s = cc in
-    is ∙ ap Err e ∙ sym also
+-- errors that are one have one cause, where want of memory is none
+cause_one : {E : Type 0} (cause : E → Option Cause) (memory x y : E) (a b : Cause) → cause memory ≡ None → AreOne memory x y → cause x ≡ Some a → cause y ≡ Some b → a ≡ b
+cause_one cause memory x y a b none (inl wanting) is also =
+    let e : ◌≡◌ {A = Option Cause} None (Some a) = sym none ∙ sym (ap cause wanting) ∙ is in absurd (cc)
+cause_one cause memory x y a b none (inr (inl wanting)) is also =
+    let e : ◌≡◌ {A = Option Cause} None (Some b) = sym none ∙ sym (ap cause wanting) ∙ also in absurd (cc)
+cause_one cause memory x y a b none (inr (inr same)) is also = one (cause y) a b (sym (ap cause same) ∙ is) also
 
 -- the first test of a text that fails is one
 fails_one : (text : List ℕ) (a b : TaskError) → FailsFirst text a → FailsFirst text b → a ≡ b
@@ -104,19 +100,9 @@ known_one text a b (inr (inl is)) (inr (inr fails)) = absurd (is.1 fails.file fa
 known_one text a b (inr (inr fails)) (inr (inl also)) = absurd (also.1 fails.file fails.document)
 known_one text a b (inr (inr fails)) (inr (inr also)) = inr (inr (fails_one text a b fails also))
 
--- the task of a file, or its refusal, is one
-task_in_one : (file text : List ℕ) (x y : Tested Task) → IsTaskIn file text x → IsTaskIn file text y → x ≡ y
-task_in_one file text x y (Ok v, is, same) (Ok w, also, too) = same ∙ ap Ok (task_same text v w is also) ∙ sym too
-task_in_one file text x y (Ok v, is, same) (Err error, also, refused) =
-    absurd (subst (λ (e : TaskError). IsRefusedFor file (task_cause e) y) (task_refused text v error is also) refused)
-task_in_one file text x y (Err error, is, refused) (Ok w, also, same) =
-    absurd (subst (λ (e : TaskError). IsRefusedFor file (task_cause e) x) (task_refused text w error also is) refused)
-task_in_one file text x y (Err a, is, refused) (Err b, also, too) =
-    error_one task_cause task.Memory a b file x y refl (known_one text a b (refusal_known text a is) (refusal_known text b also)) refused too
-
-task_one : (file bytes : List ℕ) (x y : Tested Task) → IsTaskOf file bytes x → IsTaskOf file bytes y → x ≡ y
-task_one file bytes x y is also =
-    small_one (nat_lt most_bytes (length bytes)) (file_refusal file TooLarge) x y (IsTaskIn file bytes x) (IsTaskIn file bytes y) is also (task_in_one file bytes x y)
+task_cause_one : (text : List ℕ) (a b : Cause) → IsNoText TaskText text a → IsNoText TaskText text b → a ≡ b
+task_cause_one text a b (x, is, why) (y, also, too) =
+    cause_one task_cause task.Memory x y a b refl (known_one text x y (refusal_known text x is) (refusal_known text y also)) why too
 
 -- the error that tells a refusal
 abbrev telling : Option volumes.Refusal → AirError
@@ -138,34 +124,45 @@ both_told told a b (inl wanting) also = inl wanting
 both_told told a b (inr is) (inl wanting) = inr (inl wanting)
 both_told told a b (inr is) (inr also) = inr (inr (is ∙ sym also))
 
--- the airspace of a file, or its refusal, is one
-airspace_in_one : (file text : List ℕ) (x y : Tested Airspace) → IsAirspaceIn file text x → IsAirspaceIn file text y → x ≡ y
-airspace_in_one file text x y (Ok v, is, same) (Ok w, also, too) = same ∙ ap Ok (airspace_same text v w is also) ∙ sym too
-airspace_in_one file text x y (Ok v, is, same) (Err error, also, refused) =
-    absurd (subst (λ (e : AirError). IsRefusedFor file (airspace_cause e) y) (airspace_refused text v error is also) refused)
-airspace_in_one file text x y (Err error, is, refused) (Ok w, also, same) =
-    absurd (subst (λ (e : AirError). IsRefusedFor file (airspace_cause e) x) (airspace_refused text w error also is) refused)
-airspace_in_one file text x y (Err a, is, refused) (Err b, also, too) =
-    let why = volumes.refusal_of (volumes.readings_of text) in
-    error_one airspace_cause air.Memory a b file x y refl (both_told (telling why) a b (tells_so why a is) (tells_so why b also)) refused too
+airspace_cause_one : (text : List ℕ) (a b : Cause) → IsNoText AirspaceText text a → IsNoText AirspaceText text b → a ≡ b
+airspace_cause_one text a b (x, is, why) (y, also, too) =
+    let told = volumes.refusal_of (volumes.readings_of text) in
+    cause_one airspace_cause air.Memory x y a b refl (both_told (telling told) x y (tells_so told x is) (tells_so told y also)) why too
 
-airspace_of_one : (file bytes : List ℕ) (x y : Tested Airspace) → IsAirspaceOf file bytes x → IsAirspaceOf file bytes y → x ≡ y
-airspace_of_one file bytes x y is also =
-    small_one (nat_lt most_bytes (length bytes)) (file_refusal file TooLarge) x y (IsAirspaceIn file bytes x) (IsAirspaceIn file bytes y) is also (airspace_in_one file bytes x y)
+-- a test that fails for one cause alone
+abbrev HasOneCause : FileTest → Type 0
+HasOneCause test = (a b : Cause) → Fails test a → Fails test b → a ≡ b
 
-airspace_one : (files : FilesByName) (airspace : Option (List ℕ)) (x y : Tested Airspace) → IsAirspaceFor (Some files) airspace x → IsAirspaceFor (Some files) airspace y → x ≡ y
-airspace_one files None x y (a, a_none, is) (b, b_none, also) = is ∙ ap Ok (no_volumes_same a b a_none b_none) ∙ sym also
-airspace_one files (Some file) x y (seen, there, is) (other, too, also) =
-    listed_one file seen other x y (λ bytes. IsAirspaceOf file bytes x) (λ bytes. IsAirspaceOf file bytes y) (seen_alone files file seen other there too) is also (λ bytes a b. airspace_of_one file bytes x y a b)
+abbrev HaveOneCause : List FileTest → Type 0
+HaveOneCause [] = Unit {0}
+HaveOneCause (test ∷ tests) = HasOneCause test × HaveOneCause tests
 
--- the day of a task's bytes, or its refusal, is one
-day_one : (files : FilesByName) (file bytes : List ℕ) (x y : Tested DayFiles) → IsDayOf (Some files) file bytes x → IsDayOf (Some files) file bytes y → x ≡ y
-day_one files file bytes x y (first, is, passed) (other, also, too) =
-    passed_one first other x y _ _ (task_one file bytes first other is also) passed too
-    (λ v a b. passed_one a.0 b.0 x y _ _ (airspace_one files v.airspace a.0 b.0 a.1 b.1) a.2 b.2 (λ air made same. made ∙ sym same))
+text_once : (kind : Kind) (file : List ℕ) (seen : Option (List ℕ)) → ((text : List ℕ) (a b : Cause) → IsNoText kind text a → IsNoText kind text b → a ≡ b) → HasOneCause (Reads kind file seen)
+text_once kind file None once = λ a b is also. absurd is
+text_once kind file (Some text) once = λ a b is also. once text a b is also
 
--- in a folder the tests of `score` give one day or refuse one file for one cause
-pub tests_one : (files : FilesByName) (names : DayNames) (x y : Tested DayFiles) → IsScoreTested (Some files) names x → IsScoreTested (Some files) names y → x ≡ y
-tests_one files names x y (seen, there, is) (other, too, also) =
-    listed_one names.task seen other x y _ _ (seen_alone files names.task seen other there too) is also
-    (λ bytes a b. new_one a.0 b.0 (file_refusal names.proof Listed) x y (IsDayOf (Some files) names.task bytes x) (IsDayOf (Some files) names.task bytes y) (seen_alone files names.proof a.0 b.0 a.1 b.1) a.2 b.2 (day_one files names.task bytes x y))
+airspace_once : (file : Option (List ℕ)) (seen : Option (List ℕ)) → HaveOneCause (airspace_tests file seen)
+airspace_once None seen = tt
+airspace_once (Some file) seen =
+    ((λ a b is also. is.1 ∙ sym also.1), ((λ a b is also. is.1 ∙ sym also.1), (text_once AirspaceText file seen airspace_cause_one, tt)))
+
+score_once : (names : DayNames) (seen : ScoreSeen) → HaveOneCause (score_tests names seen)
+score_once names seen =
+    let text = text_once TaskText names.task seen.task.text task_cause_one in
+    let rest = airspace_once (airspace_file seen.task.text) seen.task.airspace in
+    ((λ a b is also. is.1 ∙ sym also.1), ((λ a b is also. is.1 ∙ sym also.1), ((λ a b is also. is.1 ∙ sym also.1), (text, rest))))
+
+-- two refusals with one file and one cause
+same_refusal : (r q : Refusal) → r.file ≡ q.file → r.cause ≡ q.cause → r ≡ q
+same_refusal r q file cause = λ i. record { file = file i; cause = cause i }
+
+-- the first of such tests that fails refuses one file for one cause
+first_one : (tests : List FileTest) (r q : Refusal) → HaveOneCause tests → FirstFails tests r → FirstFails tests q → r ≡ q
+first_one [] r q once is also = absurd is
+first_one (test ∷ tests) r q once (inl is) (inl also) = same_refusal r q (is.0 ∙ sym also.0) (once.0 r.cause q.cause is.1 also.1)
+first_one (test ∷ tests) r q once (inl is) (inr also) = absurd (passes_or_fails test r.cause also.0 is.1)
+first_one (test ∷ tests) r q once (inr is) (inl also) = absurd (passes_or_fails test q.cause is.0 also.1)
+first_one (test ∷ tests) r q once (inr is) (inr also) = first_one tests r q once.1 is.1 also.1
+
+pub refusal_one : (names : DayNames) (seen : ScoreSeen) (r q : Refusal) → FirstFails (score_tests names seen) r → FirstFails (score_tests names seen) q → r ≡ q
+refusal_one names seen r q is also = first_one (score_tests names seen) r q (score_once names seen) is also

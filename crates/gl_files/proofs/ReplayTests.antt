@@ -1,38 +1,26 @@
 -- The tests of the files of `replay`, one after the other.
-use Rattle.std.proofs.Common.{◌≡◌, refl, sym, ap, subst, ℕ, inl, inr, List, Option, None, Some, Ok, Err, Vec}
+use Rattle.std.proofs.Common.{refl, ap, ℕ, inl, inr, List, Option, None, Some, Ok, Err, Vec}
 use Rattle.std.specs.declared.alloc.Global.{Global}
 use Rattle.gl_desk.specs.Desk.{FilesByName, HasFile, ListsNames}
 use Rattle.gl_igc.specs.declared.recording.Recording.{Recording}
 use Rattle.gl_plain.specs.Schedule.{IsRefused}
 use Rattle.gl_plain.specs.declared.error.StepError.{StepError}
-use Rattle.gl_plain.specs.declared.error.StepError.TheVariants as step
 use Rattle.gl_plain.specs.declared.schedule.Step.{Step}
 use Rattle.gl_desk.specs.Limits.{most_bytes}
 use Rattle.gl_words.specs.Words.{ReplayWords}
 use Rattle.gl_files.specs.declared.halt.Halt.{Halt}
 use Rattle.gl_files.specs.declared.halt.Halt.TheVariants.{Refused, Stopped}
-use Rattle.gl_files.specs.declared.refusal.Cause.{Cause}
 use Rattle.gl_files.specs.declared.refusal.Refusal.{Refusal}
 use Rattle.gl_files.specs.FileTests.{HasRead, HasReadFile, HasTested, IsNeeded, IsRecordingOf, RecordingText, ScheduleText, schedule_cause, text_tests}
 use Rattle.gl_files.specs.Halts.{RefusesFor}
 use Rattle.gl_files.specs.ReplayFiles.{AreReplayRead, AreStepsOf, IsReplaySeen, replay_tests}
 use Rattle.gl_files.proofs.DayTests.{is_listed, not_listed, seen_some}
-use Rattle.gl_files.proofs.FileTests.{all_pass, fails_behind, fails_in_front, some_text_fails, some_text_passes}
+use Rattle.gl_files.proofs.FileTests.{all_pass, fails_behind, fails_in_front, some_text_fails, some_text_passes, text_refused}
 
 -- a text that is no schedule
-no_schedule : (file text : List ℕ) (error : StepError) (cause : Cause) (halt : Halt) → IsRefused text error → schedule_cause error ≡ Some cause → RefusesFor file (Some cause) halt → HasRead ScheduleText file text AreStepsOf (Err halt)
-no_schedule file text error cause (Refused refusal) told why same =
-    (ap (λ (r : Refusal). r.file) same, (error, told, subst (λ (c : Cause). schedule_cause error ≡ Some c) (ap (λ (r : Refusal). r.cause) (sym same)) why))
-no_schedule file text error cause (Stopped stop) told why same = tt
-
-memory_read : (file text : List ℕ) (halt : Halt) → RefusesFor file None halt → HasRead ScheduleText file text AreStepsOf (Err halt)
-memory_read file text (Refused refusal) wanting = absurd (cc)
-memory_read file text (Stopped stop) wanting = tt
-
 pub schedule_refused : (file text : List ℕ) (error : StepError) (halt : Halt) → IsRefused text error → RefusesFor file (schedule_cause error) halt → HasRead ScheduleText file text AreStepsOf (Err halt)
-schedule_refused file text (step.Line line) halt told refused = no_schedule file text (step.Line line) _ halt told refl refused
-schedule_refused file text step.TooMany halt told refused = no_schedule file text step.TooMany _ halt told refl refused
-schedule_refused file text step.Memory halt told refused = memory_read file text halt refused
+schedule_refused file text error halt told refused =
+    text_refused ScheduleText file text (schedule_cause error) halt AreStepsOf (λ cause why. (error, told, why)) refused
 
 -- the recording isn't listed: the first test
 pub flight_missing : (folder : Option FilesByName) (names : List (List ℕ)) (words : ReplayWords) (halt : Halt)

@@ -11,7 +11,6 @@ use Rattle.gl_series.specs.SeriesList.{IsList, IsRefused, IsSeries}
 use Rattle.gl_series.specs.SheetText.{IsRefusedSheet, IsSheetOf}
 use Rattle.gl_series.specs.declared.day.DaySheet.{DaySheet}
 use Rattle.gl_series.specs.declared.error.ListError.{ListError}
-use Rattle.gl_series.specs.declared.error.ListError.TheVariants as list
 use Rattle.gl_series.specs.declared.error.SheetError.{SheetError}
 use Rattle.gl_series.specs.declared.error.SheetError.TheVariants as sheet
 use Rattle.gl_series.specs.declared.series.Series.{Series}
@@ -23,37 +22,20 @@ use Rattle.gl_files.specs.declared.halt.Halt.{Halt}
 use Rattle.gl_files.specs.declared.halt.Halt.TheVariants.{Refused, Stopped}
 use Rattle.gl_files.specs.declared.refusal.Cause.{Cause}
 use Rattle.gl_files.specs.declared.refusal.Refusal.{Refusal}
-use Rattle.gl_files.specs.FileTests.{AllPass, FileTest, FirstFails, HasRead, HasReadFile, HasTested, IsNeeded, Kind, SeriesListText, SheetText, list_cause, sheet_cause, text_tests}
+use Rattle.gl_files.specs.FileTests.{AllPass, FileTest, FirstFails, HasRead, HasReadFile, HasTested, IsNeeded, SeriesListText, SheetText, list_cause, sheet_cause, text_tests}
 use Rattle.gl_files.specs.Halts.{RefusesFor}
 use Rattle.gl_files.specs.SeriesFiles.{AreSeriesRead, DaySeen, IsDaySeen, IsListRead, IsSeriesSeen, IsSheetRead, day_tests, series_tests, tests_of}
 use Rattle.gl_files.proofs.DayTests.{not_listed, seen_some}
-use Rattle.gl_files.proofs.FileTests.{all_pass, fails_behind, fails_in_front, some_text_fails, some_text_passes}
+use Rattle.gl_files.proofs.FileTests.{all_pass, fails_behind, fails_in_front, some_text_fails, some_text_passes, text_refused}
 
--- a text that is no list
-no_list : (file text : List ℕ) (error : ListError) (cause : Cause) (halt : Halt) → IsRefused text error → list_cause error ≡ Some cause → RefusesFor file (Some cause) halt → HasRead SeriesListText file text IsList (Err halt)
-no_list file text error cause (Refused refusal) told why same =
-    (ap (λ (r : Refusal). r.file) same, (error, told, why ∙ ap (λ (r : Refusal). Some r.cause) (sym same)))
-no_list file text error cause (Stopped stop) told why same = tt
-
-no_memory : {X : Type 0} (kind : Kind) (file text : List ℕ) (halt : Halt) (IsOf : List ℕ → X → Type 0) → RefusesFor file None halt → HasRead kind file text IsOf (Err halt)
-no_memory kind file text (Refused refusal) IsOf wanting = absurd (cc)
-no_memory kind file text (Stopped stop) IsOf wanting = tt
-
+-- a text that is no list, and one that is no sheet
 pub list_refused : (file text : List ℕ) (error : ListError) (halt : Halt) → IsRefused text error → RefusesFor file (list_cause error) halt → HasRead SeriesListText file text IsList (Err halt)
-list_refused file text list.Heading halt told refused = no_list file text list.Heading _ halt told refl refused
-list_refused file text (list.Line line) halt told refused = no_list file text (list.Line line) _ halt told refl refused
-list_refused file text list.Memory halt told refused = no_memory SeriesListText file text halt IsList refused
-
--- a text that is no sheet
-no_sheet : (file text : List ℕ) (error : SheetError) (cause : Cause) (halt : Halt) → IsRefusedSheet text error → sheet_cause error ≡ Some cause → RefusesFor file (Some cause) halt → HasRead SheetText file text IsSheetOf (Err halt)
-no_sheet file text error cause (Refused refusal) told why same =
-    (ap (λ (r : Refusal). r.file) same, (error, told, why ∙ ap (λ (r : Refusal). Some r.cause) (sym same)))
-no_sheet file text error cause (Stopped stop) told why same = tt
+list_refused file text error halt told refused =
+    text_refused SeriesListText file text (list_cause error) halt IsList (λ cause why. (error, told, why)) refused
 
 pub sheet_refused : (file text : List ℕ) (error : SheetError) (halt : Halt) → IsRefusedSheet text error → RefusesFor file (sheet_cause error) halt → HasRead SheetText file text IsSheetOf (Err halt)
-sheet_refused file text sheet.Heading halt told refused = no_sheet file text sheet.Heading _ halt told refl refused
-sheet_refused file text (sheet.Record number) halt told refused = no_sheet file text (sheet.Record number) _ halt told refl refused
-sheet_refused file text sheet.Memory halt told refused = no_memory SheetText file text halt IsSheetOf refused
+sheet_refused file text error halt told refused =
+    text_refused SheetText file text (sheet_cause error) halt IsSheetOf (λ cause why. (error, told, why)) refused
 
 -- the list isn't among the names
 pub list_missing : (folder : Option FilesByName) (names : List (List ℕ)) (file : List ℕ) (halt : Halt) → ListsNames folder names → IsNeeded names file (Err halt)

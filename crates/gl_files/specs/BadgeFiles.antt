@@ -3,10 +3,9 @@ use Rattle.std.specs.Prelude.{ℕ, List, ◌∷◌, ◌++◌, Option, None, IsSo
 use Rattle.gl_desk.specs.Desk.{FilesByName, IsSeenIn}
 use Rattle.gl_igc.specs.declared.recording.Recording.{Recording}
 use Rattle.gl_proof.specs.declared.proof.Proof.{Proof}
-use Rattle.gl_proof.specs.Text.{IsTextOf, statements_of}
 use Rattle.gl_desk.specs.Limits.{most_bytes}
 use Rattle.gl_words.specs.Words.{BadgeWords}
-use Rattle.gl_files.specs.FileTests.{FileTest, Listed, ProofText, RecordingText, Unlisted, most_proof_bytes, text_tests}
+use Rattle.gl_files.specs.FileTests.{FileTest, IsProofOfText, Listed, ProofText, RecordingText, Unlisted, most_proof_bytes, text_tests}
 use Rattle.gl_files.specs.FlightFile.{IsFlightRead}
 
 -- what is seen of the two files
@@ -35,10 +34,6 @@ badge_check_tests words seen =
 -- this recording was read
 abbrev pub IsBadgeRead : BadgeSeen → Recording → Type 0
 IsBadgeRead seen recording = IsFlightRead seen.flight recording
-
--- a text has this proof
-abbrev pub IsProofOfText : List ℕ → Proof → Type 0
-IsProofOfText text proof = IsTextOf proof.version text (statements_of proof)
 
 -- this recording and this proof were read
 pub record AreBadgeCheckRead (seen : BadgeSeen) (read : Recording × Proof) : Type 0 where

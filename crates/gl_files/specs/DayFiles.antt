@@ -1,166 +1,96 @@
 -- The files of a day: their tests in their order, and what they give.
-use Rattle.std.specs.Prelude.{◌≡◌, ℕ, List, [], length, Option, None, Some, Result, Ok, Err, MatchBool, MatchOption, nat_lt}
-use Rattle.gl_desk.specs.Desk.{FilesByName, IsSeenIn}
+use Rattle.std.specs.Prelude.{◌≡◌, ℕ, List, [], ◌∷◌, ◌++◌, Option, None, Some, IsSomeAnd, codes}
+use Rattle.std.specs.Option.{option_and_then}
+use Rattle.toml.specs.Parse.{parse_document}
 use Rattle.gl_airspace.specs.Airspace.{IsAirspace}
-use Rattle.gl_airspace.specs.Parts.{Tells}
-use Rattle.gl_airspace.specs.Volumes as volumes
-use Rattle.gl_airspace.specs.declared.error.AirError.{AirError}
-use Rattle.gl_airspace.specs.declared.error.AirError.TheVariants as air
 use Rattle.gl_airspace.specs.declared.volume.Airspace.{Airspace}
-use Rattle.gl_proof.specs.Refusal.{IsRefused}
-use Rattle.gl_proof.specs.Text.{IsTextOf, statements_of}
-use Rattle.gl_lines.specs.declared.error.ProofError.{ProofError}
-use Rattle.gl_proof.specs.declared.proof.Proof.{Proof}
-use Rattle.gl_task_file.specs.Reading.{IsReadFrom, IsRefusalOf}
-use Rattle.gl_task_file.specs.declared.error.TaskError.{TaskError}
-use Rattle.gl_task_file.specs.declared.error.TaskError.TheVariants as task
-use Rattle.gl_task.specs.declared.task.Task.{Task}
+use Rattle.gl_desk.specs.Desk.{FilesByName, IsSeenIn}
 use Rattle.gl_desk.specs.Limits.{most_bytes}
+use Rattle.gl_proof.specs.declared.proof.Proof.{Proof}
+use Rattle.gl_task_file.specs.Keys.{said}
+use Rattle.gl_task_file.specs.Reading.{IsReadFrom}
+use Rattle.gl_task_file.specs.Values.{file_name}
 use Rattle.gl_words.specs.Words.{DayNames}
 use Rattle.gl_files.specs.declared.day_files.DayFiles.{DayFiles}
-use Rattle.gl_files.specs.declared.refusal.Cause.{Cause}
-use Rattle.gl_files.specs.declared.refusal.Cause.TheVariants.{NotListed, Listed, TooLarge, NotToml, NoKey, WrongValue, NumberTwice, TooManyItems, WrongAirspace, TooMuchAirspace}
-use Rattle.gl_files.specs.declared.refusal.Refusal.{Refusal}
-pub use Rattle.gl_files.specs.FileTests.{proof_cause}
-use Rattle.gl_files.specs.Refusals.{file_refusal}
-
--- what tests end with: what passes them gives something, and the first that fails refuses a file
-abbrev pub Tested : Type 0 → Type 0
-Tested X = Result X Refusal
+use Rattle.gl_files.specs.FileTests.{AirspaceText, FileTest, IsProofOfText, Listed, ProofText, TaskText, Unlisted, text_tests}
 
 -- What a test saw under a name meets a fact: the bytes of a file, or none where it isn't listed.
 -- Where the desk tells its folder, that is what the folder has.
 abbrev pub Sees : Option FilesByName → List ℕ → (Option (List ℕ) → Type 0) → Type 0
 Sees folder file P = (seen : Option (List ℕ)) × IsSeenIn folder file seen × P seen
 
--- what was seen of a listed file meets a fact
-abbrev pub SeesBytes : Option FilesByName → List ℕ → (List ℕ → Type 0) → Type 0
-SeesBytes folder file P = (bytes : List ℕ) × IsSeenIn folder file (Some bytes) × P bytes
+-- the airspace file that the text of a task names, if it names one
+unfoldable pub named_airspace : List ℕ → Option (List ℕ)
+named_airspace text = option_and_then (said (codes "airspace") file_name) (parse_document text)
 
--- the file is listed, or refused
-abbrev pub IfListed : {X : Type 0} → List ℕ → Option (List ℕ) → Tested X → (List ℕ → Type 0)
-    → Type 0
-IfListed file None tested P = tested ≡ Err (file_refusal file NotListed)
-IfListed file (Some bytes) tested P = P bytes
+-- so by what is seen of the task
+abbrev pub airspace_file : Option (List ℕ) → Option (List ℕ)
+airspace_file task = option_and_then named_airspace task
 
--- the file has at most so many bytes, or is refused
-abbrev pub IfSmall : {X : Type 0} → ℕ → List ℕ → List ℕ → Tested X → Type 0 → Type 0
-IfSmall most file bytes tested P =
-    MatchBool (nat_lt most (length bytes)) (tested ≡ Err (file_refusal file TooLarge)) P
+-- what is seen of an airspace file, if there is one
+abbrev pub IsAirspaceSeen : Option FilesByName → Option (List ℕ) → Option (List ℕ) → Type 0
+IsAirspaceSeen folder None seen = seen ≡ None
+IsAirspaceSeen folder (Some file) seen = IsSeenIn folder file seen
 
--- the tests before passed and gave something, or refused a file
-abbrev pub IfPassed : {X Y : Type 0} → Tested X → Tested Y → (X → Type 0) → Type 0
-IfPassed (Ok x) tested P = P x
-IfPassed (Err refusal) tested P = tested ≡ Err refusal
+-- what is seen of the task, and of the airspace file that it names
+pub record TaskSeen : Type 0 where
+  pub text : Option (List ℕ)
+  pub airspace : Option (List ℕ)
 
--- a file is refused for a cause, if there is one; want of memory is none
-abbrev pub IsRefusedFor : {X : Type 0} → List ℕ → Option Cause → Tested X → Type 0
-IsRefusedFor file None tested = ⊥
-IsRefusedFor file (Some cause) tested = tested ≡ Err (file_refusal file cause)
+pub record IsTaskSeen (file : List ℕ) (folder : Option FilesByName) (seen : TaskSeen) : Type 0 where
+  pub text : IsSeenIn folder file seen.text
+  pub airspace : IsAirspaceSeen folder (airspace_file seen.text) seen.airspace
 
--- why a text gives no task
-abbrev pub task_cause : TaskError → Option Cause
-task_cause task.Toml = Some NotToml
-task_cause (task.Missing key) = Some (NoKey key)
-task_cause (task.Value key) = Some (WrongValue key)
-task_cause (task.Twice key) = Some (NumberTwice key)
-task_cause (task.TooMany key) = Some (TooManyItems key)
-task_cause task.Memory = None
+-- an airspace file, if there is one, is listed; then its text
+abbrev pub airspace_tests : Option (List ℕ) → Option (List ℕ) → List FileTest
+airspace_tests None seen = []
+airspace_tests (Some file) seen = Listed file seen ∷ text_tests AirspaceText most_bytes file seen
 
--- why a text gives no airspace
-abbrev pub airspace_cause : AirError → Option Cause
-airspace_cause (air.Line line) = Some (WrongAirspace line)
-airspace_cause (air.TooMany line) = Some (TooMuchAirspace line)
-airspace_cause air.Memory = None
+-- the text of the task, and then its airspace
+abbrev pub task_tests : List ℕ → TaskSeen → List FileTest
+task_tests file seen =
+    text_tests TaskText most_bytes file seen.text
+    ++ airspace_tests (airspace_file seen.text) seen.airspace
 
--- what the text of a task reads as, or why it gives none
-abbrev pub IsTaskOfText : List ℕ → Result Task TaskError → Tested Task → Type 0
-IsTaskOfText file (Ok read) tested = tested ≡ Ok read
-IsTaskOfText file (Err error) tested = IsRefusedFor file (task_cause error) tested
+-- this airspace was read, which has no volume if there is no file
+abbrev pub IsAirspaceRead : Option (List ℕ) → Airspace → Type 0
+IsAirspaceRead None read = read.volumes ≡ []
+IsAirspaceRead (Some text) read = IsAirspace text read
 
-abbrev pub IsTaskRead : List ℕ → Result Task TaskError → Type 0
-IsTaskRead text (Ok read) = IsReadFrom text read
-IsTaskRead text (Err error) = IsRefusalOf text error
+-- this task and this airspace were read
+pub record IsDayRead (seen : TaskSeen) (day : DayFiles) : Type 0 where
+  pub task : IsSomeAnd seen.text (λ text. IsReadFrom text day.task)
+  pub airspace : IsAirspaceRead seen.airspace day.airspace
 
-abbrev pub IsTaskIn : List ℕ → List ℕ → Tested Task → Type 0
-IsTaskIn file text tested =
-    (read : Result Task TaskError) × IsTaskRead text read × IsTaskOfText file read tested
+-- what is seen of the files of `score` and `check`
+pub record ScoreSeen : Type 0 where
+  pub task : TaskSeen
+  pub proof : Option (List ℕ)
 
--- the task of the bytes of its file
-abbrev pub IsTaskOf : List ℕ → List ℕ → Tested Task → Type 0
-IsTaskOf file bytes tested =
-    IfSmall most_bytes file bytes tested (IsTaskIn file bytes tested)
-
--- what the text of airspace reads as, or why it gives none
-abbrev pub IsAirspaceOfText : List ℕ → Result Airspace AirError → Tested Airspace → Type 0
-IsAirspaceOfText file (Ok read) tested = tested ≡ Ok read
-IsAirspaceOfText file (Err error) tested = IsRefusedFor file (airspace_cause error) tested
-
-abbrev pub IsAirspaceRead : List ℕ → Result Airspace AirError → Type 0
-IsAirspaceRead text (Ok read) = IsAirspace text read
-IsAirspaceRead text (Err error) = Tells (volumes.refusal_of (volumes.readings_of text)) error
-
-abbrev pub IsAirspaceIn : List ℕ → List ℕ → Tested Airspace → Type 0
-IsAirspaceIn file text tested =
-    (read : Result Airspace AirError) × IsAirspaceRead text read
-    × IsAirspaceOfText file read tested
-
--- the airspace of the bytes of its file
-abbrev pub IsAirspaceOf : List ℕ → List ℕ → Tested Airspace → Type 0
-IsAirspaceOf file bytes tested =
-    IfSmall most_bytes file bytes tested (IsAirspaceIn file bytes tested)
-
--- there is no volume
-abbrev pub IsEmptyAirspace : Tested Airspace → Type 0
-IsEmptyAirspace tested = (air : Airspace) × (air.volumes ≡ []) × (tested ≡ Ok air)
-
--- the airspace of a task: that of the file which it names, or none
-abbrev pub IsAirspaceFor : Option FilesByName → Option (List ℕ) → Tested Airspace → Type 0
-IsAirspaceFor folder None tested = IsEmptyAirspace tested
-IsAirspaceFor folder (Some file) tested =
-    Sees folder file (λ seen. IfListed file seen tested (λ bytes. IsAirspaceOf file bytes tested))
-
--- what the text of a proof reads as, or why it is none
-abbrev pub IsProofOfText : List ℕ → Result Proof ProofError → Tested Proof → Type 0
-IsProofOfText file (Ok read) tested = tested ≡ Ok read
-IsProofOfText file (Err error) tested = IsRefusedFor file (proof_cause error) tested
-
-abbrev pub IsProofRead : List ℕ → Result Proof ProofError → Type 0
-IsProofRead text (Ok read) = IsTextOf read.version text (statements_of read)
-IsProofRead text (Err error) = IsRefused text error
-
-abbrev pub IsProofIn : List ℕ → List ℕ → Tested Proof → Type 0
-IsProofIn file text tested =
-    (read : Result Proof ProofError) × IsProofRead text read × IsProofOfText file read tested
-
--- the proof of the bytes of its file, of which it has at most so many
-abbrev pub IsProofOf : ℕ → List ℕ → List ℕ → Tested Proof → Type 0
-IsProofOf most file bytes tested =
-    IfSmall most file bytes tested (IsProofIn file bytes tested)
-
--- the task of its file's bytes, and then its airspace
-abbrev pub IsDayOf : Option FilesByName → List ℕ → List ℕ → Tested DayFiles → Type 0
-IsDayOf folder file bytes tested =
-    (first : Tested Task) × IsTaskOf file bytes first
-    × IfPassed first tested (λ task.
-    (then : Tested Airspace) × IsAirspaceFor folder task.airspace then
-    × IfPassed then tested (λ air. tested ≡ Ok (record { task = task; airspace = air })))
+pub record IsScoreSeen (names : DayNames) (folder : Option FilesByName) (seen : ScoreSeen)
+    : Type 0 where
+  pub task : IsTaskSeen names.task folder seen.task
+  pub proof : IsSeenIn folder names.proof seen.proof
 
 -- The files that `score` needs: the task is listed, and the proof isn't; then the task and its
 -- airspace.
-abbrev pub IsScoreTested : Option FilesByName → DayNames → Tested DayFiles → Type 0
-IsScoreTested folder names tested =
-    Sees folder names.task (λ task. IfListed names.task task tested (λ bytes.
-    Sees folder names.proof (λ proof. MatchOption proof (IsDayOf folder names.task bytes tested)
-    (λ _. tested ≡ Err (file_refusal names.proof Listed)))))
+abbrev pub score_tests : DayNames → ScoreSeen → List FileTest
+score_tests names seen =
+    Listed names.task seen.task.text ∷ Unlisted names.proof seen.proof
+    ∷ task_tests names.task seen.task
 
 -- The files that `check` needs: the task is listed, and the proof is; then the task and its
 -- airspace, and then the proof, which has at most so many bytes.
-abbrev pub IsCheckTested : ℕ → Option FilesByName → DayNames → Tested (DayFiles × Proof) → Type 0
-IsCheckTested most folder names tested =
-    Sees folder names.task (λ task. IfListed names.task task tested (λ bytes.
-    Sees folder names.proof (λ proof. IfListed names.proof proof tested (λ proof_bytes.
-    (first : Tested DayFiles) × IsDayOf folder names.task bytes first
-    × IfPassed first tested (λ day.
-    (then : Tested Proof) × IsProofOf most names.proof proof_bytes then
-    × IfPassed then tested (λ read. tested ≡ Ok (day, read)))))))
+abbrev pub check_tests : ℕ → DayNames → ScoreSeen → List FileTest
+check_tests most names seen =
+    Listed names.task seen.task.text ∷ Listed names.proof seen.proof
+    ∷ (task_tests names.task seen.task ++ text_tests ProofText most names.proof seen.proof)
+
+-- this day was read
+abbrev pub IsScoreRead : ScoreSeen → DayFiles → Type 0
+IsScoreRead seen day = IsDayRead seen.task day
+
+-- this day and this proof were read
+pub record IsCheckRead (seen : ScoreSeen) (read : DayFiles × Proof) : Type 0 where
+  pub day : IsDayRead seen.task read.0
+  pub proof : IsSomeAnd seen.proof (λ text. IsProofOfText text read.1)

@@ -1,6 +1,12 @@
 -- The tests of a command's files: the first that fails refuses its file.
 use Rattle.std.specs.Prelude.{◌≡◌, ℕ, ◌≤◌, ◌<◌, ◌⊎◌, ℤ, Contains, List, [], ◌∷◌, length, Option, None, Some, Result, Err, Ok, IsNone, IsSome, IsSomeAnd, ⊤}
 use Rattle.gl_desk.specs.Desk.{FilesByName, IsSeenIn}
+use Rattle.gl_airspace.specs.Airspace.{IsAirspace}
+use Rattle.gl_airspace.specs.Parts.{Tells}
+use Rattle.gl_airspace.specs.Volumes.{readings_of, refusal_of}
+use Rattle.gl_airspace.specs.declared.error.AirError.{AirError}
+use Rattle.gl_airspace.specs.declared.error.AirError.TheVariants as air
+use Rattle.gl_airspace.specs.declared.volume.Airspace.{Airspace}
 use Rattle.gl_igc.specs.Reading.{Reading, recording_of}
 use Rattle.gl_igc.specs.Recording.{reading_of}
 use Rattle.gl_igc.specs.declared.recording.Recording.{Recording}
@@ -19,6 +25,7 @@ use Rattle.gl_plain.specs.declared.schedule.Step.{Step}
 use Rattle.gl_proof.specs.Claim.{Statement}
 use Rattle.gl_proof.specs.Refusal as proof_refusal
 use Rattle.gl_proof.specs.Text as proof_text
+use Rattle.gl_proof.specs.declared.proof.Proof.{Proof}
 use Rattle.gl_proof.specs.declared.version.Version.{Version}
 use Rattle.gl_series.specs.SeriesList as series_list
 use Rattle.gl_series.specs.SheetText as sheet_text
@@ -28,24 +35,45 @@ use Rattle.gl_series.specs.declared.error.ListError.TheVariants as list
 use Rattle.gl_series.specs.declared.error.SheetError.{SheetError}
 use Rattle.gl_series.specs.declared.error.SheetError.TheVariants as sheet
 use Rattle.gl_series.specs.declared.series.Series.{Series}
+use Rattle.gl_task.specs.declared.task.Task.{Task}
+use Rattle.gl_task_file.specs.Reading.{IsReadFrom, IsRefusalOf}
+use Rattle.gl_task_file.specs.declared.error.TaskError.{TaskError}
+use Rattle.gl_task_file.specs.declared.error.TaskError.TheVariants as task
 use Rattle.gl_files.specs.declared.halt.Halt.{Halt}
 use Rattle.gl_files.specs.declared.halt.Halt.TheVariants.{Refused, Stopped}
 use Rattle.gl_files.specs.declared.refusal.Cause.{Cause}
-use Rattle.gl_files.specs.declared.refusal.Cause.TheVariants.{NearProofCut, NoDate, NoFix, NoHeading, NoNearHeading, NotIgc, NotListed, ProofCut, TooLarge, TooManyFixes, TooManySteps, WrongDay, WrongNearProof, WrongProof, WrongStep, NoListHeading, NoSheetHeading, WrongListLine, WrongRecord}
+use Rattle.gl_files.specs.declared.refusal.Cause.TheVariants.{NearProofCut, NoDate, NoFix, NoHeading, NoKey, NoNearHeading, NotIgc, NotListed, NotToml, NumberTwice, ProofCut, TooLarge, TooManyFixes, TooManyItems, TooManySteps, TooMuchAirspace, WrongAirspace, WrongDay, WrongNearProof, WrongProof, WrongStep, WrongValue, NoListHeading, NoSheetHeading, WrongListLine, WrongRecord}
 use Rattle.gl_files.specs.declared.refusal.Cause.TheVariants as cause
 use Rattle.gl_files.specs.declared.refusal.Refusal.{Refusal}
 use Rattle.gl_files.specs.Refusals.{file_refusal}
 
--- What a text is to be: a recording, by the day of a task if there is one; a schedule; the proof of
--- badge claims; that of a closest approach; the list of a championship; the sheet of one of its days. A
--- further kind has its line here, and in the two rules below.
+-- What a text is to be: a task; airspace; a recording, by the day of a task if there is one; a
+-- schedule; a proof; that of a closest approach; the list of a championship; the sheet of one of
+-- its days. A further kind has its line here, and in the two rules below.
 pub data Kind : Type 0 where
+  TaskText : Kind
+  AirspaceText : Kind
   RecordingText : Option ℤ → Kind
   ScheduleText : Kind
   ProofText : Kind
   NearProofText : Kind
   SeriesListText : Kind
   SheetText : Kind
+
+-- why a text gives no task
+abbrev pub task_cause : TaskError → Option Cause
+task_cause task.Toml = Some NotToml
+task_cause (task.Missing key) = Some (NoKey key)
+task_cause (task.Value key) = Some (WrongValue key)
+task_cause (task.Twice key) = Some (NumberTwice key)
+task_cause (task.TooMany key) = Some (TooManyItems key)
+task_cause task.Memory = None
+
+-- why a text gives no airspace
+abbrev pub airspace_cause : AirError → Option Cause
+airspace_cause (air.Line line) = Some (WrongAirspace line)
+airspace_cause (air.TooMany line) = Some (TooMuchAirspace line)
+airspace_cause air.Memory = None
 
 -- why a text is no recording
 abbrev pub recording_cause : IgcError → Option Cause
@@ -90,6 +118,8 @@ sheet_cause sheet.Memory = None
 
 -- a text is of a kind
 abbrev pub IsText : Kind → List ℕ → Type 0
+IsText TaskText text = (read : Task) × IsReadFrom text read
+IsText AirspaceText text = (read : Airspace) × IsAirspace text read
 IsText (RecordingText day) text = (reading : Reading) × (recording_of text day ≡ Ok reading)
 IsText ScheduleText text = (steps : List Step) × IsSchedule text steps
 IsText ProofText text =
@@ -102,6 +132,11 @@ IsText SheetText text = (day : DaySheet) × sheet_text.IsSheetOf text day
 
 -- a text isn't of a kind, for this cause
 abbrev pub IsNoText : Kind → List ℕ → Cause → Type 0
+IsNoText TaskText text cause =
+    (error : TaskError) × IsRefusalOf text error × (task_cause error ≡ Some cause)
+IsNoText AirspaceText text cause =
+    (error : AirError) × Tells (refusal_of (readings_of text)) error
+    × (airspace_cause error ≡ Some cause)
 IsNoText (RecordingText day) text cause =
     (error : IgcError) × (recording_of text day ≡ Err error)
     × (recording_cause error ≡ Some cause)
@@ -177,6 +212,11 @@ most_proof_bytes = 1_073_741_824
 -- a text reads as this recording, by the day of a task if there is one
 abbrev pub IsRecordingOf : Option ℤ → List ℕ → Recording → Type 0
 IsRecordingOf day text recording = recording_of text day ≡ Ok (reading_of recording)
+
+-- a text has this proof
+abbrev pub IsProofOfText : List ℕ → Proof → Type 0
+IsProofOfText text read =
+    proof_text.IsTextOf read.version text (proof_text.statements_of read)
 
 -- the tests of what stands in a file that is listed
 abbrev pub text_tests : Kind → ℕ → List ℕ → Option (List ℕ) → List FileTest

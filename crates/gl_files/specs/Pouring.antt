@@ -11,8 +11,8 @@ abbrev pub day_tag : Option ℤ → List ℤ
 day_tag None = []
 day_tag (Some day) = day ∷ []
 
--- A file was read to its end: its bytes, at most those that a recording may have, and what they say by
--- the day of a task. Where the folder is told, they are those that it has under the name.
+-- A file was read to its end: its bytes, at most those that a recording may have, and what they say
+-- by the day of a task. Where the folder is told, they are those that it has under the name.
 pub record IsFileRead (folder : Option FilesByName) (file : List ℕ) (day : Option ℤ)
     (read : Result Recording IgcError) : Type 0 where
   pub bytes : List ℕ

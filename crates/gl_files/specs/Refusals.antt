@@ -6,8 +6,8 @@ use Rattle.gl_files.specs.declared.refusal.Cause.{Cause}
 use Rattle.gl_files.specs.declared.refusal.Cause.TheVariants.{NotListed, Listed, TooLarge, NotIgc, NoDate, WrongDay, TooManyFixes, NoFix, NotToml, NoKey, WrongValue, NumberTwice, TooManyItems, WrongAirspace, TooMuchAirspace, WrongStep, TooManySteps, NoHeading, WrongProof, ProofCut, NoNearHeading, WrongNearProof, NearProofCut, NoListHeading, NoSheetHeading, WrongListLine, WrongRecord}
 use Rattle.gl_files.specs.declared.refusal.Refusal.{Refusal}
 
--- where in a file something is refused: nowhere in particular, at a line, at a record of a sheet, or
--- at a key of a task by its row, its item and its part
+-- where in a file something is refused: nowhere in particular, at a line, at a record of a sheet,
+-- or at a key of a task by its row, its item and its part
 pub data Place : Type 0 where
   Nowhere : Place
   AtLine : ℕ → Place

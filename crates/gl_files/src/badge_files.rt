@@ -1,40 +1,17 @@
 ghost use Rattle.gl_desk.specs.Answers.{OnlyReads};
-ghost use Rattle.gl_desk.specs.Desk.{HasFile, ListsNames};
+ghost use Rattle.gl_desk.specs.Desk.{ListsNames};
 ghost use Rattle.gl_words.specs.BadgeWords.{badge_seen};
-ghost use Rattle.gl_files.specs.BadgeFiles.{AreBadgeCheckRead, IsBadgeRead, IsBadgeSeen, IsProofOfText, badge_check_tests, badge_tests};
-ghost use Rattle.gl_files.specs.FileTests.{HasRead, HasReadFile, HasTested, ProofText, most_proof_bytes};
-ghost use Rattle.gl_files.specs.Halts.{IsNoFault, halt_stop};
+ghost use Rattle.gl_files.specs.BadgeFiles.{AreBadgeCheckRead, IsBadgeRead, IsBadgeSeen, badge_check_tests, badge_tests};
+ghost use Rattle.gl_files.specs.FileTests.{HasTested};
+ghost use Rattle.gl_files.specs.Halts.{halt_stop};
 
-use crate::day_files::{proof_cause, read_bytes};
-use crate::file_tests::{MOST_PROOF_BYTES, need, need_unlisted, read_recording};
-use crate::halt::{Halt, refusing_for};
+use crate::file_tests::{MOST_PROOF_BYTES, need, need_unlisted, read_proof_file, read_recording};
+use crate::halt::Halt;
 use gl_desk::{Desk, Name};
 use gl_igc::Recording;
-use gl_proof::{Proof, read_proof};
+use gl_proof::Proof;
 use gl_words::BadgeWords;
 use std::alloc::Global;
-
-/// The proof of a text.
-fn badge_proof_in(alloc: Global, file: &Name, text: &[u8]) -> Result<Proof, Halt>
-    ensures read { HasRead ProofText file.now text.now IsProofOfText result }
-    ensures no_fault { IsNoFault result }
-{
-    match read_proof(alloc, text) {
-        Ok(proof) => Ok(proof),
-        Err(error) => Err(refusing_for(file, proof_cause(error))),
-    }
-}
-
-/// The proof of a listed file.
-fn read_badge_proof<D: Desk>(alloc: Global, desk: &mut D, file: &Name) -> Result<Proof, Halt>
-    requires { HasFile (D.told desk.old).folder file.now }
-    ensures read { HasReadFile ProofText most_proof_bytes (D.told desk.old).folder file.now
-        IsProofOfText result }
-    ensures reads { OnlyReads (halt_stop result) (D.told desk.old) (D.told desk.new) }
-{
-    let bytes = read_bytes(alloc, desk, file, MOST_PROOF_BYTES)?;
-    badge_proof_in(alloc, file, &bytes)
-}
 
 /// The recording that `badge` needs, where the files pass its tests.
 ///
@@ -74,6 +51,6 @@ pub fn test_badge_check_files<D: Desk>(
     need(names, words.flight)?;
     need(names, words.proof)?;
     let recording = read_recording(alloc, desk, words.flight, None)?;
-    let proof = read_badge_proof(alloc, desk, words.proof)?;
+    let proof = read_proof_file(alloc, desk, words.proof, MOST_PROOF_BYTES)?;
     Ok((recording, proof))
 }

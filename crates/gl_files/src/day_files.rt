@@ -1,15 +1,20 @@
-ghost use Rattle.std.specs.Prelude.{◌≡◌, Some, Contains, IfOk};
+ghost use Rattle.std.specs.Prelude.{◌≡◌, Contains, IfOk};
+ghost use Rattle.gl_airspace.specs.Airspace.{IsAirspace};
 ghost use Rattle.gl_desk.specs.Answers.{OnlyReads};
-ghost use Rattle.gl_desk.specs.Desk.{HasFile, IsSeenIn, ListsNames};
+ghost use Rattle.gl_desk.specs.Desk.{HasFile, ListsNames};
+ghost use Rattle.gl_desk.specs.Limits.{most_bytes};
+ghost use Rattle.gl_task_file.specs.Reading.{IsReadFrom};
 ghost use Rattle.gl_words.specs.DayNames.{names_seen};
-ghost use Rattle.gl_files.specs.DayFiles.{IsAirspaceFor, IsAirspaceIn, IsAirspaceOf, IsCheckTested, IsDayOf, IsProofIn, IsProofOf, IsScoreTested, IsTaskIn, IsTaskOf, SeesBytes, airspace_cause, proof_cause, task_cause};
-ghost use Rattle.gl_files.specs.Halts.{AreBytes, IsNoFault, IsTested, halt_stop};
+ghost use Rattle.gl_files.specs.DayFiles.{IsAirspaceRead, IsAirspaceSeen, IsCheckRead, IsDayRead, IsTaskSeen, IsScoreRead, IsScoreSeen, airspace_tests, check_tests, task_tests, score_tests};
+ghost use Rattle.gl_files.specs.FileTests.{AirspaceText, HasRead, HasReadFile, HasTested, TaskText, airspace_cause, task_cause};
+ghost use Rattle.gl_files.specs.Halts.{IsNoFault, halt_stop};
 
-use crate::halt::{Halt, refusing, refusing_for, unread};
+use crate::file_tests::{need, need_unlisted, read_bytes, read_proof_file};
+use crate::halt::{Halt, refusing_for};
 use crate::refusal::Cause;
 use gl_airspace::{AirError, Airspace, empty, read_openair};
-use gl_desk::{Desk, MOST_BYTES, Name, read_all};
-use gl_proof::{Proof, ProofError, read_proof};
+use gl_desk::{Desk, MOST_BYTES, Name};
+use gl_proof::Proof;
 use gl_task::Task;
 use gl_task_file::{TaskError, read_task};
 use gl_words::DayNames;
@@ -20,23 +25,6 @@ use std::alloc::Global;
 pub struct DayFiles {
     pub task: Task,
     pub airspace: Airspace,
-}
-
-/// The bytes of a file that the folder lists, which is refused where it has more than `most`.
-pub fn read_bytes<D: Desk>(
-    alloc: Global,
-    desk: &mut D,
-    file: &Name,
-    most: u64,
-) -> Result<Vec<u8>, Halt>
-    requires { HasFile (D.told desk.old).folder file.now }
-    ensures seen { AreBytes (D.told desk.old).folder file.now most result }
-    ensures reads { OnlyReads (halt_stop result) (D.told desk.old) (D.told desk.new) }
-{
-    match read_all(alloc, desk, file, most) {
-        Ok(bytes) => Ok(bytes),
-        Err(error) => Err(unread(file, error)),
-    }
 }
 
 /// Why a text gives no task; `None` for want of memory.
@@ -55,7 +43,7 @@ fn task_cause(error: &TaskError) -> Option<Cause>
 
 /// The task of a text.
 fn task_in(alloc: Global, file: &Name, text: &[u8]) -> Result<Task, Halt>
-    ensures tested { IsTested (IsTaskIn file.now text.now) result }
+    ensures read { HasRead TaskText file.now text.now IsReadFrom result }
     ensures no_fault { IsNoFault result }
 {
     match read_task(alloc, text) {
@@ -67,8 +55,8 @@ fn task_in(alloc: Global, file: &Name, text: &[u8]) -> Result<Task, Halt>
 /// The task of a listed file.
 fn read_task_file<D: Desk>(alloc: Global, desk: &mut D, file: &Name) -> Result<Task, Halt>
     requires { HasFile (D.told desk.old).folder file.now }
-    ensures tested { IsTested (λ tested. SeesBytes (D.told desk.old).folder file.now
-        (λ bytes. IsTaskOf file.now bytes tested)) result }
+    ensures read { HasReadFile TaskText most_bytes (D.told desk.old).folder file.now
+        IsReadFrom result }
     ensures reads { OnlyReads (halt_stop result) (D.told desk.old) (D.told desk.new) }
 {
     let bytes = read_bytes(alloc, desk, file, MOST_BYTES)?;
@@ -88,7 +76,7 @@ fn airspace_cause(error: &AirError) -> Option<Cause>
 
 /// The airspace of a text.
 fn airspace_in(alloc: Global, file: &Name, text: &[u8]) -> Result<Airspace, Halt>
-    ensures tested { IsTested (IsAirspaceIn file.now text.now) result }
+    ensures read { HasRead AirspaceText file.now text.now IsAirspace result }
     ensures no_fault { IsNoFault result }
 {
     match read_openair(alloc, text) {
@@ -100,8 +88,8 @@ fn airspace_in(alloc: Global, file: &Name, text: &[u8]) -> Result<Airspace, Halt
 /// The airspace of a listed file.
 fn read_airspace_file<D: Desk>(alloc: Global, desk: &mut D, file: &Name) -> Result<Airspace, Halt>
     requires { HasFile (D.told desk.old).folder file.now }
-    ensures tested { IsTested (λ tested. SeesBytes (D.told desk.old).folder file.now
-        (λ bytes. IsAirspaceOf file.now bytes tested)) result }
+    ensures read { HasReadFile AirspaceText most_bytes (D.told desk.old).folder file.now
+        IsAirspace result }
     ensures reads { OnlyReads (halt_stop result) (D.told desk.old) (D.told desk.new) }
 {
     let bytes = read_bytes(alloc, desk, file, MOST_BYTES)?;
@@ -117,16 +105,14 @@ fn read_airspace<D: Desk>(
     task: &Task,
 ) -> Result<Airspace, Halt>
     requires { ListsNames (D.told desk.old).folder names.now }
-    ensures tested { IsTested
-        (IsAirspaceFor (D.told desk.old).folder task.now.airspace) result }
+    ensures tested { HasTested (IsAirspaceSeen (D.told desk.old).folder task.now.airspace)
+        (airspace_tests task.now.airspace) IsAirspaceRead result }
     ensures reads { OnlyReads (halt_stop result) (D.told desk.old) (D.told desk.new) }
 {
     let Some(file) = &task.airspace else {
         return Ok(empty(alloc));
     };
-    if !names.contains(file) {
-        return Err(refusing(file, Cause::NotListed));
-    }
+    need(names, file)?;
     read_airspace_file(alloc, desk, file)
 }
 
@@ -139,52 +125,13 @@ fn read_day<D: Desk>(
 ) -> Result<DayFiles, Halt>
     requires listed { HasFile (D.told desk.old).folder file.now }
     requires names { ListsNames (D.told desk.old).folder names.now }
-    ensures tested { IsTested (λ tested. SeesBytes (D.told desk.old).folder file.now
-        (λ bytes. IsDayOf (D.told desk.old).folder file.now bytes tested)) result }
+    ensures tested { HasTested (IsTaskSeen file.now (D.told desk.old).folder)
+        (task_tests file.now) IsDayRead result }
     ensures reads { OnlyReads (halt_stop result) (D.told desk.old) (D.told desk.new) }
 {
     let task = read_task_file(alloc, desk, file)?;
     let airspace = read_airspace(alloc, desk, names, &task)?;
     Ok(DayFiles { task, airspace })
-}
-
-/// Why a text is no proof; `None` for want of memory.
-pub fn proof_cause(error: ProofError) -> Option<Cause>
-    ensures { result ≡ proof_cause error }
-{
-    match error {
-        ProofError::Heading => Some(Cause::NoHeading),
-        ProofError::Line(line) => Some(Cause::WrongProof(line)),
-        ProofError::Cut => Some(Cause::ProofCut),
-        ProofError::Memory => None,
-    }
-}
-
-/// The proof of a text.
-fn proof_in(alloc: Global, file: &Name, text: &[u8]) -> Result<Proof, Halt>
-    ensures tested { IsTested (IsProofIn file.now text.now) result }
-    ensures no_fault { IsNoFault result }
-{
-    match read_proof(alloc, text) {
-        Ok(proof) => Ok(proof),
-        Err(error) => Err(refusing_for(file, proof_cause(error))),
-    }
-}
-
-/// The proof of a listed file, which is refused where it has more than `most` bytes.
-fn read_proof_file<D: Desk>(
-    alloc: Global,
-    desk: &mut D,
-    file: &Name,
-    most: u64,
-) -> Result<Proof, Halt>
-    requires { HasFile (D.told desk.old).folder file.now }
-    ensures tested { IsTested (λ tested. SeesBytes (D.told desk.old).folder file.now
-        (λ bytes. IsProofOf most file.now bytes tested)) result }
-    ensures reads { OnlyReads (halt_stop result) (D.told desk.old) (D.told desk.new) }
-{
-    let bytes = read_bytes(alloc, desk, file, most)?;
-    proof_in(alloc, file, &bytes)
 }
 
 /// The files that `score` needs, where they pass its tests.
@@ -199,17 +146,13 @@ pub fn test_score_files<D: Desk>(
     day: DayNames<'_>,
 ) -> Result<DayFiles, Halt>
     requires { ListsNames (D.told desk.old).folder names.now }
-    ensures tested { IsTested
-        (IsScoreTested (D.told desk.old).folder (names_seen day.entry)) result }
+    ensures tested { HasTested (IsScoreSeen (names_seen day.entry) (D.told desk.old).folder)
+        (score_tests (names_seen day.entry)) IsScoreRead result }
     ensures proof_is_new { IfOk result (λ _. Contains names.now day.entry.proof.now → ⊥) }
     ensures reads { OnlyReads (halt_stop result) (D.told desk.old) (D.told desk.new) }
 {
-    if !names.contains(day.task) {
-        return Err(refusing(day.task, Cause::NotListed));
-    }
-    if names.contains(day.proof) {
-        return Err(refusing(day.proof, Cause::Listed));
-    }
+    need(names, day.task)?;
+    need_unlisted(names, day.proof)?;
     read_day(alloc, desk, names, day.task)
 }
 
@@ -226,16 +169,12 @@ pub fn test_check_files<D: Desk>(
     most: u64,
 ) -> Result<(DayFiles, Proof), Halt>
     requires { ListsNames (D.told desk.old).folder names.now }
-    ensures tested { IsTested
-        (IsCheckTested most (D.told desk.old).folder (names_seen day.entry)) result }
+    ensures tested { HasTested (IsScoreSeen (names_seen day.entry) (D.told desk.old).folder)
+        (check_tests most (names_seen day.entry)) IsCheckRead result }
     ensures reads { OnlyReads (halt_stop result) (D.told desk.old) (D.told desk.new) }
 {
-    if !names.contains(day.task) {
-        return Err(refusing(day.task, Cause::NotListed));
-    }
-    if !names.contains(day.proof) {
-        return Err(refusing(day.proof, Cause::NotListed));
-    }
+    need(names, day.task)?;
+    need(names, day.proof)?;
     let files = read_day(alloc, desk, names, day.task)?;
     let proof = read_proof_file(alloc, desk, day.proof, most)?;
     Ok((files, proof))

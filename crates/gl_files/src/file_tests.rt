@@ -2,14 +2,15 @@ ghost use Rattle.std.specs.Prelude.{◌≡◌};
 ghost use Rattle.gl_desk.specs.Answers.{OnlyReads};
 ghost use Rattle.gl_desk.specs.Desk.{HasFile};
 ghost use Rattle.gl_desk.specs.Limits.{most_bytes};
-ghost use Rattle.gl_files.specs.FileTests.{HasReadFile, IsNeeded, IsRecordingOf, IsUnused, RecordingText, recording_cause};
-ghost use Rattle.gl_files.specs.Halts.{IsNoFault, halt_stop};
+ghost use Rattle.gl_files.specs.FileTests.{HasRead, HasReadFile, IsNeeded, IsProofOfText, IsRecordingOf, IsUnused, ProofText, RecordingText, proof_cause, recording_cause};
+ghost use Rattle.gl_files.specs.Halts.{AreBytes, IsNoFault, halt_stop};
 
 use crate::halt::{Halt, refusing, refusing_for, unread};
 use crate::pouring::read_recording_file;
 use crate::refusal::Cause;
-use gl_desk::{Desk, Name};
+use gl_desk::{Desk, Name, read_all};
 use gl_igc::{IgcError, Recording};
+use gl_proof::{Proof, ProofError, read_proof};
 use std::alloc::Global;
 
 /// The most bytes that a proof may have; any other file has at most those of a recording.
@@ -35,6 +36,23 @@ pub fn need_unlisted(names: &[Name], file: &Name) -> Result<(), Halt>
         return Err(refusing(file, Cause::Listed));
     }
     Ok(())
+}
+
+/// The bytes of a file that the folder lists, which is refused where it has more than `most`.
+pub fn read_bytes<D: Desk>(
+    alloc: Global,
+    desk: &mut D,
+    file: &Name,
+    most: u64,
+) -> Result<Vec<u8>, Halt>
+    requires { HasFile (D.told desk.old).folder file.now }
+    ensures seen { AreBytes (D.told desk.old).folder file.now most result }
+    ensures reads { OnlyReads (halt_stop result) (D.told desk.old) (D.told desk.new) }
+{
+    match read_all(alloc, desk, file, most) {
+        Ok(bytes) => Ok(bytes),
+        Err(error) => Err(unread(file, error)),
+    }
 }
 
 /// Why a text is no recording; `None` for want of memory.
@@ -68,4 +86,43 @@ pub fn read_recording<D: Desk>(
         Ok(Err(error)) => Err(refusing_for(file, recording_cause(&error))),
         Err(error) => Err(unread(file, error)),
     }
+}
+
+/// Why a text is no proof; `None` for want of memory.
+fn proof_cause(error: ProofError) -> Option<Cause>
+    ensures { result ≡ proof_cause error }
+{
+    match error {
+        ProofError::Heading => Some(Cause::NoHeading),
+        ProofError::Line(line) => Some(Cause::WrongProof(line)),
+        ProofError::Cut => Some(Cause::ProofCut),
+        ProofError::Memory => None,
+    }
+}
+
+/// The proof of a text.
+fn proof_in(alloc: Global, file: &Name, text: &[u8]) -> Result<Proof, Halt>
+    ensures read { HasRead ProofText file.now text.now IsProofOfText result }
+    ensures no_fault { IsNoFault result }
+{
+    match read_proof(alloc, text) {
+        Ok(proof) => Ok(proof),
+        Err(error) => Err(refusing_for(file, proof_cause(error))),
+    }
+}
+
+/// The proof of a listed file, which is refused where it has more than `most` bytes.
+pub fn read_proof_file<D: Desk>(
+    alloc: Global,
+    desk: &mut D,
+    file: &Name,
+    most: u64,
+) -> Result<Proof, Halt>
+    requires { HasFile (D.told desk.old).folder file.now }
+    ensures read { HasReadFile ProofText most (D.told desk.old).folder file.now
+        IsProofOfText result }
+    ensures reads { OnlyReads (halt_stop result) (D.told desk.old) (D.told desk.new) }
+{
+    let bytes = read_bytes(alloc, desk, file, most)?;
+    proof_in(alloc, file, &bytes)
 }

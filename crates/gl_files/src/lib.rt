@@ -1,5 +1,5 @@
-//! The files of a command: their tests in their order, what they give, and what is refused, with the
-//! line that is said of it.
+//! The files of a command: their tests in their order, what they give, and what is refused, with
+//! the line that is said of it.
 #![tactic(auto)]
 
 mod badge_files;

@@ -7,8 +7,7 @@ ghost use Rattle.gl_files.specs.FileTests.{HasRead, HasReadFile, HasTested, IsRe
 ghost use Rattle.gl_files.specs.Halts.{IsNoFault, halt_stop};
 ghost use Rattle.gl_files.specs.NearFiles.{AreFlightsSeen, AreNearCheckRead, AreNearRead, IsClaimOf, IsNearSeen, flights_tests, near_check_tests, near_tests};
 
-use crate::day_files::read_bytes;
-use crate::file_tests::{MOST_PROOF_BYTES, need, need_unlisted, read_recording};
+use crate::file_tests::{MOST_PROOF_BYTES, need, need_unlisted, read_bytes, read_recording};
 use crate::halt::{Halt, refusing_for};
 use crate::refusal::Cause;
 use gl_desk::{Desk, Name};
@@ -85,9 +84,9 @@ fn read_claim<D: Desk>(alloc: Global, desk: &mut D, file: &Name) -> Result<NearC
 
 /// The recordings that `near` needs, where the files pass its tests.
 ///
-/// The tests are made in this order: FILE and OTHER are of the folder's names, and PROOF isn't; FILE
-/// has at most 16,777,216 bytes, and is a recording; so does OTHER, and it is one of the day of
-/// FILE, or of the day before or after it.
+/// The tests are made in this order: FILE and OTHER are of the folder's names, and PROOF isn't;
+/// FILE has at most 16,777,216 bytes, and is a recording; so does OTHER, and it is one of the day
+/// of FILE, or of the day before or after it.
 pub fn test_near_files<D: Desk>(
     alloc: Global,
     desk: &mut D,

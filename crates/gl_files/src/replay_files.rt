@@ -7,8 +7,7 @@ ghost use Rattle.gl_files.specs.FileTests.{HasRead, HasReadFile, HasTested, Sche
 ghost use Rattle.gl_files.specs.Halts.{IsNoFault, halt_stop};
 ghost use Rattle.gl_files.specs.ReplayFiles.{AreReplayRead, AreStepsOf, IsReplaySeen, replay_tests};
 
-use crate::day_files::read_bytes;
-use crate::file_tests::{need, read_recording};
+use crate::file_tests::{need, read_bytes, read_recording};
 use crate::halt::{Halt, refusing_for};
 use crate::refusal::Cause;
 use gl_desk::{Desk, MOST_BYTES, Name};

@@ -11,8 +11,7 @@ ghost use Rattle.gl_files.specs.FileTests.{HasRead, HasReadFile, HasTested, Seri
 ghost use Rattle.gl_files.specs.Halts.{IsNoFault, halt_stop};
 ghost use Rattle.gl_files.specs.SeriesFiles.{AreSeriesRead, IsDaySeen, IsListRead, IsSeriesSeen, IsSheetRead, day_tests, series_tests, tests_of};
 
-use crate::day_files::read_bytes;
-use crate::file_tests::need;
+use crate::file_tests::{need, read_bytes};
 use crate::halt::{Halt, refusing_for};
 use crate::refusal::Cause;
 use gl_desk::{Desk, MOST_BYTES, Name};
