@@ -3,7 +3,7 @@ ghost use Rattle.gl_goal.specs.Rule.{Rule};
 ghost use Rattle.std.specs.Option.{option_to_list};
 ghost use Rattle.gl_judge.specs.Claimed.{rules_of_claims};
 ghost use Rattle.gl_judge.specs.Claims.{AreChoices, AreExpected, HaveLegal, claim_if, free_claims, triangle_claims};
-ghost use Rattle.gl_judge.specs.Outcome.{IsOutcome};
+ghost use Rattle.gl_judge.specs.Outcome.{IsJudged, IsOutcome, OnFinished};
 ghost use Rattle.gl_judge.specs.Stretch.{range_of};
 
 use crate::choices::{area_choice, out_choice};
@@ -17,6 +17,13 @@ use gl_igc::Recording;
 use gl_proof::ClaimKind;
 use gl_task::{Kind, Task};
 use std::alloc::{AllocError, Global};
+
+/// How a flight is judged, and the claims that are expected of it, each with its goal.
+#[derive(Drop)]
+pub struct JudgedFlight {
+    pub outcome: Judged,
+    pub claims: Vec<(ClaimKind, AnyGoal)>,
+}
 
 /// The claim for the distance of a flight, where the rules leave a choice. The only error is want
 /// of memory.
@@ -125,23 +132,36 @@ fn listed(
     Ok(claims)
 }
 
-/// The claims that are expected of a flight, each with its goal, in this order: the distance, of
-/// one who finished a task of areas or landed out; the free distance and the triangle, each where
-/// the task asks for its list and a fix is judged. The only error is want of memory.
-pub fn claims(
+/// How a flight is judged, and which claims are expected of it.
+///
+/// With a complete start, which is a legal one after which every zone is visited in order and the
+/// finish reached, the flight finished: the window is from the last complete start to the first
+/// finish that completes it. Else, with a legal start, it landed out: the window is from the first
+/// legal start to the last judged fix, and `zones` is the greatest number of zones that were
+/// visited in order.
+///
+/// The claims stand in this order: the distance, of one who finished a task of areas or landed out;
+/// the free distance and the triangle, each where the task asks for its list and a fix is judged.
+/// The only error is want of memory.
+pub fn judge(
     alloc: Global,
     task: &Task,
     air: &Airspace,
     rec: &Recording,
-) -> Result<Vec<(ClaimKind, AnyGoal)>, AllocError>
-    ensures expected { IfOk result (λ claims.
-        AreExpected task.now air.now rec.now (rules_of_claims claims.items)) }
-    ensures legal { IfOk result (λ claims. HaveLegal (rules_of_claims claims.items)) }
+) -> Result<JudgedFlight, AllocError>
+    ensures judged { IfOk result (λ flight.
+        IsJudged task.now air.now rec.now flight.outcome) }
+    ensures seconds { IfOk result (λ flight.
+        OnFinished flight.outcome (λ window seconds. seconds ≤ 100_000)) }
+    ensures expected { IfOk result (λ flight.
+        AreExpected task.now air.now rec.now (rules_of_claims flight.claims.items)) }
+    ensures legal { IfOk result (λ flight. HaveLegal (rules_of_claims flight.claims.items)) }
 {
     let judged = judged_fixes(task, air, rec);
     let outcome = outcome_of(task, rec, judged);
     let chosen = chosen_claim(alloc, task, rec, judged, outcome)?;
     let free = free_claim(alloc, task, rec, judged)?;
     let triangle = triangle_claim(alloc, task, rec, judged)?;
-    listed(alloc, chosen, free, triangle)
+    let claims = listed(alloc, chosen, free, triangle)?;
+    Ok(JudgedFlight { outcome, claims })
 }

@@ -38,4 +38,5 @@ abbrev pub IsEntrantSeen : Task → Entrant → Option (List ℕ) → Seen → T
 IsEntrantSeen task entrant seen (code.Recorded recording) =
     (bytes : List ℕ) × (seen ≡ Some bytes) × IsSeen task entrant bytes (code.Recorded recording)
 IsEntrantSeen task entrant seen (code.Refused flight) =
-    (air : Airspace) (stewards : List StewardRules) → IsFlight task air stewards entrant seen [] flight
+    (air : Airspace) (stewards : List StewardRules)
+    → IsFlight task air stewards entrant seen [] flight

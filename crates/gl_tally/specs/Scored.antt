@@ -44,8 +44,8 @@ pub record ArePartlyProved (expected : List Expected) (statements : List Stateme
 abbrev pub text_so_far : List Statement → List ℕ
 text_so_far statements = ended (HeadingLine Two) ++ flat_map claim_text statements
 
--- A first part of the text of a proof: its heading, and the first of the claims that are expected of
--- the first of the entrants, each proved; the end stands only behind all claims of all entrants.
+-- A first part of the text of a proof: its heading, and the first of the claims that are expected
+-- of the first of the entrants, each proved; the end stands only behind all claims of all entrants.
 pub record IsBegun (folder : Option FilesByName) (day : DayFiles) (text : List ℕ) : Type 0 where
   pub entrants : List Entrant
   pub others : List Entrant

@@ -1,5 +1,5 @@
-//! A day over a desk: its entrants are scored and its proof is appended, or a proof is compared with
-//! what its files ask for.
+//! A day over a desk: its entrants are scored and its proof is appended, or a proof is compared
+//! with what its files ask for.
 #![tactic(auto)]
 
 mod checking;

@@ -22,7 +22,7 @@ use gl_desk::{Desk, DeskError, Name};
 use gl_files::DayFiles;
 use gl_goal::AnyGoal;
 use gl_igc::Recording;
-use gl_judge::{claims, judge};
+use gl_judge::judge;
 use gl_proof::{Claim, ClaimKind, write_boxes, write_front};
 use gl_steward::Steward;
 use gl_task::Entrant;
@@ -32,8 +32,8 @@ use std::alloc::Global;
 /// millions of boxes isn't in memory beside them.
 const BOXES: usize = 16_384;
 
-/// Appends the lines of boxes to the proof, some thousands at a time. After an error a first part of
-/// them was appended.
+/// Appends the lines of boxes to the proof, some thousands at a time. After an error a first part
+/// of them was appended.
 fn append_boxes<D: Desk>(
     alloc: Global,
     desk: &mut D,
@@ -77,8 +77,8 @@ fn append_lists<D: Desk>(
     Ok(())
 }
 
-/// Appends the lines of a claim that stand before its boxes. After an error a first part of them was
-/// appended.
+/// Appends the lines of a claim that stand before its boxes. After an error a first part of them
+/// was appended.
 fn append_front<D: Desk>(
     alloc: Global,
     desk: &mut D,
@@ -165,17 +165,23 @@ fn score_recorded<D: Desk, S: Search>(
     ensures kept { map (λ s. steward_rules (opening s) (fed s) (owed s)) stewards.new.items
         ≡ map (λ s. steward_rules (opening s) (fed s) (owed s)) stewards.old.items }
 {
-    let judged = judge(&files.task, &files.airspace, rec);
-    let goals = claims(alloc, &files.task, &files.airspace, rec)?;
+    let judged = judge(alloc, &files.task, &files.airspace, rec)?;
     let totals = prove_claims(
         alloc,
         desk,
         search,
         proof,
         &entrant.number,
-        goals.as_slice(),
+        judged.claims.as_slice(),
     )?;
-    Ok(finish_flight(&files.task, entrant, rec, &judged, &totals, stewards))
+    Ok(finish_flight(
+        &files.task,
+        entrant,
+        rec,
+        &judged.outcome,
+        &totals,
+        stewards,
+    ))
 }
 
 /// The flight of an entrant; the lines of its claims are appended to the proof.
