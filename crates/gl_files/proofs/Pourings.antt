@@ -1,5 +1,6 @@
--- What is known of a recording that was read in pieces.
-use Rattle.std.proofs.Common.{◌≡◌, refl, sym, subst, ap, ℕ, ℤ, List, [], ◌∷◌, inl, inr, Option, None, Some, Result, Ok, Err}
+-- What is known of a recording, and of a proof, that was read in pieces.
+use Rattle.std.proofs.Common.{◌≡◌, refl, sym, subst, ap, ℕ, ℤ, List, inl, inr, Option, None, Some, Result, Ok, Err}
+use Rattle.std.specs.Prelude.{IfErr, IfOk}
 use Rattle.gl_desk.specs.Desk.{FilesByName, IsLongerThan}
 use Rattle.gl_desk.specs.declared.error.ReadError.{ReadError}
 use Rattle.gl_desk.specs.declared.error.ReadError.TheVariants as reading
@@ -7,12 +8,18 @@ use Rattle.gl_igc.specs.Recording.{reading_of}
 use Rattle.gl_igc.specs.declared.error.IgcError.{IgcError}
 use Rattle.gl_igc.specs.declared.recording.Recording.{Recording}
 use Rattle.gl_desk.specs.Limits.{most_bytes}
+use Rattle.gl_lines.specs.declared.error.ProofError.{ProofError}
+use Rattle.gl_proof.specs.declared.proof.Proof.{Proof}
+use Rattle.gl_proof.specs.declared.reader.ProofReader.{ProofReader}
+use Rattle.gl_proof.specs.Reading.{StandsForProof}
+use Rattle.gl_proof.specs.Refusal.{IsRefused}
+use Rattle.gl_proof.specs.Text.{IsTextOf, statements_of}
 use Rattle.gl_files.specs.declared.halt.Halt.{Halt}
 use Rattle.gl_files.specs.declared.halt.Halt.TheVariants.{Refused, Stopped}
-use Rattle.gl_files.specs.FileTests.{HasReadFile, IsRecordingOf, RecordingText, recording_cause}
-use Rattle.gl_files.specs.Halts.{IsUnread, RefusesFor}
-use Rattle.gl_files.specs.Pouring.{IsFileRead, day_tag}
-use Rattle.gl_files.proofs.FileTests.{bytes_refused, recording_refused}
+use Rattle.gl_files.specs.FileTests.{HasReadFile, IsProofOfText, IsRecordingOf, ProofText, RecordingText, proof_cause, recording_cause}
+use Rattle.gl_files.specs.Halts.{AreBytes, IsUnread, RefusesFor}
+use Rattle.gl_files.specs.Pouring.{IsFileRead, IsProofPoured, IsProofRead, day_tag}
+use Rattle.gl_files.proofs.FileTests.{bytes_refused, proof_refused, recording_refused}
 
 -- a day is known by its tag
 pub day_of_tag : (a b : Option ℤ) → day_tag a ≡ day_tag b → a ≡ b
@@ -40,3 +47,27 @@ unread_recording folder file day reading.TooLarge (Refused refusal) longer is =
 unread_recording folder file day reading.TooLarge (Stopped stop) longer is = tt
 unread_recording folder file day reading.Fault halt longer is = subst (λ (h : Halt). HasRecording folder file day (Err h)) (sym is) tt
 unread_recording folder file day reading.Memory halt longer is = subst (λ (h : Halt). HasRecording folder file day (Err h)) (sym is) tt
+
+-- what a reader of a proof tells of the text that it stands for
+pub proof_says : (bytes : List ℕ) (reader : ProofReader) (read : Result Proof ProofError)
+    → IfOk read (λ proof. (text : List ℕ) → StandsForProof text reader → IsTextOf proof.version text (statements_of proof))
+    → IfErr read (λ error. (text : List ℕ) → StandsForProof text reader → IsRefused text error)
+    → StandsForProof bytes reader → IsProofRead bytes read
+proof_says bytes reader (Ok read) ok refused stands = ok bytes stands
+proof_says bytes reader (Err error) ok refused stands = refused bytes stands
+
+pub unread_proof : (folder : Option FilesByName) (file : List ℕ) (most : ℕ) (error : ReadError) (halt : Halt) → (error ≡ reading.TooLarge → IsLongerThan most folder file) → IsUnread file error halt → AreBytes folder file most (Err halt)
+unread_proof folder file most reading.TooLarge (Refused refusal) longer is = (longer refl, is)
+unread_proof folder file most reading.TooLarge (Stopped stop) longer is = tt
+unread_proof folder file most reading.Fault halt longer is = subst (λ (h : Halt). AreBytes folder file most (Err h)) (sym is) tt
+unread_proof folder file most reading.Memory halt longer is = subst (λ (h : Halt). AreBytes folder file most (Err h)) (sym is) tt
+
+-- what the code made of a file that is to be a proof
+pub proof_poured : (folder : Option FilesByName) (file : List ℕ) (most : ℕ) (read : Proof) → IsProofPoured folder file most (Ok (Ok read)) → HasReadFile ProofText most folder file IsProofOfText (Ok read)
+proof_poured folder file most read (bytes, seen, small, says) =
+    (Some bytes, seen, (small, ((read.version, statements_of read, says), tt)), says)
+
+pub no_proof_poured : (folder : Option FilesByName) (file : List ℕ) (most : ℕ) (error : ProofError) (halt : Halt) → IsProofPoured folder file most (Ok (Err error)) → RefusesFor file (proof_cause error) halt → HasReadFile ProofText most folder file IsProofOfText (Err halt)
+no_proof_poured folder file most error (Refused refusal) (bytes, seen, small, says) refused =
+    (Some bytes, seen, inr (small, inl (proof_refused file bytes error (Refused refusal) says refused)))
+no_proof_poured folder file most error (Stopped stop) poured refused = tt

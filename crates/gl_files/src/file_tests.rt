@@ -2,15 +2,15 @@ ghost use Rattle.std.specs.Prelude.{◌≡◌};
 ghost use Rattle.gl_desk.specs.Answers.{OnlyReads};
 ghost use Rattle.gl_desk.specs.Desk.{HasFile};
 ghost use Rattle.gl_desk.specs.Limits.{most_bytes};
-ghost use Rattle.gl_files.specs.FileTests.{HasRead, HasReadFile, IsNeeded, IsProofOfText, IsRecordingOf, IsUnused, ProofText, RecordingText, proof_cause, recording_cause};
+ghost use Rattle.gl_files.specs.FileTests.{HasReadFile, IsNeeded, IsProofOfText, IsRecordingOf, IsUnused, ProofText, RecordingText, proof_cause, recording_cause};
 ghost use Rattle.gl_files.specs.Halts.{AreBytes, IsNoFault, halt_stop};
 
 use crate::halt::{Halt, refusing, refusing_for, unread};
-use crate::pouring::read_recording_file;
+use crate::pouring::{read_proof_pieces, read_recording_file};
 use crate::refusal::Cause;
 use gl_desk::{Desk, Name, read_all};
 use gl_igc::{IgcError, Recording};
-use gl_proof::{Proof, ProofError, read_proof};
+use gl_proof::{Proof, ProofError};
 use std::alloc::Global;
 
 /// The most bytes that a proof may have; any other file has at most those of a recording.
@@ -100,17 +100,6 @@ fn proof_cause(error: ProofError) -> Option<Cause>
     }
 }
 
-/// The proof of a text.
-fn proof_in(alloc: Global, file: &Name, text: &[u8]) -> Result<Proof, Halt>
-    ensures read { HasRead ProofText file.now text.now IsProofOfText result }
-    ensures no_fault { IsNoFault result }
-{
-    match read_proof(alloc, text) {
-        Ok(proof) => Ok(proof),
-        Err(error) => Err(refusing_for(file, proof_cause(error))),
-    }
-}
-
 /// The proof of a listed file, which is refused where it has more than `most` bytes.
 pub fn read_proof_file<D: Desk>(
     alloc: Global,
@@ -123,6 +112,9 @@ pub fn read_proof_file<D: Desk>(
         IsProofOfText result }
     ensures reads { OnlyReads (halt_stop result) (D.told desk.old) (D.told desk.new) }
 {
-    let bytes = read_bytes(alloc, desk, file, most)?;
-    proof_in(alloc, file, &bytes)
+    match read_proof_pieces(alloc, desk, file, most) {
+        Ok(Ok(proof)) => Ok(proof),
+        Ok(Err(error)) => Err(refusing_for(file, proof_cause(error))),
+        Err(halt) => Err(halt),
+    }
 }
