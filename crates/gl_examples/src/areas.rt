@@ -4,7 +4,7 @@ ghost use Rattle.gl_judge.specs.Marking.{is_chosen};
 use gl_airspace::empty;
 use gl_goal::AnyGoal;
 use gl_igc::{Recording, read_igc};
-use gl_judge::{ClaimKind, Judged, judge, mark};
+use gl_judge::{ClaimKind, Judged, claims, judge, mark};
 use gl_plain::search_one;
 use gl_task::{Kind, Task};
 use gl_task_file::read_task;
@@ -258,10 +258,11 @@ fn can_mark(task: &Task, judged: &Judged, best: Option<u64>) -> bool
 /// The claims of a flight and what counts of it, in words.
 fn told(rt: &impl Abort, alloc: Global, task: &Task, rec: &Recording) -> Result<String, Fail> {
     let air = empty(alloc);
-    let judged = judge(alloc, task, &air, rec)?;
-    let Claimed { text, chosen } = searched(alloc, judged.claims.as_slice())?;
-    assert!(rt; can_mark(task, &judged.outcome, chosen));
-    let performance = mark(task, 1_000, &judged.outcome, chosen);
+    let judged = judge(task, &air, rec);
+    let list = claims(alloc, task, &air, rec)?;
+    let Claimed { text, chosen } = searched(alloc, list.as_slice())?;
+    assert!(rt; can_mark(task, &judged, chosen));
+    let performance = mark(task, 1_000, &judged, chosen);
     let (metres, seconds) = (performance.metres, performance.seconds);
     Ok(format!(in alloc; "{text}{metres} m in {seconds} s")?)
 }

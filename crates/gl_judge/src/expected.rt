@@ -132,18 +132,9 @@ fn listed(
     Ok(claims)
 }
 
-/// How a flight is judged, and which claims are expected of it.
-///
-/// With a complete start, which is a legal one after which every zone is visited in order and the
-/// finish reached, the flight finished: the window is from the last complete start to the first
-/// finish that completes it. Else, with a legal start, it landed out: the window is from the first
-/// legal start to the last judged fix, and `zones` is the greatest number of zones that were
-/// visited in order.
-///
-/// The claims stand in this order: the distance, of one who finished a task of areas or landed out;
-/// the free distance and the triangle, each where the task asks for its list and a fix is judged.
-/// The only error is want of memory.
-pub fn judge(
+/// How a flight is judged, as [`judge`](crate::judge) has it, and the claims that are expected of it,
+/// as [`claims`] has them. The only error is want of memory.
+pub fn judge_flight(
     alloc: Global,
     task: &Task,
     air: &Airspace,
@@ -164,4 +155,21 @@ pub fn judge(
     let triangle = triangle_claim(alloc, task, rec, judged)?;
     let claims = listed(alloc, chosen, free, triangle)?;
     Ok(JudgedFlight { outcome, claims })
+}
+
+/// The claims that are expected of a flight, each with its goal, in this order: the distance, of
+/// one who finished a task of areas or landed out; the free distance and the triangle, each where
+/// the task asks for its list and a fix is judged. The only error is want of memory.
+pub fn claims(
+    alloc: Global,
+    task: &Task,
+    air: &Airspace,
+    rec: &Recording,
+) -> Result<Vec<(ClaimKind, AnyGoal)>, AllocError>
+    ensures expected { IfOk result (λ claims.
+        AreExpected task.now air.now rec.now (rules_of_claims claims.items)) }
+    ensures legal { IfOk result (λ claims. HaveLegal (rules_of_claims claims.items)) }
+{
+    let JudgedFlight { claims, .. } = judge_flight(alloc, task, air, rec)?;
+    Ok(claims)
 }

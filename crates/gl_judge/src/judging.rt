@@ -1,17 +1,19 @@
 ghost use Rattle.std.specs.Prelude.{ℕ, ◌≡◌, ◌≤◌, ◌≤ℤ◌, ◌-ℤ◌, ◌↔◌, pos, IsTrue, length, take, IfSome, IfNone};
 ghost use Rattle.gl_judge.specs.Greatest.{IsGreatest, IsLeast};
 ghost use Rattle.gl_judge.specs.JudgedFixes.{IsInRange};
-ghost use Rattle.gl_judge.specs.Outcome.{IsCompleteStart, IsOutcome};
+ghost use Rattle.gl_judge.specs.Outcome.{IsCompleteStart, IsJudged, IsOutcome, OnFinished};
 ghost use Rattle.gl_judge.specs.Starts.{IsLegalStart, IsStart};
 ghost use Rattle.gl_judge.specs.Stretch.{range_of};
 ghost use Rattle.gl_judge.specs.Visits.{CanFinish, HasVisit, VisitsFirst};
 
 use crate::finishes::first_finish;
+use crate::judged_fixes::judged_fixes;
 use crate::outcome::{Judged, Window};
 use crate::passing::Passing;
 use crate::starts::{first_start, last_start};
 use crate::stretch::Stretch;
 use crate::visits::{Visited, last_ready, visit_zones};
+use gl_airspace::Airspace;
 use gl_igc::Recording;
 use gl_task::Task;
 
@@ -147,4 +149,19 @@ pub(crate) fn outcome_of(task: &Task, rec: &Recording, judged: Stretch) -> Judge
         Some(first) => outcome_from(task, rec, judged, first),
         None => Judged::NoStart,
     }
+}
+
+/// How a flight is judged.
+///
+/// With a complete start, which is a legal one after which every zone is visited in order and the
+/// finish reached, the flight finished: the window is from the last complete start to the first
+/// finish that completes it. Else, with a legal start, it landed out: the window is from the first
+/// legal start to the last judged fix, and `zones` is the greatest number of zones that were
+/// visited in order.
+pub fn judge(task: &Task, air: &Airspace, rec: &Recording) -> Judged
+    ensures judged { IsJudged task.now air.now rec.now result }
+    ensures seconds { OnFinished result (λ window seconds. seconds ≤ 100_000) }
+{
+    let judged = judged_fixes(task, air, rec);
+    outcome_of(task, rec, judged)
 }

@@ -19,8 +19,9 @@ mod stretch;
 mod visits;
 mod zone_lists;
 
-pub use expected::{JudgedFlight, judge};
+pub use expected::{JudgedFlight, claims, judge_flight};
 pub use gl_proof::ClaimKind;
 pub use judged_fixes::judged_range;
+pub use judging::judge;
 pub use marking::mark;
 pub use outcome::{Judged, Window};

@@ -93,7 +93,7 @@ fn compare_row(
     expected: &str,
 ) -> Result<(), Fail> {
     let rec = recording(alloc, flight)?;
-    let answer = told(alloc, judge(alloc, task, air, &rec)?.outcome)?;
+    let answer = told(alloc, judge(task, air, &rec))?;
     assert_eq!(rt; answer.as_str(), expected, "{flight}");
     Ok(())
 }

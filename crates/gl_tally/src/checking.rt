@@ -12,7 +12,7 @@ use gl_day::{Checked, Seen, check_end, check_flight};
 use gl_desk::{Desk, DeskError, Name};
 use gl_files::DayFiles;
 use gl_goal::AnyGoal;
-use gl_judge::judge;
+use gl_judge::claims;
 use gl_proof::{Claim, ClaimKind};
 use gl_task::Entrant;
 use std::alloc::Global;
@@ -32,7 +32,7 @@ fn asked_of<D: Desk>(
     ensures reads { OnlyReads (stop_of result) (D.told desk.old) (D.told desk.new) }
 {
     match see_entrant(alloc, desk, names, &files.task, entrant)? {
-        Seen::Recorded(rec) => Ok(judge(alloc, &files.task, &files.airspace, &rec)?.claims),
+        Seen::Recorded(rec) => Ok(claims(alloc, &files.task, &files.airspace, &rec)?),
         Seen::Refused(_) => Ok(Vec::new(alloc)),
     }
 }

@@ -22,7 +22,7 @@ use gl_desk::{Desk, DeskError, Name};
 use gl_files::DayFiles;
 use gl_goal::AnyGoal;
 use gl_igc::Recording;
-use gl_judge::judge;
+use gl_judge::judge_flight;
 use gl_proof::{Claim, ClaimKind, write_boxes, write_front};
 use gl_steward::Steward;
 use gl_task::Entrant;
@@ -165,7 +165,7 @@ fn score_recorded<D: Desk, S: Search>(
     ensures kept { map (λ s. steward_rules (opening s) (fed s) (owed s)) stewards.new.items
         ≡ map (λ s. steward_rules (opening s) (fed s) (owed s)) stewards.old.items }
 {
-    let judged = judge(alloc, &files.task, &files.airspace, rec)?;
+    let judged = judge_flight(alloc, &files.task, &files.airspace, rec)?;
     let totals = prove_claims(
         alloc,
         desk,

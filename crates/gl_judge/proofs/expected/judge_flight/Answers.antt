@@ -8,7 +8,7 @@ use Rattle.gl_proof.specs.declared.claim.ClaimKind.{ClaimKind}
 use Rattle.gl_judge.specs.Claims.{HasLegal, HaveLegal}
 use Rattle.gl_judge.specs.Stretch.{range_of}
 use Rattle.gl_judge.proofs.Times.{seconds-bound}
-use Rattle.gl_judge.proofs.expected.judge.Goals as goal
+use Rattle.gl_judge.proofs.expected.judge_flight.Goals as goal
 
 all_legal : (a b c : List (ClaimKind × Rule)) → HaveLegal a → HaveLegal b → HaveLegal c → HaveLegal (a ++ (b ++ c))
 all_legal a b c one other third =
