@@ -12,8 +12,8 @@ use Rattle.gl_pool.specs.declared.trail.Listed.{Listed}
 abbrev pub listed_in : List Listed → List Closed
 listed_in lists = flat_map (λ list. list.boxes.items) lists
 
--- Boxes lead from some open cells to others: whatever is made of frontiers of the cells that are open
--- after them is so of those that are open before, with the boxes in front.
+-- Boxes lead from some open cells to others: whatever is made of frontiers of the cells that are
+-- open after them is so of those that are open before, with the boxes in front.
 abbrev pub Lead : List Cell → List Closed → List Cell → Type 0
 Lead before boxes after =
     (more : List (List (ℕ × ℕ))) → AreFrontiers (open_cells after) more

@@ -10,8 +10,8 @@ use Rattle.gl_pool.specs.Listed.{ArePassed, Lead, listed_in}
 abbrev pub boxes_in : Trail → List Closed
 boxes_in trail = listed_in trail.lists.items ++ trail.last.boxes.items
 
--- The lists that are done lead as is said. The last one leads to the cells that the worker has before
--- it, and those that are open behind them.
+-- The lists that are done lead as is said. The last one leads to the cells that the worker has
+-- before it, and those that are open behind them.
 pub record IsTrail (trail : Trail) (cells : List Cell) : Type 0 where
   pub passed : ArePassed trail.lists.items
   pub leads : Lead trail.last.before.items trail.last.boxes.items (trail.last.after.items ++ cells)

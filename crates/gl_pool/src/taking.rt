@@ -60,9 +60,9 @@ fn steal(passes: &mut [Pass], crowd: &Crowd) -> Option<Cell>
     None
 }
 
-/// The next cell of a worker that is through with its last one, if it had any: the newest of its own
-/// deque, or one from the others where that is empty. `None` where it is empty and a round over the
-/// others gave nothing.
+/// The next cell of a worker that is through with its last one, if it had any: the newest of its
+/// own deque, or one from the others where that is empty. `None` where it is empty and a round over
+/// the others gave nothing.
 pub(crate) fn next_cell(place: &mut Place, crowd: &Crowd, had_any: bool) -> Option<Cell>
     ensures { MatchOption result
         (FindsNone place.old place.new)
