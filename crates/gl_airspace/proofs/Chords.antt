@@ -16,7 +16,8 @@ far_is_outside q radius far =
     let root = IsRoot-floor_root q in
     let above : radius < floor_root q = ⊎_elim
     (λ (lt : radius < floor_root q). lt)
-    (λ (le : floor_root q ≤ radius). let p : (floor_root q + 1) * (floor_root q + 1) ≤ (radius + 1) * (radius + 1) = mul-le-mul (omega arith) (omega arith) in absurd (omega (arith, root.next_square_above)))
+    (λ (le : floor_root q ≤ radius). let p : (floor_root q + 1) * (floor_root q + 1) ≤ (radius + 1) * (radius + 1) = mul-le-mul (omega arith) (omega arith) in
+    absurd (omega (arith, root.next_square_above)))
     (cases_lt radius (floor_root q)) in
     let far : radius < written_distance q = omega (arith, root_within_distance q) in
     grind arith

@@ -8,7 +8,8 @@ use Rattle.std.proofs.lemmas.List.Sums.{sum_by-cons}
 use Rattle.std.specs.Prelude.{int_lt, int_le, not, ◌&&◌, count_by, slice_get}
 use Rattle.gl_sphere.specs.declared.place.Grid.{Grid}
 use Rattle.gl_airspace.specs.declared.polygon.Bounds.{Bounds}
-use Rattle.gl_airspace.specs.Bounds.{IsBounded, is_beside}
+use Rattle.gl_airspace.specs.Bounds.{IsBounded}
+use Rattle.gl_airspace.specs.Code.Bounds.{is_beside}
 use Rattle.gl_airspace.specs.Inside.{counts, edges_from, edges_round, is_in_polygon, is_west_of}
 
 pub none_on_one_side : (place from to : Grid) → int_lt place.lat from.lat ≡ int_lt place.lat to.lat → counts place (from, to) ≡ false
@@ -33,10 +34,12 @@ none_from place P none corner (next ∷ corners) is all =
     let there : P next = All-head P next corners all in
     none_more place corner next (edges_from next corners) (none corner next is there) (none_from place P none next corners there (All-tail P next corners all))
 
-none_round : (place : Grid) (P : Grid → Type 0) → NoneCounts place P → (last : Option Grid) (corners : List Grid) → slice_get corners (length corners - 1) ≡ last → All P corners → count_by (counts place) (edges_round last corners) ≡ 0
+none_round : (place : Grid) (P : Grid → Type 0) → NoneCounts place P → (last : Option Grid) (corners : List Grid) → slice_get corners (length corners - 1) ≡ last → All P corners
+    → count_by (counts place) (edges_round last corners) ≡ 0
 none_round place P none None corners is all = refl
 none_round place P none (Some last) corners is all =
-    let there : P last = subst P (get_or_from_slice_get corners (length corners - 1) last last is) (All-get_or P corners (length corners - 1) last (slice_get_within corners (length corners - 1) last is) all) in
+    let there : P last = subst P (get_or_from_slice_get corners (length corners - 1) last last is)
+    (All-get_or P corners (length corners - 1) last (slice_get_within corners (length corners - 1) last is) all) in
     none_from place P none last corners there all
 
 none_inside : (count : ℕ) → count ≡ 0 → (count % 2 == 1) ≡ false
@@ -141,7 +144,8 @@ less_product (negsuc a) d (negsuc h) (pos t) p q r s = absurd (omega (arith, int
 
 west : (lower upper place : Grid) → place.lon <ℤ lower.lon → place.lon <ℤ upper.lon → lower.lat ≤ℤ place.lat → place.lat <ℤ upper.lat → is_west_of lower upper place ≡ true
 west lower upper place a b c d =
-    less_product (place.lon -ℤ lower.lon) (upper.lon -ℤ lower.lon) (upper.lat -ℤ lower.lat) (place.lat -ℤ lower.lat) (omega (arith, ints)) (omega (arith, ints)) (omega (arith, ints)) (omega (arith, ints))
+    less_product (place.lon -ℤ lower.lon) (upper.lon -ℤ lower.lon) (upper.lat -ℤ lower.lat) (place.lat -ℤ lower.lat) (omega (arith, ints)) (omega (arith, ints)) (omega (arith, ints))
+    (omega (arith, ints))
 
 -- an edge west of which a place lies counts where its ends are on different sides
 sides_west : (place from to : Grid) (f t : Bool) → int_lt place.lat from.lat ≡ f → int_lt place.lat to.lat ≡ t → place.lon <ℤ from.lon → place.lon <ℤ to.lon → counts place (from, to) ≡ differ f t
@@ -156,7 +160,8 @@ sides_west place from to true false f t a b =
     let high : place.lat <ℤ from.lat = grind (arith, ints) in
     counts_down place from to f t ∙ west to from place b a low high
 
-west_of_all : (bounds : Bounds) (place : Grid) → int_le bounds.west place.lon ≡ false → (from to : Grid) → IsBounded bounds from → IsBounded bounds to → counts place (from, to) ≡ differ (int_lt place.lat from.lat) (int_lt place.lat to.lat)
+west_of_all : (bounds : Bounds) (place : Grid) → int_le bounds.west place.lon ≡ false → (from to : Grid) → IsBounded bounds from → IsBounded bounds to
+    → counts place (from, to) ≡ differ (int_lt place.lat from.lat) (int_lt place.lat to.lat)
 west_of_all bounds place beside from to f t =
     let a : place.lon <ℤ from.lon = grind (arith, ints, f.west) in
     let b : place.lon <ℤ to.lon = grind (arith, ints, t.west) in
@@ -194,14 +199,16 @@ odd_from bounds place beside corner (next ∷ corners) is all =
     odd_on place corner next (end_of next corners) (edges_from next corners) (west_of_all bounds place beside corner next is there)
     (odd_from bounds place beside next corners there (All-tail (IsBounded bounds) next corners all))
 
-even_round : (bounds : Bounds) (place : Grid) → int_le bounds.west place.lon ≡ false → (last : Option Grid) (corners : List Grid) → slice_get corners (length corners - 1) ≡ last → All (IsBounded bounds) corners
+even_round : (bounds : Bounds) (place : Grid) → int_le bounds.west place.lon ≡ false → (last : Option Grid) (corners : List Grid) → slice_get corners (length corners - 1) ≡ last
+    → All (IsBounded bounds) corners
     → is_odd (count_by (counts place) (edges_round last corners)) ≡ false
 even_round bounds place beside None corners is all = refl
 even_round bounds place beside (Some last) [] is all = refl
 even_round bounds place beside (Some last) (corner ∷ corners) is all =
     let same : end_of corner corners ≡ last = end_is corner corners last is in
     let all_of : length (corner ∷ corners) - 1 < length (corner ∷ corners) = slice_get_within (corner ∷ corners) (length (corner ∷ corners) - 1) last is in
-    let there : IsBounded bounds last = subst (IsBounded bounds) (get_or_from_slice_get (corner ∷ corners) (length (corner ∷ corners) - 1) last last is) (All-get_or (IsBounded bounds) (corner ∷ corners) (length (corner ∷ corners) - 1) last all_of all) in
+    let there : IsBounded bounds last = subst (IsBounded bounds) (get_or_from_slice_get (corner ∷ corners) (length (corner ∷ corners) - 1) last last is)
+    (All-get_or (IsBounded bounds) (corner ∷ corners) (length (corner ∷ corners) - 1) last all_of all) in
     odd_from bounds place beside last (corner ∷ corners) there all
     ∙ ap (λ (g : Grid). differ (int_lt place.lat last.lat) (int_lt place.lat g.lat)) same
     ∙ differ_itself (int_lt place.lat last.lat)
@@ -210,7 +217,8 @@ is_outside_east : (bounds : Bounds) (place : Grid) → int_le bounds.west place.
 unfolding is_in_polygon
 is_outside_east bounds place beside corners all = even_round bounds place beside (slice_get corners (length corners - 1)) corners refl all
 
-by_side : (bounds : Bounds) (corners : List Grid) (place : Grid) (south north west east : Bool) → int_le bounds.south place.lat ≡ south → int_lt place.lat bounds.north ≡ north → int_le bounds.west place.lon ≡ west → int_lt place.lon bounds.east ≡ east
+by_side : (bounds : Bounds) (corners : List Grid) (place : Grid) (south north west east : Bool) → int_le bounds.south place.lat ≡ south → int_lt place.lat bounds.north ≡ north
+    → int_le bounds.west place.lon ≡ west → int_lt place.lon bounds.east ≡ east
     → not ((south && north) && (west && east)) ≡ true → All (IsBounded bounds) corners → is_in_polygon corners place ≡ false
 by_side bounds corners place false n w e is_south is_north is_west is_east some all = is_outside place (IsBounded bounds) (south_of_all bounds place is_south) corners all
 by_side bounds corners place true false w e is_south is_north is_west is_east some all = is_outside place (IsBounded bounds) (north_of_all bounds place is_north) corners all

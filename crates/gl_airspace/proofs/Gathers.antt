@@ -7,12 +7,13 @@ use Rattle.gl_airspace.specs.declared.error.AirError.TheVariants as error
 use Rattle.gl_airspace.specs.declared.part.Part.{Part}
 use Rattle.gl_airspace.specs.declared.volume.Volume.{Volume}
 use Rattle.gl_airspace.specs.Draft.{IsVolume}
-use Rattle.gl_airspace.specs.Gathered.{IsGathered}
-use Rattle.gl_airspace.specs.Going.{Fits, GoesOver, Misfits, volume_of}
+use Rattle.gl_airspace.specs.Code.Volumes.{IsGathered}
+use Rattle.gl_airspace.specs.Code.Going.{Fits, GoesOver, Misfits, volume_of}
 use Rattle.gl_airspace.specs.Parts.{AreVolumes, Tells}
 use Rattle.gl_airspace.specs.Volumes.{Reading, Refusal, begins, corners_in, first_trouble, parted, trouble}
 
-begun_by : (is : Bool) (line : Reading) (front : List Reading) (back : List (List Reading)) (all : List Reading × List (List Reading)) → (if is then ([], front ∷ back) else (line ∷ front, back)) ≡ all → all.0 ≡ [] → is ≡ true
+begun_by : (is : Bool) (line : Reading) (front : List Reading) (back : List (List Reading)) (all : List Reading × List (List Reading)) → (if is then ([], front ∷ back) else (line ∷ front, back)) ≡ all
+    → all.0 ≡ [] → is ≡ true
 begun_by true line front back all same none = refl
 begun_by false line front back all same none = cc (ap (λ (p : List Reading × List (List Reading)). p.0) same)
 
@@ -35,14 +36,16 @@ tells_first None other (error.Line n) told = absurd told
 tells_first None other (error.TooMany n) told = absurd told
 tells_first None other error.Memory told = tell_memory other
 
-are_more : (done : List (List Reading)) (volumes : List Volume) (lines : List Reading) (volume : Volume) → AreVolumes done volumes → IsVolume lines volume → AreVolumes (done ++ lines ∷ []) (volumes ++ volume ∷ [])
+are_more : (done : List (List Reading)) (volumes : List Volume) (lines : List Reading) (volume : Volume) → AreVolumes done volumes → IsVolume lines volume
+    → AreVolumes (done ++ lines ∷ []) (volumes ++ volume ∷ [])
 are_more [] [] lines volume are is = (is, tt)
 are_more [] (other ∷ volumes) lines volume are is = absurd are
 are_more (first ∷ done) [] lines volume are is = absurd are
 are_more (first ∷ done) (other ∷ volumes) lines volume are is = (are.0, are_more done volumes lines volume are.1 is)
 
 -- one volume more was read
-pub gathers : (all left : List (List Reading)) (lines : List Reading) (volumes : List Volume) (volume : Volume) → IsVolume lines volume → IsGathered all (lines ∷ left) volumes → IsGathered all left (volumes ++ volume ∷ [])
+pub gathers : (all left : List (List Reading)) (lines : List Reading) (volumes : List Volume) (volume : Volume) → IsVolume lines volume → IsGathered all (lines ∷ left) volumes
+    → IsGathered all left (volumes ++ volume ∷ [])
 gathers all left lines volumes volume is gathered = record {
   done = gathered.done ++ lines ∷ [];
   parts = gathered.parts ∙ sym (append_assoc gathered.done (lines ∷ []) left);
@@ -61,7 +64,8 @@ trouble_behind first volumes corners lines rest none =
     ap (λ (o : Option Refusal). option_or o (first_trouble (first + 1 + length lines) (volumes + 1) (corners + length (corners_in lines)) rest)) none
 
 -- what is known in front of a volume: its lines, and why it and those behind it would be refused
-pub refusal_at : (refusal : Option Refusal) (first volumes corners : ℕ) (line : Reading) (rest left : List Reading) → (parted left).0 ≡ [] → left ≡ line ∷ rest → refusal ≡ first_trouble first volumes corners (parted left).1
+pub refusal_at : (refusal : Option Refusal) (first volumes corners : ℕ) (line : Reading) (rest left : List Reading) → (parted left).0 ≡ [] → left ≡ line ∷ rest
+    → refusal ≡ first_trouble first volumes corners (parted left).1
     → refusal ≡ first_trouble first volumes corners (volume_of rest ∷ (parted rest).1)
 refusal_at refusal first volumes corners line rest left none is same =
     let front : (parted (line ∷ rest)).0 ≡ [] = ap (λ (l : List Reading). (parted l).0) (sym is) ∙ none in

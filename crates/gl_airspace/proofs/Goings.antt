@@ -6,8 +6,8 @@ use Rattle.std.proofs.lemmas.List.{append-nil, length-map}
 use Rattle.gl_airspace.specs.declared.draft.Draft.{Draft}
 use Rattle.gl_airspace.specs.declared.part.Part.{Part}
 use Rattle.gl_airspace.specs.Volumes.{Reading, begins, corner_of, corner_at, corners_in, fits, misfit_after, parted, readings_of}
-use Rattle.gl_airspace.specs.Draft.{Says}
-use Rattle.gl_airspace.specs.Going.{GoesOver, IsGoing, IsSurplus, Fits, Misfits, volume_of}
+use Rattle.gl_airspace.specs.Code.Parts.{Says}
+use Rattle.gl_airspace.specs.Code.Going.{GoesOver, IsGoing, IsSurplus, Fits, Misfits, volume_of}
 use Rattle.gl_airspace.specs.Line.{reading_of}
 use Rattle.gl_text.specs.Lines.{lines_of}
 use Rattle.gl_sphere.specs.PlaceText.{place_of}
@@ -17,51 +17,33 @@ from_zero : (o : Option ℕ) → option_map (λ k. 0 + k) o ≡ o
 from_zero None = refl
 from_zero (Some k) = ap Some (omega arith)
 
-one_more : (n : ℕ) (o : Option ℕ) → option_map (λ k. n + k) (option_map suc o) ≡ option_map (λ k. n + 1 + k) o
+pub one_more : (n : ℕ) (o : Option ℕ) → option_map (λ k. n + k) (option_map suc o) ≡ option_map (λ k. n + 1 + k) o
 one_more n None = refl
 one_more n (Some k) = ap Some (omega arith)
 
-parted_on : (line : Reading) (rest : List Reading) → begins line ≡ false → parted (line ∷ rest) ≡ (line ∷ (parted rest).0, (parted rest).1)
+pub parted_on : (line : Reading) (rest : List Reading) → begins line ≡ false → parted (line ∷ rest) ≡ (line ∷ (parted rest).0, (parted rest).1)
 parted_on line rest test = rw test refl
 
-parted_at : (line : Reading) (rest : List Reading) → begins line ≡ true → parted (line ∷ rest) ≡ ([], (parted rest).0 ∷ (parted rest).1)
+pub parted_at : (line : Reading) (rest : List Reading) → begins line ≡ true → parted (line ∷ rest) ≡ ([], (parted rest).0 ∷ (parted rest).1)
 parted_at line rest test = rw test refl
 
-misfit_on : (gone : List Reading) (line : Reading) (rest : List Reading) → fits gone line ≡ true → misfit_after gone (line ∷ rest) ≡ option_map suc (misfit_after (gone ++ line ∷ []) rest)
+pub misfit_on : (gone : List Reading) (line : Reading) (rest : List Reading) → fits gone line ≡ true → misfit_after gone (line ∷ rest) ≡ option_map suc (misfit_after (gone ++ line ∷ []) rest)
 misfit_on gone line rest test = rw test refl
 
-misfit_here : (gone : List Reading) (line : Reading) (rest : List Reading) → fits gone line ≡ false → misfit_after gone (line ∷ rest) ≡ Some 0
+pub misfit_here : (gone : List Reading) (line : Reading) (rest : List Reading) → fits gone line ≡ false → misfit_after gone (line ∷ rest) ≡ Some 0
 misfit_here gone line rest test = rw test refl
 
 corner_none : (n : ℕ) (line : Reading) (rest : List Reading) → corner_of line ≡ None → corner_at n (line ∷ rest) ≡ option_map suc (corner_at n rest)
 corner_none n line rest test = rw test refl
 
-corner_some : (n : ℕ) (line : Reading) (place : ℤ × ℤ) (rest : List Reading) → corner_of line ≡ Some place → corner_at n (line ∷ rest) ≡ (if n == 0 then Some 0 else option_map suc (corner_at (n - 1) rest))
+corner_some : (n : ℕ) (line : Reading) (place : ℤ × ℤ) (rest : List Reading) → corner_of line ≡ Some place
+    → corner_at n (line ∷ rest) ≡ (if n == 0 then Some 0 else option_map suc (corner_at (n - 1) rest))
 corner_some n line place rest test = rw test refl
 
 corners_more : (gone : List Reading) (line : Reading) (place : ℤ × ℤ) → filter_map corner_of (line ∷ []) ≡ place ∷ [] → length (corners_in (gone ++ line ∷ [])) ≡ length (corners_in gone) + 1
 corners_more gone line place one =
     let more : corners_in (gone ++ line ∷ []) ≡ corners_in gone ++ place ∷ [] = with_one corner_of gone line place one in
     grind (arith, length-append {A = ℤ × ℤ})
-
--- before the first line
-pub going_begins : (lines : List Reading) (room : ℕ) (part : Part) → Says part.draft [] → part.lines ≡ 0 → part.misfit ≡ None → part.surplus ≡ None → IsGoing lines lines room part
-going_begins lines room part says count none surplus =
-    let Told : Option ℕ → Type 0 = λ s. IsSurplus s part.lines room [] (volume_of lines) (corner_at room (volume_of lines)) in
-    let same : option_map (λ (k : ℕ). part.lines + k) (corner_at room (volume_of lines)) ≡ corner_at room (volume_of lines) =
-    ap (λ (n : ℕ). option_map (λ (k : ℕ). n + k) (corner_at room (volume_of lines))) count ∙ from_zero _ in
-    let all : option_map (λ (k : ℕ). part.lines + k) (misfit_after [] (volume_of lines)) ≡ misfit_after [] (volume_of lines) =
-    ap (λ (n : ℕ). option_map (λ (k : ℕ). n + k) (misfit_after [] (volume_of lines))) count ∙ from_zero _ in
-    record {
-      gone = [];
-      says = says;
-      count = count;
-      volume = refl;
-      volumes = refl;
-      none_yet = none;
-      misfit = sym all;
-      surplus = subst Told (sym surplus) (omega arith, sym (ap (λ (n : ℕ). option_map (λ (k : ℕ). part.lines + k) (corner_at n (volume_of lines))) (omega arith) ∙ same));
-    }
 
 said_none : (line : Reading) → corner_of line ≡ None → filter_map corner_of (line ∷ []) ≡ []
 said_none line test = rw test refl
@@ -127,7 +109,8 @@ room_left false found count room gone line rest place at is test told =
 
 pub surplus_step : (found : Option ℕ) (count room : ℕ) (gone : List Reading) (line : Reading) (rest : List Reading) (place : Option ℕ) (corner : Option (ℤ × ℤ)) → corner_of line ≡ corner
     → IsSurplus found count room gone (line ∷ rest) place
-    → IsSurplus (if (length (corners_in gone) == room) && nat_lt (length (corners_in gone)) (length (corners_in (gone ++ line ∷ []))) then Some count else found) (count + 1) room (gone ++ line ∷ []) rest place
+    → IsSurplus (if (length (corners_in gone) == room) && nat_lt (length (corners_in gone)) (length (corners_in (gone ++ line ∷ []))) then Some count else found) (count + 1) room
+    (gone ++ line ∷ []) rest place
 surplus_step found count room gone line rest place None is told =
     let same = count_none gone line is in
     let not_more : ((length (corners_in gone) == room) && nat_lt (length (corners_in gone)) (length (corners_in (gone ++ line ∷ [])))) ≡ false = grind arith in
@@ -188,7 +171,8 @@ few_done None count room gone place none told = told.0
 few_done (Some at) count room gone place none told = cc
 
 -- all lines of the volume were gone over
-pub going_ends : (text : List ℕ) (lines rest : List Reading) (room : ℕ) (part : Part) (behind : List (List Reading)) → parted rest ≡ ([], behind) → readings_of (drop part.next text) ≡ rest → IsGoing lines rest room part → Fits text lines room part
+pub going_ends : (text : List ℕ) (lines rest : List Reading) (room : ℕ) (part : Part) (behind : List (List Reading)) → parted rest ≡ ([], behind) → readings_of (drop part.next text) ≡ rest
+    → IsGoing lines rest room part → Fits text lines room part
 going_ends text lines rest room part behind ended left going =
     let none_left_over : volume_of rest ≡ [] = ap (λ (p : List Reading × List (List Reading)). p.0) ended in
     let all : volume_of lines ≡ going.gone = going.volume ∙ ap (λ (v : List Reading). going.gone ++ v) none_left_over ∙ append-nil going.gone in
@@ -199,7 +183,8 @@ going_ends text lines rest room part behind ended left going =
       count = going.count ∙ ap (λ (v : List Reading). length v) (sym all);
       all_fit = going.misfit ∙ ap (λ (v : List Reading). option_map (λ (k : ℕ). part.lines + k) (misfit_after going.gone v)) none_left_over;
       surplus = surplus_done part.surplus part.lines room going.gone (corner_at room (volume_of lines)) (subst Surplus none_left_over going.surplus);
-      few = λ none. subst (λ (v : List Reading). length (corners_in v) ≤ room) (sym all) (few_done part.surplus part.lines room going.gone (corner_at room (volume_of lines)) none (subst Surplus none_left_over going.surplus));
+      few = λ none. subst (λ (v : List Reading). length (corners_in v) ≤ room) (sym all)
+          (few_done part.surplus part.lines room going.gone (corner_at room (volume_of lines)) none (subst Surplus none_left_over going.surplus));
       behind = ap parted left ∙ ended ∙ ap (λ (b : List (List Reading)). ([], b)) (sym others);
     }
 
@@ -214,7 +199,8 @@ goes_over text lines room part within none fit = record {
 }
 
 -- another draft that says the same
-pub same_going : (lines rest : List Reading) (room : ℕ) (part after : Part) → ((gone : List Reading) → Says part.draft gone → Says after.draft gone) → after.lines ≡ part.lines → after.misfit ≡ part.misfit → after.surplus ≡ part.surplus
+pub same_going : (lines rest : List Reading) (room : ℕ) (part after : Part) → ((gone : List Reading) → Says part.draft gone → Says after.draft gone) → after.lines ≡ part.lines
+    → after.misfit ≡ part.misfit → after.surplus ≡ part.surplus
     → IsGoing lines rest room part → IsGoing lines rest room after
 same_going lines rest room part after says count misfit surplus going =
     let At : ℕ → Type 0 = λ n. IsSurplus after.surplus n room going.gone (volume_of rest) (corner_at room (volume_of lines)) in
@@ -231,11 +217,13 @@ same_going lines rest room part after says count misfit surplus going =
     }
 
 -- the next volume begins, so the lines of this one were gone over
-pub over_at_next : (text line : List ℕ) (lines : List Reading) (room next : ℕ) (part : Part) → part.next ≤ length text → lines_of (drop part.next text) ≡ line ∷ lines_of (drop next text) → begins (reading_of line) ≡ true
+pub over_at_next : (text line : List ℕ) (lines : List Reading) (room next : ℕ) (part : Part) → part.next ≤ length text → lines_of (drop part.next text) ≡ line ∷ lines_of (drop next text)
+    → begins (reading_of line) ≡ true
     → IsGoing lines (readings_of (drop part.next text)) room part → GoesOver text lines room part
 over_at_next text line lines room next part within on begun going =
     goes_over text lines room part within going.none_yet
-    (going_ends text lines (readings_of (drop part.next text)) room part _ (ap parted (readings_on text line part.next next on) ∙ parted_at (reading_of line) (readings_of (drop next text)) begun) refl going)
+    (going_ends text lines (readings_of (drop part.next text)) room part _ (ap parted (readings_on text line part.next next on)
+    ∙ parted_at (reading_of line) (readings_of (drop next text)) begun) refl going)
 
 -- a draft has as many corners as its lines say
 pub corners_said : (draft : Draft) (gone : List Reading) → Says draft gone → vec_len draft.corners ≡ length (corners_in gone)

@@ -12,7 +12,8 @@ use Rattle.gl_airspace.specs.declared.draft.Draft.{Draft}
 use Rattle.gl_airspace.specs.declared.volume.Circle.{Circle}
 use Rattle.gl_airspace.specs.Line.{PassedOver, Begins, Names, Floor, Ceiling, Centre, Corner, Circles}
 use Rattle.gl_airspace.specs.Volumes.{Reading, first_of, last_of, floor_of, ceiling_of, centre_of, corner_of, radius_said, centre_in, radius_in, circle_in, circle_after}
-use Rattle.gl_airspace.specs.Draft.{Says, IsCircle}
+use Rattle.gl_airspace.specs.Code.Parts.{Says}
+use Rattle.gl_airspace.specs.Draft.{IsCircle}
 
 first_of-append : {X : Type 0} (xs ys : List X) → first_of (xs ++ ys) ≡ option_or (first_of xs) (first_of ys)
 first_of-append [] ys = refl
@@ -28,10 +29,12 @@ pub without : {X : Type 0} (of : Reading → Option X) (lines : List Reading) (l
 without of lines line none = filter_map-append of lines (line ∷ []) ∙ ap (λ (xs : List _). filter_map of lines ++ xs) none ∙ append-nil _
 
 -- one that says something adds it
-pub with_one : {X : Type 0} (of : Reading → Option X) (lines : List Reading) (line : Reading) (x : X) → filter_map of (line ∷ []) ≡ x ∷ [] → filter_map of (lines ++ line ∷ []) ≡ filter_map of lines ++ x ∷ []
+pub with_one : {X : Type 0} (of : Reading → Option X) (lines : List Reading) (line : Reading) (x : X) → filter_map of (line ∷ []) ≡ x ∷ []
+    → filter_map of (lines ++ line ∷ []) ≡ filter_map of lines ++ x ∷ []
 with_one of lines line x one = filter_map-append of lines (line ∷ []) ∙ ap (λ (xs : List _). filter_map of lines ++ xs) one
 
-first_with : {X : Type 0} (of : Reading → Option X) (lines : List Reading) (line : Reading) (x : X) → filter_map of (line ∷ []) ≡ x ∷ [] → first_of (filter_map of lines) ≡ None → first_of (filter_map of (lines ++ line ∷ [])) ≡ Some x
+first_with : {X : Type 0} (of : Reading → Option X) (lines : List Reading) (line : Reading) (x : X) → filter_map of (line ∷ []) ≡ x ∷ [] → first_of (filter_map of lines) ≡ None
+    → first_of (filter_map of (lines ++ line ∷ [])) ≡ Some x
 first_with of lines line x one none =
     ap first_of (with_one of lines line x one) ∙ first_of-append (filter_map of lines) (x ∷ []) ∙ ap (λ (o : Option _). option_or o (Some x)) none
 
@@ -69,7 +72,8 @@ last_or x (y ∷ []) o = refl
 last_or x (y ∷ z ∷ xs) o = last_or y (z ∷ xs) o ∙ sym (last_or y (z ∷ xs) (Some x))
 
 -- a circle behind lines without one has the last centre
-circle_with : (centre : Option (ℤ × ℤ)) (lines : List Reading) (radius : ℕ) → radius_in lines ≡ None → circle_after centre (lines ++ Some (Circles radius) ∷ []) ≡ option_map (λ place. (place, radius)) (centre_so_far centre lines)
+circle_with : (centre : Option (ℤ × ℤ)) (lines : List Reading) (radius : ℕ) → radius_in lines ≡ None
+    → circle_after centre (lines ++ Some (Circles radius) ∷ []) ≡ option_map (λ place. (place, radius)) (centre_so_far centre lines)
 circle_with centre [] radius none = refl
 circle_with centre (None ∷ lines) radius none = circle_with centre lines radius none
 circle_with centre (Some PassedOver ∷ lines) radius none = circle_with centre lines radius none
@@ -86,16 +90,14 @@ or_none : {X : Type 0} (o : Option X) → option_or o None ≡ o
 or_none None = refl
 or_none (Some x) = refl
 
-none_kept : {X Y : Type 0} (f : X → Y) (o : Option X) (p : Option Y) → o ≡ None → option_map f o ≡ p → p ≡ None
-none_kept f o p none same = sym same ∙ ap (option_map f) none
-
 no_radius : (made : Option Circle) (radius : Option ℕ) → is_some made ≡ is_some radius → made ≡ None → radius ≡ None
 no_radius made None same none = refl
 no_radius made (Some r) same none = cc
 
 -- what a draft says with one more line that says nothing of a volume
 pub says_other : (draft : Draft) (lines : List Reading) (line : Reading)
-    → filter_map floor_of (line ∷ []) ≡ [] → filter_map ceiling_of (line ∷ []) ≡ [] → filter_map centre_of (line ∷ []) ≡ [] → filter_map corner_of (line ∷ []) ≡ [] → filter_map radius_said (line ∷ []) ≡ [] → radius_said line ≡ None
+    → filter_map floor_of (line ∷ []) ≡ [] → filter_map ceiling_of (line ∷ []) ≡ [] → filter_map centre_of (line ∷ []) ≡ [] → filter_map corner_of (line ∷ []) ≡ []
+    → filter_map radius_said (line ∷ []) ≡ [] → radius_said line ≡ None
     → Says draft lines → Says draft (lines ++ line ∷ [])
 says_other draft lines line f c p k r none says = record {
   floor = says.floor ∙ ap first_of (sym (without floor_of lines line f));
@@ -153,7 +155,8 @@ says_corner draft after lines place says floor ceiling centre circle corners =
       circle = subst (λ (o : Option Circle). IsCircle o (circle_in (lines ++ line ∷ []))) (sym circle) (subst (IsCircle draft.circle) (sym (circle_without None lines line refl)) says.circle);
     }
 
-is_circle_of : (made : Circle) (lines : List Reading) (radius : ℕ) (grid : Grid) → radius_in lines ≡ None → Some (place_of grid) ≡ centre_in lines → made.centre ≡ written_vector grid → made.radius ≡ radius
+is_circle_of : (made : Circle) (lines : List Reading) (radius : ℕ) (grid : Grid) → radius_in lines ≡ None → Some (place_of grid) ≡ centre_in lines → made.centre ≡ written_vector grid
+    → made.radius ≡ radius
     → IsCircle (Some made) (circle_in (lines ++ Some (Circles radius) ∷ []))
 is_circle_of made lines radius grid none centre at size =
     subst (IsCircle (Some made)) (sym (circle_with None lines radius none ∙ ap (option_map (λ (place : ℤ × ℤ). (place, radius))) (or_none (centre_in lines) ∙ sym centre)))

@@ -1,14 +1,13 @@
--- What the code keeps of the lines of a volume, and the volume that it makes of them.
-use Rattle.std.specs.Prelude.{◌≡◌, ℕ, is_some, List, map, Option, None, Some, option_map, ℤ}
+-- The volume that the lines of a text say.
+use Rattle.std.specs.Prelude.{◌≡◌, ℕ, List, map, Option, None, Some, ℤ}
 use Rattle.gl_sphere.specs.declared.place.Grid.{Grid}
 use Rattle.gl_sphere.specs.Place.{written_vector}
 use Rattle.gl_sphere.specs.PlaceText.{place_of}
-use Rattle.gl_airspace.specs.declared.draft.Draft.{Draft}
 use Rattle.gl_airspace.specs.declared.volume.Circle.{Circle}
 use Rattle.gl_airspace.specs.declared.volume.Volume.{Volume}
 use Rattle.gl_airspace.specs.declared.volume.Shape.{Shape}
 use Rattle.gl_airspace.specs.declared.volume.Shape.TheVariants.{Polygon, Circle as Round}
-use Rattle.gl_airspace.specs.Volumes.{Reading, floor_in, ceiling_in, centre_in, corners_in, radius_in, circle_in}
+use Rattle.gl_airspace.specs.Volumes.{Reading, floor_in, ceiling_in, corners_in, circle_in}
 
 -- a circle round a place
 pub record IsRound (made : Circle) (circle : (ℤ × ℤ) × ℕ) : Type 0 where
@@ -22,15 +21,6 @@ IsCircle None None = Unit {0}
 IsCircle None (Some circle) = ⊥
 IsCircle (Some made) None = ⊥
 IsCircle (Some made) (Some circle) = IsRound made circle
-
--- a draft keeps what the lines of a volume say
-pub record Says (draft : Draft) (lines : List Reading) : Type 0 where
-  pub floor : draft.floor ≡ floor_in lines
-  pub ceiling : draft.ceiling ≡ ceiling_in lines
-  pub centre : option_map place_of draft.centre ≡ centre_in lines
-  pub corners : map place_of draft.corners.items ≡ corners_in lines
-  pub has_circle : is_some draft.circle ≡ is_some (radius_in lines)
-  pub circle : IsCircle draft.circle (circle_in lines)
 
 -- the shape of a volume with these lines: their circle, or the polygon of their corners where they
 -- make none

@@ -1,12 +1,10 @@
 pub mod Bounds
+pub mod Code
 pub mod Inside
 pub mod Line
-pub mod Said
 pub mod Volumes
 pub mod Draft
 pub mod Parts
-pub mod Going
 pub mod Airspace
-pub mod Gathered
 pub use Rattle.gl_text.specs.Lines
 pub use Rattle.gl_sphere.specs.Distance

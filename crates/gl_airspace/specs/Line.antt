@@ -2,7 +2,6 @@
 use Rattle.std.specs.Prelude.{ℕ, ◌+◌, ◌-◌, ◌*◌, ◌/◌, ◌^◌, nat_eq, nat_le, nat_lt, ◌==◌, ◌&&◌, ◌||◌, if◌then◌else◌, Bool, List, [], ◌∷◌, length, drop, take_while, Option, None, Some, option_map, codes, ℤ, pos, neg_ℤ}
 use Rattle.std.specs.List.{starts_with}
 use Rattle.std.specs.Char.{is_ascii_digit, to_ascii_uppercase}
-use Rattle.std.proofs.Common.{Bor}
 use Rattle.std.specs.Cmp.Lexicographic.{pointwise}
 use Rattle.gl_text.specs.Digits.{◌>>=◌, number_of}
 
@@ -49,10 +48,6 @@ after_space text = if starts_with nat_eq text (32 ∷ []) then drop 1 text else 
 -- the digits at the front of a text
 abbrev pub digits_at : List ℕ → List ℕ
 digits_at text = take_while is_ascii_digit text
-
--- a value and the text that follows it
-abbrev pub seen : {X : Type 0} → X × Bor (List ℕ) → X × List ℕ
-seen front = (front.0, front.1.now)
 
 -- the number that digits at the front of a text write, one at least and not more than `most`, and
 -- what follows them

@@ -1,6 +1,6 @@
 ghost use Rattle.std.specs.Prelude.{◌≡◌, option_map, OnOk};
 ghost use Rattle.gl_airspace.specs.Line.{is_passed_over, said_by, shape_by, squeezed};
-ghost use Rattle.gl_airspace.specs.Said.{said};
+ghost use Rattle.gl_airspace.specs.Code.Said.{said};
 
 use crate::height::{height, radius};
 use crate::place_text::place;

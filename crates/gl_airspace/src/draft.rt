@@ -21,9 +21,10 @@ impl Draft {
     ghost use Rattle.std.specs.Prelude.{◌≡◌, ◌++◌, [], ◌∷◌, List, Some, IsTrue, IsNone, IfOk, IfSome, not};
     ghost use Rattle.gl_sphere.specs.PlaceText.{place_of};
     ghost use Rattle.gl_airspace.specs.Line.{Floor, Ceiling, Centre, Corner, Circles};
-    ghost use Rattle.gl_airspace.specs.Said.{said};
+    ghost use Rattle.gl_airspace.specs.Code.Said.{said};
     ghost use Rattle.gl_airspace.specs.Volumes.{Reading, fits, is_complete};
-    ghost use Rattle.gl_airspace.specs.Draft.{IsVolume, Says};
+    ghost use Rattle.gl_airspace.specs.Draft.{IsVolume};
+    ghost use Rattle.gl_airspace.specs.Code.Parts.{Says};
 
     /// Before the first line of a volume.
     pub fn new(alloc: Global) -> Draft

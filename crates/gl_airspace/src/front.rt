@@ -1,5 +1,6 @@
 ghost use Rattle.std.specs.Prelude.{◌≡◌, ◌-◌, ◌*◌, ◌<◌, ◌≤◌, ◌^◌, length, option_map, IfSome};
-ghost use Rattle.gl_airspace.specs.Line.{after_space, decimals_at, digits_at, number_at, seen, thousandths_at};
+ghost use Rattle.gl_airspace.specs.Line.{after_space, decimals_at, digits_at, number_at, thousandths_at};
+ghost use Rattle.gl_airspace.specs.Code.Said.{seen};
 
 use gl_text::read_digits;
 

@@ -1,6 +1,7 @@
 ghost use Rattle.std.specs.Prelude.{◌≡◌, ◌≢◌, ◌+◌, ◌-◌, ◌≤◌, ◌<◌, List, ℕ, length, min, drop, None, IfOk, IfErr};
-ghost use Rattle.gl_airspace.specs.Airspace.{IsAirspace, IsJudged, StartsVolumes};
-ghost use Rattle.gl_airspace.specs.Going.{GoesOver};
+ghost use Rattle.gl_airspace.specs.Airspace.{IsAirspace};
+ghost use Rattle.gl_airspace.specs.Code.Volumes.{IsJudged, StartsVolumes};
+ghost use Rattle.gl_airspace.specs.Code.Going.{GoesOver};
 ghost use Rattle.gl_airspace.specs.Parts.{Tells};
 ghost use Rattle.gl_airspace.specs.Volumes.{Reading, early_trouble, parted, readings_of, refusal_of, trouble};
 

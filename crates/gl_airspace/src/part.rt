@@ -1,6 +1,6 @@
 ghost use Rattle.std.specs.Prelude.{◌≡◌, ◌+◌, ◌≤◌, ◌==◌, ◌&&◌, nat_lt, if◌then◌else◌, length, drop, IfOk, Some};
 ghost use Rattle.gl_airspace.specs.Volumes.{readings_of};
-ghost use Rattle.gl_airspace.specs.Going.{GoesOver};
+ghost use Rattle.gl_airspace.specs.Code.Going.{GoesOver};
 
 use crate::draft::Draft;
 use crate::step::{Step, take_step};

@@ -1,7 +1,8 @@
 ghost use Rattle.std.specs.Prelude.{◌≡◌, ◌<◌, ◌≤◌, length, option_map, IfSome};
 ghost use Rattle.gl_sphere.specs.Range.{IsWithin};
 ghost use Rattle.gl_sphere.specs.PlaceText.{place_of};
-ghost use Rattle.gl_airspace.specs.Line.{angle_at, latitude_at, longitude_at, minutes_at, place_of_text, seconds_at, seen, signed_at};
+ghost use Rattle.gl_airspace.specs.Line.{angle_at, latitude_at, longitude_at, minutes_at, place_of_text, seconds_at, signed_at};
+ghost use Rattle.gl_airspace.specs.Code.Said.{seen};
 
 use crate::front::{after_space, number_at, thousandths_at};
 use gl_sphere::{Grid, HALF_TURN, QUARTER_TURN};

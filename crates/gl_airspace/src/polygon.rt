@@ -13,7 +13,8 @@ pub struct Bounds {
 impl Bounds {
     ghost use Rattle.std.specs.Prelude.{◌≡◌, All};
     ghost use Rattle.gl_sphere.specs.declared.place.Grid.{Grid};
-    ghost use Rattle.gl_airspace.specs.Bounds.{IsBounded, is_beside, is_between, is_level};
+    ghost use Rattle.gl_airspace.specs.Bounds.{IsBounded};
+    ghost use Rattle.gl_airspace.specs.Code.Bounds.{is_beside, is_between, is_level};
 
     /// The same, widened to a place.
     fn with(self, place: Grid) -> Bounds

@@ -1,8 +1,7 @@
 ghost use Rattle.std.specs.Prelude.{◌≡◌, ◌++◌, [], ◌∷◌, List, IfOk};
 ghost use Rattle.gl_airspace.specs.Line.{reading_of};
-ghost use Rattle.gl_airspace.specs.Draft.{Says};
+ghost use Rattle.gl_airspace.specs.Code.Parts.{Says, IsStep, SaysAfter};
 ghost use Rattle.gl_airspace.specs.Volumes.{Reading};
-ghost use Rattle.gl_airspace.specs.Parts.{IsStep, SaysAfter};
 
 use crate::air_line::{AirLine, said_by, squeeze};
 use crate::draft::Draft;

@@ -17,13 +17,15 @@ use Rattle.gl_answer.specs.Promise.{Promise, reading}
 use Rattle.gl_answer.specs.Statuses.{status_of}
 
 -- a command that only reads has its answer
-pub reads_right : (IsRight : Answer → Type 0) (Passes : Type 0) (x y : Told) (result : Result code.Answer DeskError) → IfOk result (λ answer. IsRight (answer_of answer)) → OnlyReads (stop_of result) x y → IfOk result (HasAnswered (reading IsRight Passes) x y)
+pub reads_right : (IsRight : Answer → Type 0) (Passes : Type 0) (x y : Told) (result : Result code.Answer DeskError) → IfOk result (λ answer. IsRight (answer_of answer))
+    → OnlyReads (stop_of result) x y → IfOk result (HasAnswered (reading IsRight Passes) x y)
 reads_right IsRight Passes x y (Ok answer) right reads =
     ([], right, record { written = record { appended = (refl, reads.folder, reads.outputs); said = reads.said; faults = reads.faults }; untouched = λ none. (reads.folder, reads.outputs) })
 reads_right IsRight Passes x y (Err stop) right reads = tt
 
 -- so has one that doesn't use the desk
-pub unread_right : (IsRight : Answer → Type 0) (Passes : Type 0) (x : Told) (result : Result code.Answer DeskError) → IfOk result (λ answer. IsRight (answer_of answer)) → IfOk result (HasAnswered (reading IsRight Passes) x x)
+pub unread_right : (IsRight : Answer → Type 0) (Passes : Type 0) (x : Told) (result : Result code.Answer DeskError) → IfOk result (λ answer. IsRight (answer_of answer))
+    → IfOk result (HasAnswered (reading IsRight Passes) x x)
 unread_right IsRight Passes x (Ok answer) right =
     ([], right, record { written = record { appended = (refl, refl, refl); said = refl; faults = refl }; untouched = λ none. (refl, refl) })
 unread_right IsRight Passes x (Err stop) right = tt
@@ -34,7 +36,9 @@ stopped_ends promise Failed status x z is stops = subst (λ (s : Status). Ends p
 stopped_ends promise Memory status x z is stops = subst (λ (s : Status). Ends promise s x z) (sym is) stops
 
 -- What ended the tests of files is answered: the line of the first that failed.
-pub halt_answered : {Seen X : Type 0} (IsSeen : Seen → Type 0) (tests : Seen → List FileTest) (AreRead : Seen → X → Type 0) (Gives : Seen → Answer → Type 0) (halt : Halt) (result : Result code.Answer DeskError) → HasTested IsSeen tests AreRead (Err halt) → AnswersHalt halt result → IfOk result (λ answer. IsByTests IsSeen tests Gives (answer_of answer))
+pub halt_answered : {Seen X : Type 0} (IsSeen : Seen → Type 0) (tests : Seen → List FileTest) (AreRead : Seen → X → Type 0) (Gives : Seen → Answer
+    → Type 0) (halt : Halt) (result : Result code.Answer DeskError) → HasTested IsSeen tests AreRead (Err halt) → AnswersHalt halt result
+    → IfOk result (λ answer. IsByTests IsSeen tests Gives (answer_of answer))
 halt_answered IsSeen tests AreRead Gives (Refused refusal) (Ok answer) (seen, is, fails) same = (seen, is, inr (refusal, fails, same))
 halt_answered IsSeen tests AreRead Gives (Refused refusal) (Err stop) tested same = tt
 halt_answered IsSeen tests AreRead Gives (Stopped stop) (Ok answer) tested same = absurd same

@@ -8,15 +8,7 @@ use Rattle.gl_desk.specs.Desk.{AppendedByName, FilesByName, FileTakes, Told, fil
 use Rattle.gl_desk.specs.declared.error.DeskError.{DeskError}
 use Rattle.gl_desk.specs.declared.error.DeskError.TheVariants.{Memory}
 use Rattle.gl_answer.specs.Appending.{HasAppended, HasAppendedPart, IsAppended}
-
--- a text that is followed by two pieces is followed by both in one
-followed_twice : (text : Option (List ℕ)) (a b : List ℕ) → followed_by (followed_by text a) b ≡ followed_by text (a ++ b)
-followed_twice None a b = refl
-followed_twice (Some text) a b = ap Some (append_assoc text a b)
-
-grown_twice : (file : Option (Option (List ℕ))) (a b : List ℕ) → grown_by (grown_by file a) b ≡ grown_by file (a ++ b)
-grown_twice None a b = refl
-grown_twice (Some file) a b = ap (λ (text : List ℕ). Some (Some text)) (append_assoc (unwrap_or file []) a b)
+use Rattle.gl_desk.proofs.DeskLemmas.{followed_by-followed_by, grown_by-grown_by}
 
 -- nothing follows where nothing is added
 followed_none : (text : Option (List ℕ)) → followed_by text [] ≡ text
@@ -34,7 +26,7 @@ file_twice : (x y z : Option FilesByName) (name a b : List ℕ) → FileTakes x 
 file_twice x y z name a b one two =
     elim one [
       | inl grows ↦ elim two [
-        | inl more ↦ inl (more ∙ ap (λ (f : Option (Option (List ℕ))). grown_by f b) grows ∙ grown_twice (file_of x name) a b)
+        | inl more ↦ inl (more ∙ ap (λ (f : Option (Option (List ℕ))). grown_by f b) grows ∙ grown_by-grown_by (file_of x name) a b)
         | inr same ↦ inl (same.1 ∙ grows ∙ ap (grown_by (file_of x name)) (sym (empty_end a b same.0)))
       ]
       | inr same ↦ elim two [
@@ -46,7 +38,7 @@ file_twice x y z name a b one two =
 -- one piece after the other
 appended_twice : (file a b : List ℕ) (x y z : Told) → IsAppended (Some file) a x y → IsAppended (Some file) b y z → IsAppended (Some file) (a ++ b) x z
 appended_twice file a b x y z one two = (
-  two.0 ∙ ap (λ (t : Option (List ℕ)). followed_by t b) one.0 ∙ followed_twice (output_of x.outputs file) a b,
+  two.0 ∙ ap (λ (t : Option (List ℕ)). followed_by t b) one.0 ∙ followed_by-followed_by (output_of x.outputs file) a b,
   file_twice x.folder y.folder z.folder file a b one.1 two.1,
   λ other differs. ((two.2 other differs).0 ∙ (one.2 other differs).0, (two.2 other differs).1 ∙ (one.2 other differs).1),
 )

@@ -21,7 +21,8 @@ line_of text inside = record {
 }
 
 -- a line of unbroken parts is one line
-parts_are_line : (parts : Parts) (file : List ℕ) → is_unbroken parts.kind ≡ true → is_unbroken (decimal parts.number) ≡ true → is_unbroken (place_text parts.place) ≡ true → is_unbroken file ≡ true → IsLine (line_with parts file)
+parts_are_line : (parts : Parts) (file : List ℕ) → is_unbroken parts.kind ≡ true → is_unbroken (decimal parts.number) ≡ true → is_unbroken (place_text parts.place) ≡ true → is_unbroken file ≡ true
+    → IsLine (line_with parts file)
 unfolding line_with
 parts_are_line parts file kind number place named =
     line_of (codes "REFUSED " ++ parts.kind ++ codes " " ++ decimal parts.number ++ codes " " ++ place_text parts.place ++ codes " " ++ file)

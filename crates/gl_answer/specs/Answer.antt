@@ -34,7 +34,8 @@ abbrev pub answer_with : code.Answer → List ℕ → Answer
 answer_with answer text =
     record { status = answer.status; said = answer.text.items; appended = text }
 
--- the answer to what ended a command before its own: the line of a refusal, or what stopped it; want
+-- the answer to what ended a command before its own: the line of a refusal, or what stopped it;
+-- want
 -- of memory can come in place of the line
 abbrev pub AnswersHalt : Halt → Result code.Answer DeskError → Type 0
 AnswersHalt (halt.Refused refusal) (Ok answer) =

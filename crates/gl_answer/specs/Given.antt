@@ -18,7 +18,8 @@ pub record Gives (target : Option (List ℕ)) (answer : Answer) (status : Status
   pub ended : status ≡ answer.status
   pub said : after.said ≡ followed_by before.said answer.said
   pub appended : IsAppended target answer.appended before after
-  pub untouched : answer.appended ≡ [] → (after.folder ≡ before.folder) × (after.outputs ≡ before.outputs)
+  pub untouched : answer.appended ≡ []
+      → (after.folder ≡ before.folder) × (after.outputs ≡ before.outputs)
 
 -- a first part of the answer was given, and something was said only where all was appended
 pub record GivesPart (target : Option (List ℕ)) (answer : Answer)

@@ -11,7 +11,8 @@ pub record Promise : Type 1 where
   -- the answer is right for what the tests of the command saw, and where the desk tells its folder,
   -- that is what the folder has
   pub IsRight : Answer → Type 0
-  -- a run that is stopped on its way has appended this text, which is a first part of that of a right
+  -- a run that is stopped on its way has appended this text, which is a first part of that of a
+  -- right
   -- answer
   pub IsBegun : List ℕ → Type 0
   -- the desk tells its folder, and its files pass every test

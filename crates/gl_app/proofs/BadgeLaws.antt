@@ -80,19 +80,22 @@ same_seen one other flight proof =
     let made : Option (List ℕ) → Option (List ℕ) → BadgeSeen = λ a b. record { flight = a; proof = b } in
     ap (λ (a : Option (List ℕ)). made a one.proof) flight ∙ ap (λ (b : Option (List ℕ)). made other.flight b) proof
 
-seen_is : (files : FilesByName) (words : BadgeWords) (folder : IsBadgeFolder files words) (told : HasTold folder.before words folder.answer) (seen : BadgeSeen) → IsBadgeSeen words (Some files) seen → seen ≡ seen_with told.seen folder.answer.appended
+seen_is : (files : FilesByName) (words : BadgeWords) (folder : IsBadgeFolder files words) (told : HasTold folder.before words folder.answer) (seen : BadgeSeen) → IsBadgeSeen words (Some files) seen
+    → seen ≡ seen_with told.seen folder.answer.appended
 seen_is files words folder told seen is =
     let flight = still folder.before files words.flight words.proof told.seen.flight told.seen.proof told.is.flight told.is.proof told.passes.0 told.passes.1.0 folder.others in
     same_seen seen (seen_with told.seen folder.answer.appended) (sym is.flight ∙ flight) (sym is.proof ∙ folder.proof)
 
 -- it passes the tests of `badgecheck`
-all_pass : (words : BadgeWords) (seen : BadgeSeen) (text : List ℕ) (statements : List Statement) → AllPass (badge_tests words seen) → length text ≤ most_proof_bytes → IsTextOf Two text statements → AllPass (badge_check_tests words (seen_with seen text))
+all_pass : (words : BadgeWords) (seen : BadgeSeen) (text : List ℕ) (statements : List Statement) → AllPass (badge_tests words seen) → length text ≤ most_proof_bytes → IsTextOf Two text statements
+    → AllPass (badge_check_tests words (seen_with seen text))
 all_pass words seen text statements passes small is =
     let rest = passes.1.1 in
     (passes.0, (refl, (rest.0, (rest.1.0, (small, ((Two, statements, is), tt))))))
 
 -- what is said of it
-own_judged : (words : BadgeWords) (seen : BadgeSeen) (wrote : Answer) (recording : Recording) → IsBadgeRead seen recording → IsBadgeSaid recording wrote → (answer : Answer) → IsBadgeJudged words (seen_with seen wrote.appended) answer → answer.status ≡ status.Done
+own_judged : (words : BadgeWords) (seen : BadgeSeen) (wrote : Answer) (recording : Recording) → IsBadgeRead seen recording → IsBadgeSaid recording wrote → (answer : Answer)
+    → IsBadgeJudged words (seen_with seen wrote.appended) answer → answer.status ≡ status.Done
 own_judged words seen wrote recording read said answer (read_too, are, told, checked, same) =
     let flight = one_recording seen.flight None read_too.0 recording are.flight read in
     let claims = text_unique wrote.appended (statements_of read_too.1) said.statements are.proof said.appended in
@@ -100,7 +103,9 @@ own_judged words seen wrote recording read said answer (read_too, are, told, che
     let accepted = badges_accepted recording wrote.said said.statements told said.found is in
     ap (λ (a : Answer). a.status) (same ∙ ap checked_answer accepted.1)
 
-own_seen : (files : FilesByName) (words : BadgeWords) (folder : IsBadgeFolder files words) (told : HasTold folder.before words folder.answer) (seen : BadgeSeen) (answer : Answer) → seen ≡ seen_with told.seen folder.answer.appended → (AllPass (badge_check_tests words seen) × IsBadgeJudged words seen answer) ⊎ ((refusal : Refusal) × FirstFails (badge_check_tests words seen) refusal × (answer ≡ refused refusal.file refusal.cause)) → answer.status ≡ status.Done
+own_seen : (files : FilesByName) (words : BadgeWords) (folder : IsBadgeFolder files words) (told : HasTold folder.before words folder.answer) (seen : BadgeSeen) (answer : Answer)
+    → seen ≡ seen_with told.seen folder.answer.appended → (AllPass (badge_check_tests words seen) × IsBadgeJudged words seen answer)
+    ⊎ ((refusal : Refusal) × FirstFails (badge_check_tests words seen) refusal × (answer ≡ refused refusal.file refusal.cause)) → answer.status ≡ status.Done
 own_seen files words folder told seen answer same (inl (passes, judged)) =
     own_judged words told.seen folder.answer told.recording told.read told.said answer (subst (λ (s : BadgeSeen). IsBadgeJudged words s answer) same judged)
 own_seen files words folder told seen answer same (inr (refusal, fails, is)) =

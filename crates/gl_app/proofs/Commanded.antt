@@ -7,7 +7,7 @@ use Rattle.std.proofs.lemmas.List.{length-take, take-take, take_all}
 use Rattle.gl_desk.specs.Answers.{OnlyReads, stop_of}
 use Rattle.gl_desk.specs.Desk.{FilesByName, Told}
 use Rattle.gl_desk.specs.declared.error.DeskError.{DeskError}
-use Rattle.gl_proof.specs.Claim.{Statement, statement_of}
+use Rattle.gl_proof.specs.Claim.{statement_of}
 use Rattle.gl_proof.specs.declared.claim.Claim.{Claim}
 use Rattle.gl_proof.specs.declared.proof.Proof.{Proof}
 use Rattle.gl_proof.specs.Text.{proof_text}
@@ -35,6 +35,7 @@ use Rattle.gl_answer.specs.Answer.{Answer, answer_of, AnswersHalt}
 use Rattle.gl_app.specs.Check.{IsCheck, IsProofChecked, check_promise, checked_answer}
 use Rattle.gl_answer.specs.Given.{HasAnswered, IsStopped}
 use Rattle.gl_app.specs.Score.{IsScore, IsScoreDay, score_promise}
+use Rattle.gl_app.proofs.Badges.{some_text}
 
 -- a first part of a first part is one
 part_of : (k count : ℕ) (whole : List ℕ) → (n : ℕ) × (take k (take count whole) ≡ take n whole)
@@ -45,7 +46,8 @@ part_of k count whole =
     ]
 
 -- a first part of one text or of another
-part_cut : (A B : Type 0) (text one other : List ℕ) (k count : ℕ) → (text ≡ take count one) ⊎ (A × B × (text ≡ take count other)) → (n : ℕ) × ((take k text ≡ take n one) ⊎ (A × B × (take k text ≡ take n other)))
+part_cut : (A B : Type 0) (text one other : List ℕ) (k count : ℕ) → (text ≡ take count one) ⊎ (A × B × (text ≡ take count other))
+    → (n : ℕ) × ((take k text ≡ take n one) ⊎ (A × B × (take k text ≡ take n other)))
 part_cut A B text one other k count (inl is) = let n = part_of k count one in (n.0, inl (ap (take k) is ∙ n.1))
 part_cut A B text one other k count (inr is) = let n = part_of k count other in (n.0, inr (is.0, is.1, ap (take k) is.2 ∙ n.1))
 
@@ -65,7 +67,8 @@ begun_part folder day text k begun =
     }
 
 -- `score` was stopped behind its tests
-pub score_stopped : (names : DayNames) (stewards : List StewardRules) (day : DayFiles) (x m y z : Told) (stop : DeskError) → OnlyReads None x m → IsScoreDay m.folder names day → OnlyReads None m y → IsDayStopped day names.proof y z stop → IsStopped (score_promise x.folder stewards names) x z stop
+pub score_stopped : (names : DayNames) (stewards : List StewardRules) (day : DayFiles) (x m y z : Told) (stop : DeskError) → OnlyReads None x m → IsScoreDay m.folder names day → OnlyReads None m y
+    → IsDayStopped day names.proof y z stop → IsStopped (score_promise x.folder stewards names) x z stop
 score_stopped names stewards day x m y z stop lists tested reads stopped =
     let all = reads_twice x m y lists reads in
     let part = part_after names.proof stopped.text x y z stop all stopped.appended in
@@ -83,12 +86,9 @@ score_stopped names stewards day x m y z stop lists tested reads stopped =
       faults = part.faults;
     }
 
--- a proof has a text
-some_text : (statements : List Statement) → proof_text Two statements ≡ [] → ⊥
-some_text statements none = cc
-
 -- `score` has its answer
-pub score_right : (names : DayNames) (stewards : List StewardRules) (day : DayFiles) (x m y z : Told) (sheet : List ℕ) → OnlyReads None x m → IsScoreDay m.folder names day → OnlyReads None m y → IsDayDone day stewards names.proof y z sheet → (text : List ℕ) × IsScore x.folder stewards names (record { status = Done; said = sheet; appended = text }) × HasGiven (Some names.proof) text x z
+pub score_right : (names : DayNames) (stewards : List StewardRules) (day : DayFiles) (x m y z : Told) (sheet : List ℕ) → OnlyReads None x m → IsScoreDay m.folder names day → OnlyReads None m y
+    → IsDayDone day stewards names.proof y z sheet → (text : List ℕ) × IsScore x.folder stewards names (record { status = Done; said = sheet; appended = text }) × HasGiven (Some names.proof) text x z
 score_right names stewards day x m y z sheet lists tested reads done =
     let all = reads_twice x m y lists reads in
     let text = proof_text Two (statements_of_all done.scored) in
@@ -120,7 +120,9 @@ score_right names stewards day x m y z sheet lists tested reads done =
     )
 
 -- `score` refuses a file
-pub score_refused : (names : DayNames) (stewards : List StewardRules) (x m y : Told) (halt : Halt) (result : Result code.Answer DeskError) → OnlyReads None x m → HasTested (IsScoreSeen names m.folder) (score_tests names) IsScoreRead (Err halt) → OnlyReads (halt_stop {X = DayFiles} (Err halt)) m y → AnswersHalt halt result → IfOk result (HasAnswered (score_promise x.folder stewards names) x y)
+pub score_refused : (names : DayNames) (stewards : List StewardRules) (x m y : Told) (halt : Halt) (result : Result code.Answer DeskError) → OnlyReads None x m
+    → HasTested (IsScoreSeen names m.folder) (score_tests names) IsScoreRead (Err halt) → OnlyReads (halt_stop {X = DayFiles} (Err halt)) m y → AnswersHalt halt result
+    → IfOk result (HasAnswered (score_promise x.folder stewards names) x y)
 score_refused names stewards x m y (Refused refusal) (Ok answer) lists tested reads same =
     let all = reads_twice x m y lists reads in
     let seen = subst (λ (f : Option FilesByName). HasTested {X = DayFiles} (IsScoreSeen names f) (score_tests names) IsScoreRead (Err (Refused refusal))) lists.folder tested in
@@ -130,19 +132,25 @@ score_refused names stewards x m y (Stopped stop) (Ok answer) lists tested reads
 score_refused names stewards x m y (Stopped stop) (Err error) lists tested reads same = tt
 
 -- what is said of the proof that was read
-pub proof_checked : (most : ℕ) (folder : Option FilesByName) (names : DayNames) (files : DayFiles) (proof : Proof) (claims : List Claim) (said : Checked) → HasTested (IsScoreSeen names folder) (check_tests most names) IsCheckRead (Ok (files, proof)) → claims ≡ proof.claims.items → IsDayChecked folder files (map statement_of claims) said → HasTested (IsScoreSeen names folder) (check_tests most names) (IsProofChecked folder) (Ok said)
+pub proof_checked : (most : ℕ) (folder : Option FilesByName) (names : DayNames) (files : DayFiles) (proof : Proof) (claims : List Claim) (said : Checked)
+    → HasTested (IsScoreSeen names folder) (check_tests most names) IsCheckRead (Ok (files, proof)) → claims ≡ proof.claims.items → IsDayChecked folder files (map statement_of claims) said
+    → HasTested (IsScoreSeen names folder) (check_tests most names) (IsProofChecked folder) (Ok said)
 proof_checked most folder names files proof claims said (seen, is, passes, read) are checked =
     (seen, is, passes, ((files, proof), read, subst (λ (l : List Claim). IsDayChecked folder files (map statement_of l) said) are checked))
 
-pub check_refused : (most : ℕ) (folder : Option FilesByName) (names : DayNames) (halt : Halt) → HasTested {X = DayFiles × Proof} (IsScoreSeen names folder) (check_tests most names) IsCheckRead (Err halt) → HasTested {X = Checked} (IsScoreSeen names folder) (check_tests most names) (IsProofChecked folder) (Err halt)
+pub check_refused : (most : ℕ) (folder : Option FilesByName) (names : DayNames) (halt : Halt)
+    → HasTested {X = DayFiles × Proof} (IsScoreSeen names folder) (check_tests most names) IsCheckRead (Err halt)
+    → HasTested {X = Checked} (IsScoreSeen names folder) (check_tests most names) (IsProofChecked folder) (Err halt)
 check_refused most folder names (Refused refusal) tested = tested
 check_refused most folder names (Stopped stop) tested = tt
 
-pub check_told : (folder : Option FilesByName) (names : DayNames) (said : Checked) (answer : Answer) → HasTested (IsScoreSeen names folder) (check_tests most_proof_bytes names) (IsProofChecked folder) (Ok said) → answer ≡ checked_answer said → IsCheck folder names answer
+pub check_told : (folder : Option FilesByName) (names : DayNames) (said : Checked) (answer : Answer)
+    → HasTested (IsScoreSeen names folder) (check_tests most_proof_bytes names) (IsProofChecked folder) (Ok said) → answer ≡ checked_answer said → IsCheck folder names answer
 check_told folder names said answer (seen, is, passes, found) same = (seen, is, inl (passes, (said, found, same)))
 
 -- `check` has its answer
-pub check_right : (names : DayNames) (x y : Told) (result : Result code.Answer DeskError) → IfOk result (λ answer. IsCheck x.folder names (answer_of answer)) → OnlyReads (stop_of result) x y → IfOk result (HasAnswered (check_promise x.folder names) x y)
+pub check_right : (names : DayNames) (x y : Told) (result : Result code.Answer DeskError) → IfOk result (λ answer. IsCheck x.folder names (answer_of answer)) → OnlyReads (stop_of result) x y
+    → IfOk result (HasAnswered (check_promise x.folder names) x y)
 check_right names x y (Ok answer) right reads =
     ([], right, record { written = record { appended = (refl, reads.folder, reads.outputs); said = reads.said; faults = reads.faults }; untouched = λ none. (reads.folder, reads.outputs) })
 check_right names x y (Err stop) right reads = tt

@@ -62,7 +62,10 @@ demo_document = record { utf8 = IsUtf8-from_is_utf8 task_text demo_utf8; reads =
 
 -- it passes all tests
 pub demo_table_passes : first_failed (tests demo_table) ≡ None
-unfolding toml_on_literals task_text demo_table tests plan_tests head_tests course_tests way_tests people_tests numbered_tests day_tests word_tests lists_tests start_tests pilot_tests part_tests zone_tests zones_tests finish_tests rules_tests entrant_tests entrants_tests day_of recent_day kind_of list_word_of grid_at grid_of_text is_same_vector other_point number_of day_number is_in_calendar angle_of latitude_of longitude_of place_of_text signed_by written_vector written_x written_y written_z product scaled with_sign_of half_turn_sine quarter_sine radians sine_sum sine_term written_cosine written_sine
+unfolding toml_on_literals task_text demo_table tests plan_tests head_tests course_tests way_tests people_tests numbered_tests day_tests word_tests lists_tests start_tests pilot_tests part_tests
+    zone_tests zones_tests finish_tests rules_tests entrant_tests entrants_tests day_of recent_day kind_of list_word_of grid_at grid_of_text is_same_vector other_point number_of day_number
+    is_in_calendar angle_of latitude_of longitude_of place_of_text signed_by written_vector written_x written_y written_z product scaled with_sign_of half_turn_sine quarter_sine radians sine_sum
+    sine_term written_cosine written_sine
 demo_table_passes = refl
 
 -- and names no airspace
@@ -131,7 +134,8 @@ unfolding generated_files
 task_there number folder has = has.each 0 (task_file_name, task_text) (omega arith)
 
 -- the tests of `score` refuse no file of a generated day
-not_refused : (text proof air : Option (List ℕ)) (refusal : Refusal) → text ≡ Some task_text → proof ≡ None → FirstFails (score_tests demo_names (record { task = record { text = text; airspace = air }; proof = proof })) refusal → ⊥
+not_refused : (text proof air : Option (List ℕ)) (refusal : Refusal) → text ≡ Some task_text → proof ≡ None
+    → FirstFails (score_tests demo_names (record { task = record { text = text; airspace = air }; proof = proof })) refusal → ⊥
 not_refused None proof air refusal there new fails = absurd (cc)
 not_refused (Some text) (Some bytes) air refusal there new fails = absurd (cc)
 not_refused (Some text) None air refusal there new (inl (same, (none, why))) = cc
@@ -140,6 +144,7 @@ not_refused (Some text) None air refusal there new (inr (listed, inr (unlisted, 
     let e : text ≡ task_text = cc in
     text_passes task_file_name air refusal (subst (λ (t : List ℕ). FirstFails (task_tests task_file_name (record { text = Some t; airspace = air })) refusal) e fails)
 
-pub demo_not_refused : (number : ℕ) (folder : FilesByName) (seen : ScoreSeen) (refusal : Refusal) → HasJust (generated_files number) folder → IsScoreSeen demo_names (Some folder) seen → FirstFails (score_tests demo_names seen) refusal → ⊥
+pub demo_not_refused : (number : ℕ) (folder : FilesByName) (seen : ScoreSeen) (refusal : Refusal) → HasJust (generated_files number) folder → IsScoreSeen demo_names (Some folder) seen
+    → FirstFails (score_tests demo_names seen) refusal → ⊥
 demo_not_refused number folder seen refusal has is fails =
     not_refused seen.task.text seen.proof seen.task.airspace refusal (sym is.task.text ∙ task_there number folder has) (no_proof number folder seen.proof has is.proof) fails

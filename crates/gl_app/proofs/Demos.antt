@@ -42,7 +42,8 @@ pub record ScoredThere (stewards : List StewardRules) (number : ℕ) (folder : F
   pub names_are : names ≡ demo_names
   pub is : IsScore (Some folder) stewards names answer
 
-done_so : (folder : FilesByName) (stewards : List StewardRules) (number : ℕ) (scored : Answer) → HasJust (generated_files number) folder → IsScore (Some folder) stewards demo_names scored → scored.status ≡ status.Done
+done_so : (folder : FilesByName) (stewards : List StewardRules) (number : ℕ) (scored : Answer) → HasJust (generated_files number) folder → IsScore (Some folder) stewards demo_names scored
+    → scored.status ≡ status.Done
 done_so folder stewards number scored has (seen, there, inl (passes, (day, read, is))) = is.ended
 done_so folder stewards number scored has (seen, there, inr (refusal, fails, same)) = absurd (demo_not_refused number folder seen refusal has there fails)
 
@@ -52,13 +53,15 @@ demo_done stewards number folder names scored there =
     done_so folder stewards number scored there.has (subst (λ (n : DayNames). IsScore (Some folder) stewards n scored) there.names_are there.is)
 
 -- and its sheet is announced with the count of claims
-announced_so : (folder : FilesByName) (stewards : List StewardRules) (number : ℕ) (scored answer : Answer) (claims : ℕ) → HasJust (generated_files number) folder → IsScore (Some folder) stewards demo_names scored → IsCountOf scored.appended claims → answer ≡ saying status.Done (scored.said ++ claims_line claims) → IsDemo stewards number answer
+announced_so : (folder : FilesByName) (stewards : List StewardRules) (number : ℕ) (scored answer : Answer) (claims : ℕ) → HasJust (generated_files number) folder
+    → IsScore (Some folder) stewards demo_names scored → IsCountOf scored.appended claims → answer ≡ saying status.Done (scored.said ++ claims_line claims) → IsDemo stewards number answer
 announced_so folder stewards number scored answer claims has (seen, there, inl (passes, (day, read, is))) counted says =
     (folder, has, day, (seen, there, passes, read), record { scored = scored; is = is; claims = claims; counted = counted; says = says })
 announced_so folder stewards number scored answer claims has (seen, there, inr (refusal, fails, same)) counted says =
     absurd (demo_not_refused number folder seen refusal has there fails)
 
-pub demo_announced : (stewards : List StewardRules) (number : ℕ) (folder : FilesByName) (names : DayNames) (scored answer : Answer) (claims : ℕ) → ScoredThere stewards number folder names scored → IsCountOf scored.appended claims → answer ≡ saying status.Done (scored.said ++ claims_line claims) → IsDemo stewards number answer
+pub demo_announced : (stewards : List StewardRules) (number : ℕ) (folder : FilesByName) (names : DayNames) (scored answer : Answer) (claims : ℕ) → ScoredThere stewards number folder names scored
+    → IsCountOf scored.appended claims → answer ≡ saying status.Done (scored.said ++ claims_line claims) → IsDemo stewards number answer
 demo_announced stewards number folder names scored answer claims there counted says =
     announced_so folder stewards number scored answer claims there.has (subst (λ (n : DayNames). IsScore (Some folder) stewards n scored) there.names_are there.is) counted says
 
@@ -67,14 +70,17 @@ grown_new None text after new grows = ap (λ (o : Option (Option (List ℕ))). u
 grown_new (Some bytes) text after new grows = absurd (cc)
 
 -- the proof stands in the folder
-taken : (before files : FilesByName) (name text : List ℕ) (statements : List Statement) → before name ≡ None → IsTextOf Two text statements → FileTakes (Some before) (Some files) name text → files name ≡ Some text
+taken : (before files : FilesByName) (name text : List ℕ) (statements : List Statement) → before name ≡ None → IsTextOf Two text statements → FileTakes (Some before) (Some files) name text
+    → files name ≡ Some text
 taken before files name text statements new is (inl grows) = grown_new (before name) text (files name) new grows
 taken before files name text statements new is (inr (none, same)) =
     let e : [] ≡ proof_text Two statements = sym none ∙ is.is in
     absurd (cc)
 
 -- the folder behind a `score` that ended with a sheet
-pub scored_folder : (most : ℕ) (x y : Told) (before files : FilesByName) (stewards : List StewardRules) (names : DayNames) (answer : Answer) → x.folder ≡ Some before → y.folder ≡ Some files → IsScore (Some before) stewards names answer → answer.status ≡ status.Done → HasGiven (Some names.proof) answer.appended x y → ((bytes : List ℕ) → files names.proof ≡ Some bytes → length bytes ≤ most) → (there : IsScoredFolder most files names) × (there.answer.appended ≡ answer.appended)
+pub scored_folder : (most : ℕ) (x y : Told) (before files : FilesByName) (stewards : List StewardRules) (names : DayNames) (answer : Answer) → x.folder ≡ Some before → y.folder ≡ Some files
+    → IsScore (Some before) stewards names answer → answer.status ≡ status.Done → HasGiven (Some names.proof) answer.appended x y
+    → ((bytes : List ℕ) → files names.proof ≡ Some bytes → length bytes ≤ most) → (there : IsScoredFolder most files names) × (there.answer.appended ≡ answer.appended)
 scored_folder most x y before files stewards names answer x_is y_is scored done given small =
     let ended = score_ended before stewards names answer scored done in
     let wrote = given.written.appended in
@@ -90,7 +96,8 @@ scored_folder most x y before files stewards names answer x_is y_is scored done 
         small = small answer.appended proof;
         proof = proof;
         others = λ other differs.
-            let same : ◌≡◌ {A = Option (Option (List ℕ))} (Some (files other)) (Some (before other)) = sym (ap (λ (f : Option FilesByName). file_of f other) y_is) ∙ (wrote.2 other differs).1 ∙ ap (λ (f : Option FilesByName). file_of f other) x_is in
+            let same : ◌≡◌ {A = Option (Option (List ℕ))} (Some (files other)) (Some (before other)) = sym (ap (λ (f : Option FilesByName). file_of f other) y_is) ∙ (wrote.2 other differs).1
+            ∙ ap (λ (f : Option FilesByName). file_of f other) x_is in
             ap (λ (o : Option (Option (List ℕ))). unwrap_or o None) same;
       },
       refl,

@@ -4,8 +4,7 @@ use Rattle.gl_desk.specs.Desk.{FilesByName}
 use Rattle.gl_proof.specs.Text.{proof_text}
 use Rattle.gl_proof.specs.declared.version.Version.TheVariants.{Two}
 use Rattle.gl_day.specs.Flight.{StewardRules}
-use Rattle.gl_day.specs.Laws.Sheets.{some_sheet}
-use Rattle.gl_day.proofs.Walked.{zip-length}
+use Rattle.gl_day.proofs.Sheets.{some_sheet}
 use Rattle.gl_files.specs.declared.day_files.DayFiles.{DayFiles}
 use Rattle.gl_tally.specs.Scored.{IsScored, flights_of_all, statements_of_all}
 use Rattle.gl_tally.proofs.Completing.{IsPartOfScored}
@@ -13,6 +12,7 @@ use Rattle.gl_tally.proofs.Flights.{all_texts, length-flights}
 use Rattle.gl_answer.specs.declared.status.Status.TheVariants.{Done}
 use Rattle.gl_answer.specs.Answer.{Answer}
 use Rattle.gl_app.specs.Score.{IsDayScored}
+use Rattle.gl_text.proofs.Lists.{AllZip-length}
 
 -- an answer of a day, of which a text is a first part
 pub record IsPartOfDay (folder : Option FilesByName) (day : DayFiles) (stewards : List StewardRules) (text : List ℕ) : Type 0 where
@@ -25,7 +25,7 @@ pub record IsPartOfDay (folder : Option FilesByName) (day : DayFiles) (stewards 
 pub part_of_day : (folder : Option FilesByName) (day : DayFiles) (stewards : List StewardRules) (text : List ℕ) → IsPartOfScored folder day stewards text → IsPartOfDay folder day stewards text
 part_of_day folder day stewards text part =
     let scored = part.scored in
-    let sheet = some_sheet day.task (flights_of_all scored) (length-flights scored ∙ sym (zip-length (IsScored folder day stewards) day.task.entrants scored part.each)) in
+    let sheet = some_sheet day.task (flights_of_all scored) (length-flights scored ∙ sym (AllZip-length (IsScored folder day stewards) day.task.entrants scored part.each)) in
     record {
       answer = record { status = Done; said = sheet.0; appended = proof_text Two (statements_of_all scored) };
       right = record {

@@ -45,18 +45,21 @@ lawful_of folder stewards (Series words) named = series_lawful folder words name
 lawful_of folder stewards (Demo number) named = demo_lawful folder stewards number
 
 -- a right answer has no status of a run that is stopped
-right_goes_on : (folder : Option FilesByName) (stewards : List StewardRules) (command : Option Command) (answer : Answer) → HasUnbrokenNames command → (promise_of folder stewards command).IsRight answer → stop_at answer.status ≡ None
+right_goes_on : (folder : Option FilesByName) (stewards : List StewardRules) (command : Option Command) (answer : Answer) → HasUnbrokenNames command
+    → (promise_of folder stewards command).IsRight answer → stop_at answer.status ≡ None
 right_goes_on folder stewards None answer named right = ap (λ (a : Answer). stop_at a.status) right
 right_goes_on folder stewards (Some command) answer named right = result_goes_on answer.status ((lawful_of folder stewards command named).result answer right)
 
 -- it ends with the usage line exactly where the words are of no form
-pub right_words : (folder : Option FilesByName) (stewards : List StewardRules) (command : Option Command) (answer : Answer) → HasUnbrokenNames command → (promise_of folder stewards command).IsRight answer → (answer.status ≡ Words) ↔ IsNone command
+pub right_words : (folder : Option FilesByName) (stewards : List StewardRules) (command : Option Command) (answer : Answer) → HasUnbrokenNames command
+    → (promise_of folder stewards command).IsRight answer → (answer.status ≡ Words) ↔ IsNone command
 right_words folder stewards None answer named right = (λ _. refl, λ _. ap (λ (a : Answer). a.status) right)
 right_words folder stewards (Some command) answer named right =
     (λ same. absurd (result_no_words answer.status ((lawful_of folder stewards command named).result answer right) same), λ none. absurd (cc))
 
 -- files that pass the tests of a command give a result
-pub right_passes : (folder : Option FilesByName) (stewards : List StewardRules) (command : Option Command) (answer : Answer) → HasUnbrokenNames command → (promise_of folder stewards command).Passes → (promise_of folder stewards command).IsRight answer → (answer.status ≢ Words) × (answer.status ≢ Refused)
+pub right_passes : (folder : Option FilesByName) (stewards : List StewardRules) (command : Option Command) (answer : Answer) → HasUnbrokenNames command → (promise_of folder stewards command).Passes
+    → (promise_of folder stewards command).IsRight answer → (answer.status ≢ Words) × (answer.status ≢ Refused)
 right_passes folder stewards None answer named passes right = absurd passes
 right_passes folder stewards (Some command) answer named passes right = (
   result_no_words answer.status ((lawful_of folder stewards command named).result answer right),
@@ -64,14 +67,16 @@ right_passes folder stewards (Some command) answer named passes right = (
 )
 
 -- a proof of this program's own is accepted
-pub right_accepted : (folder : Option FilesByName) (stewards : List StewardRules) (command : Option Command) (answer : Answer) → HasUnbrokenNames command → (promise_of folder stewards command).ChecksOwn → (promise_of folder stewards command).IsRight answer → answer.status ≡ Done
+pub right_accepted : (folder : Option FilesByName) (stewards : List StewardRules) (command : Option Command) (answer : Answer) → HasUnbrokenNames command
+    → (promise_of folder stewards command).ChecksOwn → (promise_of folder stewards command).IsRight answer → answer.status ≡ Done
 right_accepted folder stewards None answer named own right = absurd own
 right_accepted folder stewards (Some command) answer named own right = (lawful_of folder stewards command named).own own answer right
 
 usage_is_line : IsLine usage_line
 usage_is_line = line_of (take (length usage_line - 1) usage_line) refl
 
-answer_line : (folder : Option FilesByName) (stewards : List StewardRules) (command : Option Command) (answer : Answer) → HasUnbrokenNames command → (promise_of folder stewards command).IsRight answer → answer.status ≢ Done → IsLine answer.said
+answer_line : (folder : Option FilesByName) (stewards : List StewardRules) (command : Option Command) (answer : Answer) → HasUnbrokenNames command → (promise_of folder stewards command).IsRight answer
+    → answer.status ≢ Done → IsLine answer.said
 answer_line folder stewards None answer named right unless = subst (λ (a : Answer). IsLine a.said) (sym right) usage_is_line
 answer_line folder stewards (Some command) answer named right unless = (lawful_of folder stewards command named).line answer right unless
 
@@ -80,7 +85,8 @@ if_none None holds = holds
 if_none (Some x) holds = tt
 
 -- without a result one line was said
-pub said_line : (folder : Option FilesByName) (stewards : List StewardRules) (command : Option Command) (answer : Answer) (before after : Option (List ℕ)) → HasUnbrokenNames command → (promise_of folder stewards command).IsRight answer → after ≡ followed_by before answer.said → IfNone (stop_at answer.status) (answer.status ≢ Done → SaidLine before after)
+pub said_line : (folder : Option FilesByName) (stewards : List StewardRules) (command : Option Command) (answer : Answer) (before after : Option (List ℕ)) → HasUnbrokenNames command
+    → (promise_of folder stewards command).IsRight answer → after ≡ followed_by before answer.said → IfNone (stop_at answer.status) (answer.status ≢ Done → SaidLine before after)
 said_line folder stewards command answer before after named right told =
     if_none (stop_at answer.status)
     (λ unless. (answer.said, answer_line folder stewards command answer named right unless, told))
@@ -97,7 +103,9 @@ appended_then (Some file) text x y z written folder outputs = (
 )
 
 -- the answer was said, once its text was appended
-pub ends_said : (folder : Option FilesByName) (stewards : List StewardRules) (command : Option Command) (answer : Answer) (x y z : Told) → HasUnbrokenNames command → (promise_of folder stewards command).IsRight answer → HasGiven (promise_of folder stewards command).target answer.appended x y → z.said ≡ followed_by y.said answer.said → z.folder ≡ y.folder → z.outputs ≡ y.outputs → Ends (promise_of folder stewards command) answer.status x z
+pub ends_said : (folder : Option FilesByName) (stewards : List StewardRules) (command : Option Command) (answer : Answer) (x y z : Told) → HasUnbrokenNames command
+    → (promise_of folder stewards command).IsRight answer → HasGiven (promise_of folder stewards command).target answer.appended x y → z.said ≡ followed_by y.said answer.said → z.folder ≡ y.folder
+    → z.outputs ≡ y.outputs → Ends (promise_of folder stewards command) answer.status x z
 ends_said folder stewards command answer x y z named right given said folder_same outputs_same =
     let written = given.written in
     let promise = promise_of folder stewards command in
@@ -114,7 +122,8 @@ ends_said folder stewards command answer x y z named right given said folder_sam
     )
 
 -- a first part of it was said
-pub stops_saying : (promise : Promise) (answer : Answer) (n : ℕ) (x y z : Told) → promise.IsRight answer → HasGiven promise.target answer.appended x y → z.said ≡ followed_by y.said (take n answer.said) → z.folder ≡ y.folder → z.outputs ≡ y.outputs → Stops promise x z
+pub stops_saying : (promise : Promise) (answer : Answer) (n : ℕ) (x y z : Told) → promise.IsRight answer → HasGiven promise.target answer.appended x y
+    → z.said ≡ followed_by y.said (take n answer.said) → z.folder ≡ y.folder → z.outputs ≡ y.outputs → Stops promise x z
 stops_saying promise answer n x y z right given said folder_same outputs_same =
     let written = given.written in
     let target = promise.target in
@@ -151,12 +160,14 @@ given_part promise x z lawful gave =
       },
     )
 
-begun_right : (folder : Option FilesByName) (stewards : List StewardRules) (command : Option Command) (x z : Told) → HasUnbrokenNames command → GivesBegun (promise_of folder stewards command) x z → Stops (promise_of folder stewards command) x z
+begun_right : (folder : Option FilesByName) (stewards : List StewardRules) (command : Option Command) (x z : Told) → HasUnbrokenNames command → GivesBegun (promise_of folder stewards command) x z
+    → Stops (promise_of folder stewards command) x z
 begun_right folder stewards None x z named gave = absurd gave.begun
 begun_right folder stewards (Some command) x z named gave = given_part (promise_of folder stewards (Some command)) x z (lawful_of folder stewards command named) gave
 
 -- a command that is stopped before its answer gave nothing, or a first part of a right answer
-pub stopped_right : (folder : Option FilesByName) (stewards : List StewardRules) (command : Option Command) (x z : Told) (stop : DeskError) → HasUnbrokenNames command → IsStopped (promise_of folder stewards command) x z stop → Stops (promise_of folder stewards command) x z
+pub stopped_right : (folder : Option FilesByName) (stewards : List StewardRules) (command : Option Command) (x z : Told) (stop : DeskError) → HasUnbrokenNames command
+    → IsStopped (promise_of folder stewards command) x z stop → Stops (promise_of folder stewards command) x z
 stopped_right folder stewards command x z stop named stopped = elim stopped.gave [
   | inl none ↦ inl none
   | inr begun ↦ begun_right folder stewards command x z named begun

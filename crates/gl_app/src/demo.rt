@@ -4,7 +4,7 @@ ghost use Rattle.gl_words.specs.DayNames.{names_seen};
 ghost use Rattle.gl_answer.specs.Answer.{answer_of};
 ghost use Rattle.gl_app.specs.Check.{IsScoredFolder};
 ghost use Rattle.gl_app.specs.Demo.{IsCountOf, IsDemo, claims_line};
-ghost use Rattle.gl_app.specs.Shelf.{folder_on};
+ghost use Rattle.gl_app.specs.Code.Shelf.{folder_on};
 
 use crate::check::check_proof;
 use crate::score::score;

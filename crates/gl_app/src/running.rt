@@ -22,7 +22,7 @@ use gl_desk::{Desk, DeskError, Name};
 use gl_flights::near::near;
 use gl_flights::near_check::near_check;
 use gl_flights::series::series;
-use gl_flights::{Course, answer_of_file, replay_schedule};
+use gl_flights::{Question, answer_of_file, replay_schedule};
 use gl_goal::AnyGoal;
 use gl_plain::Found;
 use gl_pool::Gate;
@@ -51,15 +51,20 @@ fn answer_to_command<D: Desk, S: Search>(
         ≡ map (λ s. steward_rules (opening s) (fed s) (owed s)) stewards.old.items }
 {
     match command {
-        Command::Free(file) => answer_of_file(alloc, desk, Course::Free, file),
-        Command::Triangle(file) => answer_of_file(alloc, desk, Course::Triangle, file),
+        Command::Free(file) => answer_of_file(alloc, desk, Question::Free, file),
+        Command::Triangle(file) => answer_of_file(alloc, desk, Question::Triangle, file),
         Command::Score(day) => score(alloc, desk, search, day, stewards),
         Command::Check(day) => check(alloc, desk, day),
         Command::Replay(words) => replay_schedule(alloc, desk, words),
         Command::Near(words) => near(alloc, desk, words),
         Command::NearCheck(words) => near_check(alloc, desk, words),
         Command::Point(words) => {
-            answer_of_file(alloc, desk, Course::Point(words.place.place), words.flight)
+            answer_of_file(
+                alloc,
+                desk,
+                Question::Point(words.place.place),
+                words.flight,
+            )
         }
         Command::Badge(words) => badge(alloc, desk, words),
         Command::BadgeCheck(words) => badge_check(alloc, desk, words),

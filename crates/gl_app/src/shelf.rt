@@ -17,7 +17,7 @@ impl Shelf {
     ghost use Rattle.std.specs.Map.{keys_of};
     ghost use Rattle.std.specs.Option.{option_copied};
     ghost use Rattle.gl_desk.specs.MemDesk.{all_differ, HoldsFiles};
-    ghost use Rattle.gl_app.specs.Shelf.{folder_on, said_on, outputs_on};
+    ghost use Rattle.gl_app.specs.Code.Shelf.{folder_on, said_on, outputs_on};
 
     /// A shelf with these files. The only error is want of memory.
     pub fn new(alloc: Global, files: Vec<(Name, Vec<u8>)>) -> Result<Shelf, AllocError>
@@ -39,7 +39,7 @@ impl Shelf {
 }
 
 impl Desk for Shelf {
-    ghost use Rattle.gl_app.specs.Shelf.{told_on};
+    ghost use Rattle.gl_app.specs.Code.Shelf.{told_on};
 
     ghost told = { told_on };
 

@@ -9,8 +9,8 @@ use Rattle.gl_sphere.specs.declared.place.Vec3.{Vec3}
 use Rattle.gl_igc.specs.declared.fix.Fix.{Fix}
 use Rattle.gl_goal.specs.Area.{area_goal}
 use Rattle.gl_goal.specs.Free.{numbers_from}
-use Rattle.gl_goal.specs.Laws.Free.{get_or-numbers_from, length-numbers_from}
-use Rattle.gl_goal.specs.Rule.{IsInTimeOrder, IsLegal, IsTuple, chosen}
+use Rattle.gl_goal.specs.Lemmas.Free.{get_or-numbers_from, length-numbers_from}
+use Rattle.gl_goal.specs.Goal.{IsInTimeOrder, IsLegal, IsTuple, chosen}
 use Rattle.gl_badge.specs.Course.{IsFlown, is_near, numbers_near}
 
 abbrev AreNearEach : List Fix → List Vec3 → List ℕ → Type 0
@@ -42,7 +42,8 @@ cons-dropped p x xs dropped = cc
 differ : false ≡ true → ⊥
 differ same = absurd (cc)
 
-kept-first : (p : ℕ → Bool) (x : ℕ) (xs : List ℕ) (number : ℕ) → p number ≡ true → ((place : ℕ) → place < length xs → get_or xs place 0 ≡ number → IsPlaced (filter p xs) number) → (place : ℕ) → place < length (x ∷ xs) → get_or (x ∷ xs) place 0 ≡ number → (p x ≡ true) ⊎ (p x ≡ false) → IsPlaced (filter p (x ∷ xs)) number
+kept-first : (p : ℕ → Bool) (x : ℕ) (xs : List ℕ) (number : ℕ) → p number ≡ true → ((place : ℕ) → place < length xs → get_or xs place 0 ≡ number → IsPlaced (filter p xs) number) → (place : ℕ)
+    → place < length (x ∷ xs) → get_or (x ∷ xs) place 0 ≡ number → (p x ≡ true) ⊎ (p x ≡ false) → IsPlaced (filter p (x ∷ xs)) number
 kept-first p x xs number passes rest zero within there (inl kept) =
     subst (λ (ns : List ℕ). IsPlaced ns number) (sym (cons-kept p x xs kept)) (record { place = 0; within = omega arith; there = there })
 kept-first p x xs number passes rest zero within there (inr dropped) = absurd (differ (sym dropped ∙ ap p there ∙ passes))
@@ -70,7 +71,8 @@ near-within fixes point number near = elim (slice_get_cases fixes number).1 [
 near-placed : (fixes : List Fix) (point : Vec3) (number : ℕ) → IsTrue (is_near point (slice_get fixes number)) → IsPlaced (numbers_near fixes point) number
 near-placed fixes point number near =
     let within = near-within fixes point number near in
-    kept-placed (λ i. is_near point (slice_get fixes i)) (numbers_from 0 (length fixes)) number near number (omega (arith, within, length-numbers_from 0 (length fixes))) (omega (arith, get_or-numbers_from 0 (length fixes) number 0 within))
+    kept-placed (λ i. is_near point (slice_get fixes i)) (numbers_from 0 (length fixes)) number near number (omega (arith, within, length-numbers_from 0 (length fixes)))
+    (omega (arith, get_or-numbers_from 0 (length fixes) number 0 within))
 
 -- fixes near the points are chosen by a tuple
 record IsChosen (fixes : List Fix) (points : List Vec3) (numbers : List ℕ) : Type 0 where
@@ -88,16 +90,19 @@ near-chosen fixes (point ∷ points) (number ∷ numbers) near =
     record { tuple = at.place ∷ rest.tuple; fits = (at.within, rest.fits); are = λ i. at.there i ∷ rest.are i }
 
 -- a legal choice of the goal of a course is a flight along it, and the other way round
-pub flown-legal : (fixes : List Fix) (points : List Vec3) (lists : List (List ℕ)) (start finish : Vec3) (tuple : List ℕ) → lists ≡ map (numbers_near fixes) points → IsLegal (area_goal fixes lists start finish 0) tuple → IsFlown fixes points
+pub flown-legal : (fixes : List Fix) (points : List Vec3) (lists : List (List ℕ)) (start finish : Vec3) (tuple : List ℕ) → lists ≡ map (numbers_near fixes) points
+    → IsLegal (area_goal fixes lists start finish 0) tuple → IsFlown fixes points
 unfolding area_goal
 flown-legal fixes points lists start finish tuple are legal =
     record {
       numbers = chosen lists tuple;
       in_order = legal.in_order;
-      near = subst (λ (ls : List (List ℕ)). AreNearEach fixes points (chosen ls tuple)) (sym are) (chosen-near fixes points tuple (subst (λ (ls : List (List ℕ)). IsTuple ls tuple) are legal.is_tuple));
+      near = subst (λ (ls : List (List ℕ)). AreNearEach fixes points (chosen ls tuple)) (sym are)
+          (chosen-near fixes points tuple (subst (λ (ls : List (List ℕ)). IsTuple ls tuple) are legal.is_tuple));
     }
 
-pub legal-flown : (fixes : List Fix) (points : List Vec3) (lists : List (List ℕ)) (start finish : Vec3) → lists ≡ map (numbers_near fixes) points → IsFlown fixes points → (tuple : List ℕ) × IsLegal (area_goal fixes lists start finish 0) tuple
+pub legal-flown : (fixes : List Fix) (points : List Vec3) (lists : List (List ℕ)) (start finish : Vec3) → lists ≡ map (numbers_near fixes) points → IsFlown fixes points
+    → (tuple : List ℕ) × IsLegal (area_goal fixes lists start finish 0) tuple
 unfolding area_goal
 legal-flown fixes points lists start finish are flown =
     let at = near-chosen fixes points flown.numbers flown.near in (

@@ -2,9 +2,9 @@
 use Rattle.std.proofs.Common.{◌≡◌, ◌∙◌, sym, ℕ, List, [], ◌∷◌, length, Some, arith}
 use Rattle.std.proofs.lemmas.Option.{slice_get_within}
 use Rattle.gl_igc.specs.declared.fix.Fix.{Fix}
-use Rattle.gl_goal.specs.Rule.{IsLegal, IsOptimum, IsTuple, value}
-use Rattle.gl_goal.specs.Laws.Chain.{named}
-use Rattle.gl_goal.specs.Laws.Free.{length-numbers_from}
+use Rattle.gl_goal.specs.Goal.{IsLegal, IsOptimum, IsTuple, value}
+use Rattle.gl_goal.specs.Lemmas.Chain.{named}
+use Rattle.gl_goal.specs.Lemmas.Free.{length-numbers_from}
 use Rattle.gl_badge.specs.Gain.{IsGain, IsGreatestGain, gain_goal, two_axes}
 use Rattle.gl_badge.proofs.Pairs.{two-legal, two-worth, two_places}
 

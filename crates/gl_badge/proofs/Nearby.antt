@@ -36,14 +36,16 @@ more : (p : ℕ → Bool) (count : ℕ) → filter p (numbers_from 0 (count + 1)
 more p count = ap (filter p) (numbers_next count) ∙ filter-append p (numbers_from 0 count) (count ∷ [])
 
 -- one fix more that is near
-pub near-more : (fixes : List Fix) (point : Vec3) (count : ℕ) (fix : Fix) (numbers pushed : List ℕ) → slice_get fixes count ≡ Some fix → nat_le (distance fix.at point) 50_000 ≡ true → pushed ≡ numbers ++ count ∷ [] → numbers ≡ near_before fixes point count → pushed ≡ near_before fixes point (count + 1)
+pub near-more : (fixes : List Fix) (point : Vec3) (count : ℕ) (fix : Fix) (numbers pushed : List ℕ) → slice_get fixes count ≡ Some fix → nat_le (distance fix.at point) 50_000 ≡ true
+    → pushed ≡ numbers ++ count ∷ [] → numbers ≡ near_before fixes point count → pushed ≡ near_before fixes point (count + 1)
 near-more fixes point count fix numbers pushed at near is before =
     let p : ℕ → Bool = λ i. is_near point (slice_get fixes i) in
     let here : p count ≡ true = ap (is_near point) at ∙ near in
     is ∙ ap (λ (ns : List ℕ). ns ++ count ∷ []) before ∙ ap (λ (ns : List ℕ). near_before fixes point count ++ ns) (sym (one_kept p count here)) ∙ sym (more p count)
 
 -- one that isn't
-pub near-same : (fixes : List Fix) (point : Vec3) (count : ℕ) (fix : Fix) (numbers : List ℕ) → slice_get fixes count ≡ Some fix → nat_le (distance fix.at point) 50_000 ≡ false → numbers ≡ near_before fixes point count → numbers ≡ near_before fixes point (count + 1)
+pub near-same : (fixes : List Fix) (point : Vec3) (count : ℕ) (fix : Fix) (numbers : List ℕ) → slice_get fixes count ≡ Some fix → nat_le (distance fix.at point) 50_000 ≡ false
+    → numbers ≡ near_before fixes point count → numbers ≡ near_before fixes point (count + 1)
 near-same fixes point count fix numbers at far before =
     let p : ℕ → Bool = λ i. is_near point (slice_get fixes i) in
     let here : p count ≡ false = ap (is_near point) at ∙ far in
@@ -55,7 +57,8 @@ AreReachedBefore fixes points count lists =
     All (IsReached fixes) (take count points) × (lists ≡ map (numbers_near fixes) (take count points))
 
 -- a point that no fix is near
-pub one-missed : (fixes : List Fix) (points : List Vec3) (count number : ℕ) (point : Vec3) (lists : List (List ℕ)) → count < length points → point ≡ get_or points count point → length lists ≡ number → numbers_near fixes point ≡ [] → AreReachedBefore fixes points count lists → IsMissed fixes points (number + 1)
+pub one-missed : (fixes : List Fix) (points : List Vec3) (count number : ℕ) (point : Vec3) (lists : List (List ℕ)) → count < length points → point ≡ get_or points count point → length lists ≡ number
+    → numbers_near fixes point ≡ [] → AreReachedBefore fixes points count lists → IsMissed fixes points (number + 1)
 one-missed fixes points count number point lists within at size none before =
     let long : length (take count points) ≡ count = omega (arith, length-take count points) in
     let same : number + 1 - 1 ≡ count = omega (arith, size, ap length before.1, length-map (take count points) (numbers_near fixes), long) in
@@ -68,7 +71,8 @@ one-missed fixes points count number point lists within at size none before =
     }
 
 -- one point more that a fix is near
-pub one-reached : (fixes : List Fix) (points : List Vec3) (count : ℕ) (point : Vec3) (list : List ℕ) (lists pushed : List (List ℕ)) → count < length points → point ≡ get_or points count point → list ≡ numbers_near fixes point → 0 < length list → pushed ≡ lists ++ list ∷ [] → AreReachedBefore fixes points count lists → AreReachedBefore fixes points (count + 1) pushed
+pub one-reached : (fixes : List Fix) (points : List Vec3) (count : ℕ) (point : Vec3) (list : List ℕ) (lists pushed : List (List ℕ)) → count < length points → point ≡ get_or points count point
+    → list ≡ numbers_near fixes point → 0 < length list → pushed ≡ lists ++ list ∷ [] → AreReachedBefore fixes points count lists → AreReachedBefore fixes points (count + 1) pushed
 one-reached fixes points count point list lists pushed within at list_is some is before =
     let near : List Fix → Vec3 → List ℕ = numbers_near in
     let reached : IsReached fixes (get_or points count point) = subst (IsReached fixes) at (omega (arith, some, ap length list_is)) in

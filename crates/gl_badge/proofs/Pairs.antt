@@ -5,22 +5,23 @@ use Rattle.std.proofs.lemmas.List.{same_lists}
 use Rattle.gl_box.specs.Cell.{Covers, ends, spans_of}
 use Rattle.gl_box.specs.Tuple.{places_of}
 use Rattle.gl_box.specs.Halves.{span_at}
-use Rattle.gl_box.specs.Laws.Held.{covers_at, length-covers}
-use Rattle.gl_box.specs.Laws.Spans.{get_or-places_of, length-places_of, length-spans_of, span_at-spans_of}
+use Rattle.gl_box.proofs.Held.{covers_at, length-covers}
+use Rattle.gl_box.proofs.Spans.{get_or-places_of, length-places_of, length-spans_of, span_at-spans_of}
 use Rattle.gl_box.specs.declared.cell.Cell.{Cell}
 use Rattle.gl_box.specs.declared.span.Span.{Span}
 use Rattle.gl_box.specs.declared.tuple.Tuple.{Tuple}
 use Rattle.gl_igc.specs.declared.fix.Fix.{Fix}
 use Rattle.gl_hull.specs.Box.{Box, fixes_in, hull_of}
-use Rattle.gl_goal.specs.Rule.{IsDisordered, IsInTimeOrder, IsLegal, IsTuple, chosen, fix_at, value, whole_cell}
+use Rattle.gl_goal.specs.Goal.{IsDisordered, IsInTimeOrder, IsLegal, IsTuple, chosen, fix_at, value, whole_cell}
 use Rattle.gl_goal.specs.Chain.{fixes_at, hulls_of}
 use Rattle.gl_goal.specs.Free.{numbers_from}
-use Rattle.gl_goal.specs.Laws.Chain.{get_or-fixes_at, length-fixes_at}
-use Rattle.gl_goal.specs.Laws.Free.{get_or-numbers_from, length-numbers_from}
-use Rattle.gl_goal.specs.Laws.Order.{length-tuple, length-whole, span_at-whole}
+use Rattle.gl_goal.specs.Lemmas.Chain.{get_or-fixes_at, length-fixes_at}
+use Rattle.gl_goal.specs.Lemmas.Free.{get_or-numbers_from, length-numbers_from}
+use Rattle.gl_goal.specs.Lemmas.Points.{length-tuple}
+use Rattle.gl_goal.proofs.Order.{length-whole, span_at-whole}
 use Rattle.gl_goal.proofs.FreeLosses.{filter_map-found}
 use Rattle.gl_badge.specs.Gain.{gain_goal, gain_over, greatest_gain, rise, two_axes}
-use Rattle.gl_badge.specs.Laws.Gain.{all-named}
+use Rattle.gl_badge.specs.Lemmas.Gain.{all-named}
 
 -- the number at a place of the numbers of all fixes
 number_at : (count place d : ℕ) → place < count → get_or (numbers_from 0 count) place d ≡ place
@@ -86,7 +87,8 @@ two_chosen count tuple fits =
     }
 
 -- what a tuple of two fixes is worth
-pub two-worth : (fixes : List Fix) (tuple : List ℕ) (from to : ℕ) (a b : Fix) → AreTwo (length fixes) tuple from to → slice_get fixes from ≡ Some a → slice_get fixes to ≡ Some b → value (gain_goal fixes) tuple ≡ rise a.alt b.alt
+pub two-worth : (fixes : List Fix) (tuple : List ℕ) (from to : ℕ) (a b : Fix) → AreTwo (length fixes) tuple from to → slice_get fixes from ≡ Some a → slice_get fixes to ≡ Some b
+    → value (gain_goal fixes) tuple ≡ rise a.alt b.alt
 unfolding gain_goal
 two-worth fixes tuple from to a b two a_is b_is =
     let both : fixes_at fixes (from ∷ to ∷ []) ≡ a ∷ b ∷ [] = λ i. cons_option (a_is i) (cons_option (b_is i) []) in
@@ -120,14 +122,18 @@ two-spans count cell a b covers =
     ∙ ap (map ends) (take-two cell.spans a b (omega (arith, cell.ten_spans)))
 
 -- the bound of a cell, by the hulls of its two spans
-pub two-bound : (fixes : List Fix) (cell : Cell) (a b : Span) (p q : Box) → Covers (whole_cell (two_axes (length fixes))) (spans_of cell) → p ≡ hull_of (fixes_in fixes (ends (get_or cell.spans 0 a))) → q ≡ hull_of (fixes_in fixes (ends (get_or cell.spans 1 b))) → rise p.alt.0 q.alt.1 ≡ greatest_gain (hulls_of fixes (two_axes (length fixes)) (spans_of cell))
+pub two-bound : (fixes : List Fix) (cell : Cell) (a b : Span) (p q : Box) → Covers (whole_cell (two_axes (length fixes))) (spans_of cell) → p ≡ hull_of (fixes_in fixes (ends (get_or cell.spans 0 a)))
+    → q ≡ hull_of (fixes_in fixes (ends (get_or cell.spans 1 b))) → rise p.alt.0 q.alt.1 ≡ greatest_gain (hulls_of fixes (two_axes (length fixes)) (spans_of cell))
 two-bound fixes cell a b p q covers p_is q_is =
-    let over : (span : Span) (box : Box) → box ≡ hull_of (fixes_in fixes (ends span)) → box ≡ hull_of (fixes_in (fixes_at fixes (numbers_from 0 (length fixes))) (ends span)) = λ span box is. is ∙ ap (λ (fs : List Fix). hull_of (fixes_in fs (ends span))) (sym (fixes_at-all fixes)) in
-    let boxes : p ∷ q ∷ [] ≡ hulls_of fixes (two_axes (length fixes)) (ends (get_or cell.spans 0 a) ∷ ends (get_or cell.spans 1 b) ∷ []) = λ i. over (get_or cell.spans 0 a) p p_is i ∷ over (get_or cell.spans 1 b) q q_is i ∷ [] in
+    let over : (span : Span) (box : Box) → box ≡ hull_of (fixes_in fixes (ends span)) → box ≡ hull_of (fixes_in (fixes_at fixes (numbers_from 0 (length fixes))) (ends span)) = λ span box is. is
+    ∙ ap (λ (fs : List Fix). hull_of (fixes_in fs (ends span))) (sym (fixes_at-all fixes)) in
+    let boxes : p ∷ q ∷ [] ≡ hulls_of fixes (two_axes (length fixes)) (ends (get_or cell.spans 0 a) ∷ ends (get_or cell.spans 1 b) ∷ []) =
+    λ i. over (get_or cell.spans 0 a) p p_is i ∷ over (get_or cell.spans 1 b) q q_is i ∷ [] in
     ap greatest_gain (boxes ∙ sym (ap (hulls_of fixes (two_axes (length fixes))) (two-spans (length fixes) cell a b covers)))
 
 -- a cell whose second span ends before its first one begins is disordered, and no other
-pub two-disordered : (count : ℕ) (cell : Cell) (a b : Span) → 1 ≤ count → Covers (whole_cell (two_axes count)) (spans_of cell) → (get_or cell.spans 1 b).hi < (get_or cell.spans 0 a).lo → IsDisordered (two_axes count) (spans_of cell)
+pub two-disordered : (count : ℕ) (cell : Cell) (a b : Span) → 1 ≤ count → Covers (whole_cell (two_axes count)) (spans_of cell) → (get_or cell.spans 1 b).hi < (get_or cell.spans 0 a).lo
+    → IsDisordered (two_axes count) (spans_of cell)
 two-disordered count cell a b some covers before =
     let low = ap (λ (s : ℕ × ℕ). s.0) (two-span_at count cell 0 a covers (omega arith)) in
     let high = ap (λ (s : ℕ × ℕ). s.1) (two-span_at count cell 1 b covers (omega arith)) in
@@ -139,10 +145,18 @@ two-disordered count cell a b some covers before =
       later = 1;
       apart = omega arith;
       within = omega arith;
-      above = omega (arith, before, low, high, two-fix_at count 0 (span_at (spans_of cell) 0).0 (omega arith) (omega (arith, low, first.ordered, first_in)), two-fix_at count 1 (span_at (spans_of cell) 1).1 (omega arith) (omega (arith, high, second_in)));
+      above = omega (
+        arith,
+        before,
+        low,
+        high,
+        two-fix_at count 0 (span_at (spans_of cell) 0).0 (omega arith) (omega (arith, low, first.ordered, first_in)),
+        two-fix_at count 1 (span_at (spans_of cell) 1).1 (omega arith) (omega (arith, high, second_in)),
+      );
     }
 
-pub two-in_order : (count : ℕ) (cell : Cell) (a b : Span) → 1 ≤ count → Covers (whole_cell (two_axes count)) (spans_of cell) → IsDisordered (two_axes count) (spans_of cell) → (get_or cell.spans 1 b).hi < (get_or cell.spans 0 a).lo
+pub two-in_order : (count : ℕ) (cell : Cell) (a b : Span) → 1 ≤ count → Covers (whole_cell (two_axes count)) (spans_of cell) → IsDisordered (two_axes count) (spans_of cell)
+    → (get_or cell.spans 1 b).hi < (get_or cell.spans 0 a).lo
 two-in_order count cell a b some covers disordered =
     let low = ap (λ (s : ℕ × ℕ). s.0) (two-span_at count cell 0 a covers (omega arith)) in
     let high = ap (λ (s : ℕ × ℕ). s.1) (two-span_at count cell 1 b covers (omega arith)) in
@@ -152,11 +166,21 @@ two-in_order count cell a b some covers disordered =
     let below : disordered.later < 2 = disordered.within in
     let later : disordered.later ≡ 1 = omega (arith, disordered.apart, below) in
     let earlier : disordered.earlier ≡ 0 = omega (arith, disordered.apart, below) in
-    let above : fix_at (two_axes count) 1 (span_at (spans_of cell) 1).1 < fix_at (two_axes count) 0 (span_at (spans_of cell) 0).0 = subst (λ (k : ℕ). fix_at (two_axes count) k (span_at (spans_of cell) k).1 < fix_at (two_axes count) 0 (span_at (spans_of cell) 0).0) later (subst (λ (k : ℕ). fix_at (two_axes count) disordered.later (span_at (spans_of cell) disordered.later).1 < fix_at (two_axes count) k (span_at (spans_of cell) k).0) earlier disordered.above) in
-    omega (arith, above, low, high, two-fix_at count 0 (span_at (spans_of cell) 0).0 (omega arith) (omega (arith, low, first.ordered, first_in)), two-fix_at count 1 (span_at (spans_of cell) 1).1 (omega arith) (omega (arith, high, second_in)))
+    let above : fix_at (two_axes count) 1 (span_at (spans_of cell) 1).1 < fix_at (two_axes count) 0 (span_at (spans_of cell) 0).0 =
+    subst (λ (k : ℕ). fix_at (two_axes count) k (span_at (spans_of cell) k).1 < fix_at (two_axes count) 0 (span_at (spans_of cell) 0).0) later
+    (subst (λ (k : ℕ). fix_at (two_axes count) disordered.later (span_at (spans_of cell) disordered.later).1 < fix_at (two_axes count) k (span_at (spans_of cell) k).0) earlier disordered.above) in
+    omega (
+      arith,
+      above,
+      low,
+      high,
+      two-fix_at count 0 (span_at (spans_of cell) 0).0 (omega arith) (omega (arith, low, first.ordered, first_in)),
+      two-fix_at count 1 (span_at (spans_of cell) 1).1 (omega arith) (omega (arith, high, second_in)),
+    )
 
 -- a tuple is legal exactly where its first fix isn't the later one
-pub two-legal : (fixes : List Fix) (tuple : List ℕ) (from to : ℕ) → IsTuple (two_axes (length fixes)) tuple → AreTwo (length fixes) tuple from to → (from ≤ to → IsLegal (gain_goal fixes) tuple) × (IsLegal (gain_goal fixes) tuple → from ≤ to)
+pub two-legal : (fixes : List Fix) (tuple : List ℕ) (from to : ℕ) → IsTuple (two_axes (length fixes)) tuple → AreTwo (length fixes) tuple from to
+    → (from ≤ to → IsLegal (gain_goal fixes) tuple) × (IsLegal (gain_goal fixes) tuple → from ≤ to)
 unfolding gain_goal
 two-legal fixes tuple from to fits two = (
   λ order. record { is_tuple = fits; in_order = subst IsInTimeOrder (sym two.chosen) (order, tt); allowed = refl },

@@ -4,52 +4,52 @@ use Rattle.std.specs.Prelude.{All, IsTrue}
 use Rattle.std.specs.List.{AllZip}
 use Rattle.std.proofs.lemmas.List.{length-take, map_push, take-append-drop, take_all, take_more}
 use Rattle.std.proofs.lemmas.List.Elements.{All-cons, All-head, All-tail}
-use Rattle.gl_day.proofs.Walked.{zip-push}
 use Rattle.gl_day.specs.declared.fault.Checked.{Checked}
 use Rattle.gl_day.specs.declared.fault.Checked.TheVariants.{Accepted, Refused}
 use Rattle.gl_day.specs.declared.fault.NotProved.{NotProved}
 use Rattle.gl_day.specs.Checked.{AreProved, Ends, GoesOn, IsNotProved}
-use Rattle.gl_day.specs.Expected.{Proves}
-use Rattle.gl_day.specs.Laws.Checks.{not_proved_more, proof_accepted}
-use Rattle.gl_day.specs.Laws.Statements.{AreShort, certificate_statement}
+use Rattle.gl_day.specs.Expected.{Proves, Expected}
+use Rattle.gl_day.proofs.Checks.{not_proved_more, proof_accepted}
+use Rattle.gl_day.proofs.Statements.{certificate_statement, AreShort}
 use Rattle.gl_igc.specs.declared.fix.Fix.{Fix}
 use Rattle.gl_igc.specs.declared.recording.Declared.{Declared}
 use Rattle.gl_igc.specs.declared.recording.Recording.{Recording}
 use Rattle.gl_goal.specs.Area.{area_goal}
 use Rattle.gl_goal.specs.Chain.{last_of}
 use Rattle.gl_goal.specs.Free.{free_goal}
-use Rattle.gl_goal.specs.Laws.Area.{area_goal-is_goal}
-use Rattle.gl_goal.specs.Laws.Free.{five_axes-named, free_goal-is_goal}
-use Rattle.gl_goal.specs.Laws.Optimum.{certificate_optimum}
+use Rattle.gl_goal.specs.Lemmas.Area.{area_goal-is_goal}
+use Rattle.gl_goal.specs.Lemmas.Free.{five_axes-named, free_goal-is_goal}
+use Rattle.gl_goal.proofs.Optimum.{certificate_optimum}
 use Rattle.gl_goal.specs.Lists.{AreLists, AreNamed}
-use Rattle.gl_goal.specs.Rule.{IsGoal, IsOptimum, Rule}
+use Rattle.gl_goal.specs.Goal.{IsGoal, IsOptimum, Goal}
 use Rattle.gl_proof.specs.declared.claim.Claim.{Claim}
-use Rattle.gl_proof.specs.declared.claim.ClaimKind.{ClaimKind}
 use Rattle.gl_proof.specs.Claim.{IsStatement, Statement, statement_of}
 use Rattle.gl_proof.specs.Number.{is_number}
 use Rattle.gl_sphere.specs.declared.place.Vec3.{Vec3}
 use Rattle.gl_badge.specs.declared.badge.Badge.{Badge}
-use Rattle.gl_badge.specs.declared.badge.Badge.TheVariants.{Distance, Gain, Goal}
+use Rattle.gl_badge.specs.declared.badge.Badge.TheVariants.{Distance, Gain, DeclaredGoal}
 use Rattle.gl_badge.specs.declared.claim.BadgeClaim.{BadgeClaim}
 use Rattle.gl_badge.specs.declared.shown.Course.{Course}
 use Rattle.gl_badge.specs.declared.shown.Course.TheVariants.{Undeclared, Long, Missed, Lists}
 use Rattle.gl_badge.specs.Claims.{AreBadgeClaims, distance_claim, gain_claim, goal_claims, goals_through, rule_of_claim, rules_of_claims}
 use Rattle.gl_badge.specs.Course.{IsCourseOf, course_points}
 use Rattle.gl_badge.specs.Gain.{gain_goal}
-use Rattle.gl_badge.specs.Laws.Gain.{gain_goal-is_goal, two_axes-named}
-use Rattle.gl_badge.specs.Named.{expected_of, kind_of, number_of}
+use Rattle.gl_badge.specs.Lemmas.Gain.{gain_goal-is_goal, two_axes-named}
+use Rattle.gl_badge.specs.Named.{expected_of, kind_of, number_of, expected_claim}
 use Rattle.gl_badge.specs.Proved.{IsBadgeChecked, IsBadgeFound}
 use Rattle.gl_badge.proofs.Courses.{course-lists}
 use Rattle.gl_badge.proofs.Totals.{not-missed}
+use Rattle.gl_text.proofs.Lists.{AllZip-push}
+use Rattle.gl_day.proofs.Written.{named_short}
 
 -- a goal whose lists name fixes
-pub record IsOver (fixes : List Fix) (rule : Rule) : Type 0 where
+pub record IsOver (fixes : List Fix) (rule : Goal) : Type 0 where
   pub is_goal : IsGoal rule
   pub named : All (AreNamed fixes) rule.axes
 
 -- claims of such goals
-abbrev pub AreOver : List Fix → List (Badge × Rule) → Type 0
-AreOver fixes claims = All (λ (claim : Badge × Rule). IsOver fixes claim.1) claims
+abbrev pub AreOver : List Fix → List (Badge × Goal) → Type 0
+AreOver fixes claims = All (λ (claim : Badge × Goal). IsOver fixes claim.1) claims
 
 none_over : (fixes : List Fix) → AreOver fixes []
 none_over fixes k d below = absurd (omega arith)
@@ -71,7 +71,7 @@ through_over : (fixes : List Fix) (lists : List (List ℕ)) (points : List Vec3)
 unfolding area_goal
 through_over fixes lists [] are = none_over fixes
 through_over fixes lists (start ∷ points) are =
-    All-cons (λ (claim : Badge × Rule). IsOver fixes claim.1) (Goal, area_goal fixes lists start (last_of start points) 0) []
+    All-cons (λ (claim : Badge × Goal). IsOver fixes claim.1) (DeclaredGoal, area_goal fixes lists start (last_of start points) 0) []
     (record { is_goal = area_goal-is_goal fixes lists start (last_of start points) 0 are; named = are.named })
     (none_over fixes)
 
@@ -83,51 +83,50 @@ course_over fixes declared (Lists lists points) is =
     through_over fixes (map (λ list. list.items) lists.items) points.items (course-lists fixes declared lists points is).0
 
 -- the badge claims have goals over the fixes
-pub claims_over : (recording : Recording) (claims : List (Badge × Rule)) → AreBadgeClaims recording claims → AreOver recording.fixes claims
+pub claims_over : (recording : Recording) (claims : List (Badge × Goal)) → AreBadgeClaims recording claims → AreOver recording.fixes claims
 claims_over recording claims are =
     let fixes = recording.fixes in
-    let P : Badge × Rule → Type 0 = λ claim. IsOver fixes claim.1 in
+    let P : Badge × Goal → Type 0 = λ claim. IsOver fixes claim.1 in
     subst (AreOver fixes) (sym are.all)
     (All-cons P (distance_claim fixes) (gain_claim fixes ∷ goal_claims fixes are.course) (distance_over fixes recording.some_fix)
     (All-cons P (gain_claim fixes) (goal_claims fixes are.course) (gain_over fixes recording.some_fix)
     (course_over fixes recording.declared are.course are.is)))
 
-short : (fixes : List Fix) (lists : List (List ℕ)) → length fixes ≤ 90_000 → All (AreNamed fixes) lists → AreShort lists
-short fixes lists most named = λ k d below j e inside.
-    let less : get_or (get_or lists k d) j e < length fixes = named k d below j e inside in
-    omega (arith, less, most)
-
 numbered : (badge : Badge) → IsTrue (is_number (number_of badge))
 numbered Distance = refl
 numbered Gain = refl
-numbered Goal = refl
+numbered DeclaredGoal = refl
 
 -- what proves such claims has a text
-statements : (fixes : List Fix) (claims : List (Badge × Rule)) (proved : List Statement) → length fixes ≤ 90_000 → AreOver fixes claims → AllZip Proves (expected_of claims) proved → All IsStatement proved
+statements : (fixes : List Fix) (claims : List (Badge × Goal)) (proved : List Statement) → length fixes ≤ 90_000 → AreOver fixes claims → AllZip Proves (expected_of claims) proved
+    → All IsStatement proved
 statements fixes [] [] most over each = λ k d below. absurd (omega arith)
 statements fixes [] (s ∷ proved) most over each = absurd each
 statements fixes (c ∷ claims) [] most over each = absurd each
 statements fixes (c ∷ claims) (s ∷ proved) most over each =
-    let first = All-head (λ (claim : Badge × Rule). IsOver fixes claim.1) c claims over in
+    let first = All-head (λ (claim : Badge × Goal). IsOver fixes claim.1) c claims over in
     All-cons IsStatement s proved
-    (certificate_statement (number_of c.0) (kind_of c.0) c.1 s (numbered c.0) first.is_goal (short fixes c.1.axes most first.named) each.0)
-    (statements fixes claims proved most (All-tail (λ (claim : Badge × Rule). IsOver fixes claim.1) c claims over) each.1)
+    (certificate_statement (number_of c.0) (kind_of c.0) c.1 s (numbered c.0) first.is_goal (named_short fixes c.1.axes most first.named) each.0)
+    (statements fixes claims proved most (All-tail (λ (claim : Badge × Goal). IsOver fixes claim.1) c claims over) each.1)
 
-pub badge_statements : (recording : Recording) (claims : List (Badge × Rule)) (proved : List Statement) → AreBadgeClaims recording claims → AllZip Proves (expected_of claims) proved → All IsStatement proved
+pub badge_statements : (recording : Recording) (claims : List (Badge × Goal)) (proved : List Statement) → AreBadgeClaims recording claims → AllZip Proves (expected_of claims) proved
+    → All IsStatement proved
 badge_statements recording claims proved are each =
     statements recording.fixes claims proved recording.at_most_90000 (claims_over recording claims are) each
 
 -- and their totals are the optima
-optima : (fixes : List Fix) (claims : List (Badge × Rule)) (proved : List Claim) → AreOver fixes claims → AllZip Proves (expected_of claims) (map statement_of proved) → AllZip (λ claim total. IsOptimum claim.1 total) claims (map (λ p. p.total) proved)
+optima : (fixes : List Fix) (claims : List (Badge × Goal)) (proved : List Claim) → AreOver fixes claims → AllZip Proves (expected_of claims) (map statement_of proved)
+    → AllZip (λ claim total. IsOptimum claim.1 total) claims (map (λ p. p.total) proved)
 optima fixes [] [] over each = tt
 optima fixes [] (p ∷ proved) over each = absurd each
 optima fixes (c ∷ claims) [] over each = absurd each
 optima fixes (c ∷ claims) (p ∷ proved) over each =
-    let first = All-head (λ (claim : Badge × Rule). IsOver fixes claim.1) c claims over in
+    let first = All-head (λ (claim : Badge × Goal). IsOver fixes claim.1) c claims over in
     let s = statement_of p in
-    (certificate_optimum c.1 s.total s.fixes s.boxes first.is_goal each.0.certificate, optima fixes claims proved (All-tail (λ (claim : Badge × Rule). IsOver fixes claim.1) c claims over) each.1)
+    (certificate_optimum c.1 s.total s.fixes s.boxes first.is_goal each.0.certificate, optima fixes claims proved (All-tail (λ (claim : Badge × Goal). IsOver fixes claim.1) c claims over) each.1)
 
-pub badge_optima : (recording : Recording) (claims : List (Badge × Rule)) (proved : List Claim) → AreBadgeClaims recording claims → AllZip Proves (expected_of claims) (map statement_of proved) → AllZip (λ claim total. IsOptimum claim.1 total) claims (map (λ p. p.total) proved)
+pub badge_optima : (recording : Recording) (claims : List (Badge × Goal)) (proved : List Claim) → AreBadgeClaims recording claims → AllZip Proves (expected_of claims) (map statement_of proved)
+    → AllZip (λ claim total. IsOptimum claim.1 total) claims (map (λ p. p.total) proved)
 badge_optima recording claims proved are each = optima recording.fixes claims proved (claims_over recording claims are) each
 
 -- what is known of a course gives one list of claims
@@ -151,25 +150,27 @@ course_once fixes (Some declared) (Lists lists points) (Lists others through) is
     λ i. goals_through fixes (same_lists i) (same_points i)
 
 -- a recording has one list of badge claims
-pub badge_claims-once : (recording : Recording) (a b : List (Badge × Rule)) → AreBadgeClaims recording a → AreBadgeClaims recording b → a ≡ b
+pub badge_claims-once : (recording : Recording) (a b : List (Badge × Goal)) → AreBadgeClaims recording a → AreBadgeClaims recording b → a ≡ b
 badge_claims-once recording a b are_a are_b =
     are_a.all
-    ∙ ap (λ (claims : List (Badge × Rule)). distance_claim recording.fixes ∷ gain_claim recording.fixes ∷ claims) (course_once recording.fixes recording.declared are_a.course are_b.course are_a.is are_b.is)
+    ∙ ap (λ (claims : List (Badge × Goal)). distance_claim recording.fixes ∷ gain_claim recording.fixes ∷ claims)
+    (course_once recording.fixes recording.declared are_a.course are_b.course are_a.is are_b.is)
     ∙ sym are_b.all
 
 -- what was found of a flight is accepted for it
-pub badges_accepted : (recording : Recording) (lines : List ℕ) (proved : List Statement) (said : Checked) → IsBadgeFound recording lines proved → IsBadgeChecked recording proved said → (claims : ℕ) × (said ≡ Accepted claims)
+pub badges_accepted : (recording : Recording) (lines : List ℕ) (proved : List Statement) (said : Checked) → IsBadgeFound recording lines proved → IsBadgeChecked recording proved said
+    → (claims : ℕ) × (said ≡ Accepted claims)
 badges_accepted recording lines proved said found checked =
-    let each = subst (λ (claims : List (Badge × Rule)). AllZip Proves (expected_of claims) proved) (badge_claims-once recording found.claims checked.0 found.are checked.1) found.proved in
+    let each = subst (λ (claims : List (Badge × Goal)). AllZip Proves (expected_of claims) proved) (badge_claims-once recording found.claims checked.0 found.are checked.1) found.proved in
     (length (expected_of checked.0), proof_accepted (expected_of checked.0) proved said each checked.2)
 
 -- the claims that are expected
-abbrev pub expected_for : List BadgeClaim → List (List ℕ × ClaimKind × Rule)
+abbrev pub expected_for : List BadgeClaim → List Expected
 expected_for claims = expected_of (rules_of_claims claims)
 
 expected_for-append : (xs ys : List BadgeClaim) → expected_for (xs ++ ys) ≡ expected_for xs ++ expected_for ys
 expected_for-append [] ys = refl
-expected_for-append (x ∷ xs) ys = ap (λ (l : List (List ℕ × ClaimKind × Rule)). expected_for (x ∷ []) ++ l) (expected_for-append xs ys)
+expected_for-append (x ∷ xs) ys = ap (λ (l : List Expected). expected_for (x ∷ []) ++ l) (expected_for-append xs ys)
 
 pub length-expected_for : (claims : List BadgeClaim) → length (expected_for claims) ≡ length claims
 length-expected_for [] = refl
@@ -178,54 +179,63 @@ length-expected_for (c ∷ claims) = ap suc (length-expected_for claims)
 next_is : (claims : List BadgeClaim) (i : ℕ) (c : BadgeClaim) → i < length claims → c ≡ get_or claims i c → take (i + 1) claims ≡ take i claims ++ c ∷ []
 next_is claims i c below item = take_more claims i c below ∙ ap (λ (d : BadgeClaim). take i claims ++ d ∷ []) (sym item)
 
-pub expected_next : (claims : List BadgeClaim) (i : ℕ) (c : BadgeClaim) → i < length claims → c ≡ get_or claims i c → expected_for (take (i + 1) claims) ≡ expected_for (take i claims) ++ expected_for (c ∷ [])
+pub expected_next : (claims : List BadgeClaim) (i : ℕ) (c : BadgeClaim) → i < length claims → c ≡ get_or claims i c
+    → expected_for (take (i + 1) claims) ≡ expected_for (take i claims) ++ expected_for (c ∷ [])
 expected_next claims i c below item = ap expected_for (next_is claims i c below item) ∙ expected_for-append (take i claims) (c ∷ [])
 
 -- one claim more is proved
-pub one_proved : (claims : List BadgeClaim) (i : ℕ) (c : BadgeClaim) (proved after : List Claim) (p : Claim) → i < length claims → c ≡ get_or claims i c → after ≡ proved ++ p ∷ [] → AllZip Proves (expected_for (take i claims)) (map statement_of proved) → Proves (number_of (rule_of_claim c).0, kind_of (rule_of_claim c).0, (rule_of_claim c).1) (statement_of p) → AllZip Proves (expected_for (take (i + 1) claims)) (map statement_of after)
+pub one_proved : (claims : List BadgeClaim) (i : ℕ) (c : BadgeClaim) (proved after : List Claim) (p : Claim) → i < length claims → c ≡ get_or claims i c → after ≡ proved ++ p ∷ []
+    → AllZip Proves (expected_for (take i claims)) (map statement_of proved) → Proves (expected_claim (rule_of_claim c).0 (rule_of_claim c).1) (statement_of p)
+    → AllZip Proves (expected_for (take (i + 1) claims)) (map statement_of after)
 one_proved claims i c proved after p below item more each is =
-    let pushed = zip-push Proves (expected_for (take i claims)) (map statement_of proved) (number_of (rule_of_claim c).0, kind_of (rule_of_claim c).0, (rule_of_claim c).1) (statement_of p) each is in
+    let pushed = AllZip-push Proves (expected_for (take i claims)) (map statement_of proved) (expected_claim (rule_of_claim c).0 (rule_of_claim c).1) (statement_of p) each is in
     subst (λ (l : List Claim). AllZip Proves (expected_for (take (i + 1) claims)) (map statement_of l)) (sym more)
     (subst (AllZip Proves (expected_for (take (i + 1) claims))) (sym (map_push statement_of proved p))
-    (subst (λ (l : List (List ℕ × ClaimKind × Rule)). AllZip Proves l (map statement_of proved ++ statement_of p ∷ [])) (sym (expected_next claims i c below item)) pushed))
+    (subst (λ (l : List Expected). AllZip Proves l (map statement_of proved ++ statement_of p ∷ [])) (sym (expected_next claims i c below item)) pushed))
 
-pub all_proved : (claims : List BadgeClaim) (i : ℕ) (proved : List Claim) → length claims ≤ i → AllZip Proves (expected_for (take i claims)) (map statement_of proved) → AllZip Proves (expected_for claims) (map statement_of proved)
+pub all_proved : (claims : List BadgeClaim) (i : ℕ) (proved : List Claim) → length claims ≤ i → AllZip Proves (expected_for (take i claims)) (map statement_of proved)
+    → AllZip Proves (expected_for claims) (map statement_of proved)
 all_proved claims i proved last each =
     subst (λ (l : List BadgeClaim). AllZip Proves (expected_for l) (map statement_of proved)) (take_all i claims last) each
 
 -- the claims so far are right, and so is the next
-pub next_right : (claims : List BadgeClaim) (i : ℕ) (c : BadgeClaim) (statements : List Statement) (count : ℕ) → i < length claims → c ≡ get_or claims i c → count ≡ i → AreProved (expected_for (take i claims)) statements → GoesOn count (expected_for (c ∷ [])) statements None → AreProved (expected_for (take (i + 1) claims)) statements
+pub next_right : (claims : List BadgeClaim) (i : ℕ) (c : BadgeClaim) (statements : List Statement) (count : ℕ) → i < length claims → c ≡ get_or claims i c → count ≡ i
+    → AreProved (expected_for (take i claims)) statements → GoesOn count (expected_for (c ∷ [])) statements None → AreProved (expected_for (take (i + 1) claims)) statements
 next_right claims i c statements count below item counted proved goes =
-    subst (λ (l : List (List ℕ × ClaimKind × Rule)). AreProved l statements) (sym (expected_next claims i c below item))
+    subst (λ (l : List Expected). AreProved l statements) (sym (expected_next claims i c below item))
     (goes (expected_for (take i claims)) (omega (arith, counted, below, length-expected_for (take i claims), length-take i claims)) proved)
 
 -- or it is the first that is wrong
-pub next_wrong : (claims : List BadgeClaim) (i : ℕ) (c : BadgeClaim) (statements : List Statement) (count : ℕ) (wrong : NotProved) → i < length claims → c ≡ get_or claims i c → count ≡ i → AreProved (expected_for (take i claims)) statements → GoesOn count (expected_for (c ∷ [])) statements (Some wrong) → IsNotProved (expected_for claims) statements wrong
+pub next_wrong : (claims : List BadgeClaim) (i : ℕ) (c : BadgeClaim) (statements : List Statement) (count : ℕ) (wrong : NotProved) → i < length claims → c ≡ get_or claims i c → count ≡ i
+    → AreProved (expected_for (take i claims)) statements → GoesOn count (expected_for (c ∷ [])) statements (Some wrong) → IsNotProved (expected_for claims) statements wrong
 next_wrong claims i c statements count wrong below item counted proved goes =
     let first = goes (expected_for (take i claims)) (omega (arith, counted, below, length-expected_for (take i claims), length-take i claims)) proved in
     let whole : expected_for claims ≡ expected_for (take (i + 1) claims) ++ expected_for (drop (i + 1) claims) =
     ap expected_for (sym (take-append-drop (i + 1) claims)) ∙ expected_for-append (take (i + 1) claims) (drop (i + 1) claims) in
-    subst (λ (l : List (List ℕ × ClaimKind × Rule)). IsNotProved l statements wrong) (sym whole)
+    subst (λ (l : List Expected). IsNotProved l statements wrong) (sym whole)
     (not_proved_more (expected_for (take (i + 1) claims)) (expected_for (drop (i + 1) claims)) statements wrong
-    (subst (λ (l : List (List ℕ × ClaimKind × Rule)). IsNotProved l statements wrong) (sym (expected_next claims i c below item)) first))
+    (subst (λ (l : List Expected). IsNotProved l statements wrong) (sym (expected_next claims i c below item)) first))
 
 pub all_right : (claims : List BadgeClaim) (i : ℕ) (statements : List Statement) → length claims ≤ i → AreProved (expected_for (take i claims)) statements → AreProved (expected_for claims) statements
 all_right claims i statements last proved =
     subst (λ (l : List BadgeClaim). AreProved (expected_for l) statements) (take_all i claims last) proved
 
 -- what was proved of a list of claims
-pub proved_of : (goals slice : List BadgeClaim) (proved : List Claim) → slice ≡ goals → AllZip Proves (expected_for slice) (map statement_of proved) → AllZip Proves (expected_for goals) (map statement_of proved)
+pub proved_of : (goals slice : List BadgeClaim) (proved : List Claim) → slice ≡ goals → AllZip Proves (expected_for slice) (map statement_of proved)
+    → AllZip Proves (expected_for goals) (map statement_of proved)
 proved_of goals slice proved same each = subst (λ (l : List BadgeClaim). AllZip Proves (expected_for l) (map statement_of proved)) same each
 
 pub none_right : (claims : List BadgeClaim) (statements : List Statement) → AreProved (expected_for (take 0 claims)) statements
 none_right claims statements = record { proved = []; rest = statements; are = refl; each = tt }
 
 -- what is said of claims that are all right
-pub end_said : (recording : Recording) (claims slice : List BadgeClaim) (statements : List Statement) (count : ℕ) (said : Checked) → AreBadgeClaims recording (rules_of_claims claims) → slice ≡ claims → count ≡ length claims → AreProved (expected_for slice) statements → Ends count statements said → IsBadgeChecked recording statements said
+pub end_said : (recording : Recording) (claims slice : List BadgeClaim) (statements : List Statement) (count : ℕ) (said : Checked) → AreBadgeClaims recording (rules_of_claims claims) → slice ≡ claims
+    → count ≡ length claims → AreProved (expected_for slice) statements → Ends count statements said → IsBadgeChecked recording statements said
 end_said recording claims slice statements count said are same counted proved ends =
     (rules_of_claims claims, are, ends (expected_for claims) (length-expected_for claims ∙ sym counted) (subst (λ (l : List BadgeClaim). AreProved (expected_for l) statements) same proved))
 
 -- and where one is wrong
-pub wrong_said : (recording : Recording) (claims slice : List BadgeClaim) (statements : List Statement) (wrong : NotProved) → AreBadgeClaims recording (rules_of_claims claims) → slice ≡ claims → IsNotProved (expected_for slice) statements wrong → IsBadgeChecked recording statements (Refused wrong)
+pub wrong_said : (recording : Recording) (claims slice : List BadgeClaim) (statements : List Statement) (wrong : NotProved) → AreBadgeClaims recording (rules_of_claims claims) → slice ≡ claims
+    → IsNotProved (expected_for slice) statements wrong → IsBadgeChecked recording statements (Refused wrong)
 wrong_said recording claims slice statements wrong are same first =
     (rules_of_claims claims, are, inl (subst (λ (l : List BadgeClaim). IsNotProved (expected_for l) statements wrong) same first))

@@ -11,25 +11,27 @@ use Rattle.gl_igc.specs.declared.recording.Declared.{Declared}
 use Rattle.gl_igc.specs.declared.recording.Recording.{Recording}
 use Rattle.gl_goal.proofs.FreeLosses as free
 use Rattle.gl_goal.specs.Chain.{last_of}
-use Rattle.gl_goal.specs.Rule.{IsOptimum, Rule}
+use Rattle.gl_goal.specs.Goal.{IsOptimum, Goal}
 use Rattle.gl_badge.specs.declared.badge.Badge.{Badge}
 use Rattle.gl_badge.specs.declared.shown.Course.{Course}
 use Rattle.gl_badge.specs.declared.shown.Course.TheVariants.{Undeclared, Long, Missed, Lists}
 use Rattle.gl_badge.specs.Claims.{distance_claim, gain_claim, goal_claims, goals_through}
 use Rattle.gl_badge.specs.Course.{IsCourse, IsCourseOf, IsFlown, IsReached, course_points, numbers_near}
 use Rattle.gl_badge.specs.Gain.{IsGreatestGain}
-use Rattle.gl_badge.specs.Text.{AreBadgeOptima, TellsFlown, is_total}
+use Rattle.gl_badge.specs.Text.{AreBadgeOptima, TellsFlown}
+use Rattle.gl_badge.specs.Code.Text.{is_total}
 use Rattle.gl_badge.proofs.Courses.{course-lists}
 use Rattle.gl_badge.proofs.Flown.{flown-legal, legal-flown}
 use Rattle.gl_badge.proofs.Greatest.{greatest-gain}
 use Rattle.gl_badge.proofs.Pairs.{stay_legal}
 
 -- totals that are the optima of these claims
-abbrev AreOptima : List (Badge × Rule) → List (Option ℕ) → Type 0
+abbrev AreOptima : List (Badge × Goal) → List (Option ℕ) → Type 0
 AreOptima claims totals = AllZip (λ claim total. IsOptimum claim.1 total) claims totals
 
 -- the total of a course tells whether it was flown
-through-tells : (fixes : List Fix) (points : List Vec3) (lists : List (List ℕ)) (others : List (Option ℕ)) → 1 ≤ length points → lists ≡ map (numbers_near fixes) points → AreOptima (goals_through fixes lists points) others → (IsTrue (is_total (slice_get others 0)) → IsFlown fixes points) × (IsFlown fixes points → IsTrue (is_total (slice_get others 0)))
+through-tells : (fixes : List Fix) (points : List Vec3) (lists : List (List ℕ)) (others : List (Option ℕ)) → 1 ≤ length points → lists ≡ map (numbers_near fixes) points
+    → AreOptima (goals_through fixes lists points) others → (IsTrue (is_total (slice_get others 0)) → IsFlown fixes points) × (IsFlown fixes points → IsTrue (is_total (slice_get others 0)))
 through-tells fixes [] lists others some are optima = absurd (omega arith)
 through-tells fixes (start ∷ points) lists [] some are optima = absurd optima
 through-tells fixes (start ∷ points) lists (None ∷ others) some are optima = (
@@ -42,7 +44,8 @@ through-tells fixes (start ∷ points) lists (Some total ∷ others) some are op
 )
 
 -- a course of which each point was reached wasn't missed
-pub not-missed : (fixes : List Fix) (points : List Vec3) (number : ℕ) (seen : Option Vec3) → seen ≡ slice_get points (number - 1) → All (IsReached fixes) points → IsSomeAnd seen (λ point. numbers_near fixes point ≡ []) → ⊥
+pub not-missed : (fixes : List Fix) (points : List Vec3) (number : ℕ) (seen : Option Vec3) → seen ≡ slice_get points (number - 1) → All (IsReached fixes) points
+    → IsSomeAnd seen (λ point. numbers_near fixes point ≡ []) → ⊥
 not-missed fixes points number None at reached missed = missed
 not-missed fixes points number (Some point) at reached missed =
     let within = slice_get_within points (number - 1) point (sym at) in
@@ -50,7 +53,8 @@ not-missed fixes points number (Some point) at reached missed =
     omega (arith, here, ap length (ap (numbers_near fixes) (get_or_from_slice_get points (number - 1) point point (sym at)) ∙ missed))
 
 -- the total of the declared course tells whether it was flown, however the course is known
-course-tells : (fixes : List Fix) (declared : Option Declared) (course shown : Course) (others : List (Option ℕ)) → IsCourseOf fixes declared course → IsCourseOf fixes declared shown → AreOptima (goal_claims fixes course) others → TellsFlown fixes shown (is_total (slice_get others 0))
+course-tells : (fixes : List Fix) (declared : Option Declared) (course shown : Course) (others : List (Option ℕ)) → IsCourseOf fixes declared course → IsCourseOf fixes declared shown
+    → AreOptima (goal_claims fixes course) others → TellsFlown fixes shown (is_total (slice_get others 0))
 course-tells fixes declared course Undeclared others is shows optima = tt
 course-tells fixes declared course Long others is shows optima = tt
 course-tells fixes declared course (Missed number) others is shows optima = tt
@@ -79,7 +83,8 @@ pub record AreTotals (recording : Recording) (totals : List (Option ℕ)) : Type
 free-some : (fixes : List Fix) → 1 ≤ length fixes → IsOptimum (distance_claim fixes).1 None → ⊥
 free-some fixes some none = none _ (free.stay_legal fixes 0 (length fixes - 1) (pos 1_000) (omega arith) (omega (arith, ints)))
 
-totals-are : (recording : Recording) (course : Course) (totals : List (Option ℕ)) → IsCourse recording course → AreOptima (distance_claim recording.fixes ∷ gain_claim recording.fixes ∷ goal_claims recording.fixes course) totals → AreTotals recording totals
+totals-are : (recording : Recording) (course : Course) (totals : List (Option ℕ)) → IsCourse recording course
+    → AreOptima (distance_claim recording.fixes ∷ gain_claim recording.fixes ∷ goal_claims recording.fixes course) totals → AreTotals recording totals
 totals-are recording course [] is optima = absurd optima
 totals-are recording course (None ∷ totals) is optima = absurd (free-some recording.fixes recording.some_fix optima.0)
 totals-are recording course (Some distance ∷ []) is optima = absurd optima.1
@@ -97,4 +102,4 @@ totals-are recording course (Some distance ∷ Some gain ∷ others) is optima =
 
 pub optima-totals : (recording : Recording) (totals : List (Option ℕ)) → AreBadgeOptima recording totals → AreTotals recording totals
 optima-totals recording totals optima =
-    totals-are recording optima.are.course totals optima.are.is (subst (λ (claims : List (Badge × Rule)). AreOptima claims totals) optima.are.all optima.optima)
+    totals-are recording optima.are.course totals optima.are.is (subst (λ (claims : List (Badge × Goal)). AreOptima claims totals) optima.are.all optima.optima)

@@ -6,7 +6,7 @@ use Rattle.gl_igc.specs.declared.fix.Fix.{Fix}
 use Rattle.gl_hull.specs.Box.{Box}
 use Rattle.gl_goal.specs.Chain.{fixes_at, hulls_of, last_of}
 use Rattle.gl_goal.specs.Free.{numbers_from}
-use Rattle.gl_goal.specs.Rule.{Rule}
+use Rattle.gl_goal.specs.Goal.{Goal}
 
 -- how far the second altitude is above the first, in metres, and 0 where it isn't above it
 unfoldable pub rise : ℤ → ℤ → ℕ
@@ -29,7 +29,7 @@ two_axes count = let all = numbers_from 0 count in all ∷ all ∷ []
 
 -- The goal of the gain of height over all of some fixes. Any two fixes in time order are allowed,
 -- no cell is shut, and the bound of a cell is the greatest gain of its hulls.
-unfoldable pub gain_goal : List Fix → Rule
+unfoldable pub gain_goal : List Fix → Goal
 gain_goal fixes = record {
   axes = two_axes (length fixes);
   allows = λ numbers. true;

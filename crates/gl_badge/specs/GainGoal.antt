@@ -1,7 +1,7 @@
 use Rattle.gl_badge.specs.declared.gain.GainGoal.{GainGoal}
 use Rattle.gl_badge.specs.Gain.{gain_goal}
-use Rattle.gl_goal.specs.Rule.{Rule}
+use Rattle.gl_goal.specs.Goal.{Goal}
 
 -- the goal that the fields of a `GainGoal` stand for
-abbrev pub gain_rule : GainGoal → Rule
+abbrev pub gain_rule : GainGoal → Goal
 gain_rule g = gain_goal g.hulls

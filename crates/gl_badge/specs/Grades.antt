@@ -1,7 +1,7 @@
 -- The grades of a badge, and what has to be reached for them.
 use Rattle.std.specs.Prelude.{ℕ, Bool, false, nat_le, if◌then◌else◌, List, Option, None, Some, codes}
 use Rattle.gl_badge.specs.declared.badge.Badge.{Badge}
-use Rattle.gl_badge.specs.declared.badge.Badge.TheVariants.{Distance, Gain, Goal}
+use Rattle.gl_badge.specs.declared.badge.Badge.TheVariants.{Distance, Gain, DeclaredGoal}
 use Rattle.gl_badge.specs.declared.grade.Grade.{Grade}
 use Rattle.gl_badge.specs.declared.grade.Grade.TheVariants.{Unreached, Silver, Gold, Diamond}
 
@@ -15,9 +15,9 @@ limit_of Distance Diamond = Some 50_000_000
 limit_of Gain Silver = Some 1_000
 limit_of Gain Gold = Some 3_000
 limit_of Gain Diamond = Some 5_000
-limit_of Goal Silver = None
-limit_of Goal Gold = None
-limit_of Goal Diamond = Some 30_000_000
+limit_of DeclaredGoal Silver = None
+limit_of DeclaredGoal Gold = None
+limit_of DeclaredGoal Diamond = Some 30_000_000
 
 -- whether a value reaches a limit, if there is one
 abbrev pub reaches : ℕ → Option ℕ → Bool

@@ -1,10 +1,11 @@
 pub mod Claims
+pub mod Code
 pub mod Course
 pub mod Gain
 pub mod GainGoal
 pub mod Grades
-pub mod Laws
+pub mod Lemmas
 pub mod Named
 pub mod Proved
 pub mod Text
-pub use Rattle.gl_goal.specs.Rule
+pub use Rattle.gl_goal.specs.Goal

@@ -4,7 +4,7 @@ use Rattle.std.specs.List.{AllZip}
 use Rattle.gl_day.specs.declared.fault.Checked.{Checked}
 use Rattle.gl_day.specs.Checked.{IsChecked}
 use Rattle.gl_day.specs.Expected.{Proves}
-use Rattle.gl_goal.specs.Rule.{Rule}
+use Rattle.gl_goal.specs.Goal.{Goal}
 use Rattle.gl_igc.specs.declared.recording.Recording.{Recording}
 use Rattle.gl_proof.specs.Claim.{IsStatement, Statement}
 use Rattle.gl_badge.specs.declared.badge.Badge.{Badge}
@@ -17,7 +17,7 @@ use Rattle.gl_badge.specs.Text.{AreBadgeLines}
 pub record IsBadgeFound (recording : Recording) (lines : List ℕ) (statements : List Statement)
     : Type 0 where
   pub said : AreBadgeLines recording lines
-  pub claims : List (Badge × Rule)
+  pub claims : List (Badge × Goal)
   pub are : AreBadgeClaims recording claims
   pub proved : AllZip Proves (expected_of claims) statements
   pub written : All IsStatement statements
@@ -25,5 +25,5 @@ pub record IsBadgeFound (recording : Recording) (lines : List ℕ) (statements :
 -- what is said of statements where the badge claims of a flight are expected
 abbrev pub IsBadgeChecked : Recording → List Statement → Checked → Type 0
 IsBadgeChecked recording statements said =
-    (claims : List (Badge × Rule)) × AreBadgeClaims recording claims
+    (claims : List (Badge × Goal)) × AreBadgeClaims recording claims
     × IsChecked (expected_of claims) statements said

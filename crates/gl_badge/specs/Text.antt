@@ -1,5 +1,5 @@
 -- What is said of a flight's badge claims: three lines, each of which an LF, the byte 10, ends.
-use Rattle.std.specs.Prelude.{◌≡◌, ◌↔◌, ℕ, Bool, IsTrue, if◌then◌else◌, List, [], ◌∷◌, ◌++◌, Option, None, Some, false, is_some, codes}
+use Rattle.std.specs.Prelude.{◌≡◌, ◌↔◌, ℕ, Bool, IsTrue, if◌then◌else◌, List, [], ◌∷◌, ◌++◌, Option, Some, codes}
 use Rattle.std.specs.List.{AllZip}
 use Rattle.std.specs.Fmt.{decimal}
 use Rattle.gl_text.specs.Numbers.{fixed}
@@ -7,7 +7,7 @@ use Rattle.gl_sphere.specs.declared.place.Vec3.{Vec3}
 use Rattle.gl_igc.specs.declared.fix.Fix.{Fix}
 use Rattle.gl_igc.specs.declared.recording.Recording.{Recording}
 use Rattle.gl_goal.specs.Chain.{legs}
-use Rattle.gl_goal.specs.Rule.{IsOptimum, Rule}
+use Rattle.gl_goal.specs.Goal.{IsOptimum, Goal}
 use Rattle.gl_badge.specs.declared.badge.Badge.{Badge}
 use Rattle.gl_badge.specs.declared.badge.Badge.TheVariants as badge
 use Rattle.gl_badge.specs.declared.shown.Course.{Course}
@@ -31,7 +31,7 @@ gain_line metres = codes "GAIN " ++ (decimal metres ++ graded badge.Gain metres)
 
 -- the length of a declared course in centimetres, as metres with two decimals
 unfoldable pub course_line : ℕ → List ℕ
-course_line length = codes "GOAL " ++ (fixed 2 length ++ graded badge.Goal length)
+course_line length = codes "GOAL " ++ (fixed 2 length ++ graded badge.DeclaredGoal length)
 
 -- the line of a declared course of which a point was missed
 abbrev pub missed_line : ℕ → List ℕ
@@ -71,13 +71,8 @@ pub record AreBadgeLines (recording : Recording) (text : List ℕ) : Type 0 wher
   pub tells : TellsFlown recording.fixes course flown
   pub lines : text ≡ distance_line distance ++ (gain_line gain ++ goal_line course flown)
 
--- whether a total is there where one is looked for
-abbrev pub is_total : Option (Option ℕ) → Bool
-is_total None = false
-is_total (Some total) = is_some total
-
 -- the totals are the optima of the badge claims, in their order
 pub record AreBadgeOptima (recording : Recording) (totals : List (Option ℕ)) : Type 0 where
-  pub claims : List (Badge × Rule)
+  pub claims : List (Badge × Goal)
   pub are : AreBadgeClaims recording claims
   pub optima : AllZip (λ claim total. IsOptimum claim.1 total) claims totals

@@ -11,7 +11,7 @@ pub enum Badge {
     /// The gain of height.
     Gain,
     /// The declared course.
-    Goal,
+    DeclaredGoal,
 }
 
 impl Badge {
@@ -22,7 +22,7 @@ impl Badge {
         match self {
             Badge::Distance => "DISTANCE",
             Badge::Gain => "GAIN",
-            Badge::Goal => "GOAL",
+            Badge::DeclaredGoal => "GOAL",
         }
     }
 
@@ -33,7 +33,7 @@ impl Badge {
         match self {
             Badge::Distance => ClaimKind::Free,
             Badge::Gain => ClaimKind::Out,
-            Badge::Goal => ClaimKind::Area,
+            Badge::DeclaredGoal => ClaimKind::Area,
         }
     }
 }

@@ -2,7 +2,7 @@ ghost use Rattle.std.specs.Prelude.{◌+◌, ◌≤◌, [], ◌∷◌, length, m
 ghost use Rattle.gl_day.specs.Checked.{AreProved, GoesOn, IsNotProved};
 ghost use Rattle.gl_proof.specs.Claim.{statement_of};
 ghost use Rattle.gl_badge.specs.Claims.{rule_of_claim, rules_of_claims};
-ghost use Rattle.gl_badge.specs.Named.{expected_of, kind_of, number_of};
+ghost use Rattle.gl_badge.specs.Named.{expected_claim, expected_of};
 ghost use Rattle.gl_badge.specs.Proved.{IsBadgeChecked};
 
 use crate::badge::Badge;
@@ -26,7 +26,7 @@ fn check_goal<G: Goal>(
 ) -> Result<Option<NotProved>, AllocError>
     requires { count ≤ length proof.now }
     ensures goes_on { IfOk result (GoesOn count
-        ((number_of badge, kind_of badge, G.rule goal.now) ∷ []) (map statement_of proof.now)) }
+        (expected_claim badge (G.rule goal.now) ∷ []) (map statement_of proof.now)) }
     ensures within { IfOk result (λ wrong. IfNone wrong (count + 1 ≤ length proof.now)) }
 {
     let number = Name::from_text(alloc, badge.number())?;
@@ -49,11 +49,18 @@ fn check_claim(
     match claim {
         BadgeClaim::Distance(goal) => check_goal(alloc, Badge::Distance, goal, proof, count),
         BadgeClaim::Gain(goal) => check_goal(alloc, Badge::Gain, goal, proof, count),
-        BadgeClaim::Goal(goal) => check_goal(alloc, Badge::Goal, goal, proof, count),
+        BadgeClaim::DeclaredGoal(goal) => check_goal(
+            alloc,
+            Badge::DeclaredGoal,
+            goal,
+            proof,
+            count,
+        ),
     }
 }
 
-/// What is wrong with the first claim of a proof that is, where these badge claims are expected; none
+/// What is wrong with the first claim of a proof that is, where these badge claims are expected;
+/// none
 /// where all of them are right. The only error is want of memory.
 fn check_claims(
     alloc: Global,

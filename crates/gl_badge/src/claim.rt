@@ -9,5 +9,5 @@ pub enum BadgeClaim {
     /// The gain of height over all fixes.
     Gain(GainGoal),
     /// The way through the points of the declared course.
-    Goal(AreaGoal),
+    DeclaredGoal(AreaGoal),
 }

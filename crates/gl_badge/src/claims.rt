@@ -23,7 +23,7 @@ const MOST_LOSS: i32 = 1_000;
 /// error is want of memory.
 fn goal_of_course(alloc: Global, rec: &Recording) -> Result<Option<AreaGoal>, AllocError>
     ensures { IfOk result (λ goal. (shown : Course) × IsCourse rec.now shown
-        × (map (λ (g : AreaGoal). (badge.Goal, area_rule g)) (option_to_list goal)
+        × (map (λ (g : AreaGoal). (badge.DeclaredGoal, area_rule g)) (option_to_list goal)
         ≡ goal_claims rec.now.fixes shown)) }
 {
     let Course::Lists { lists, points } = course(alloc, rec)? else {
@@ -48,7 +48,7 @@ pub fn badge_claims(alloc: Global, rec: &Recording) -> Result<Vec<BadgeClaim>, A
     claims.push(BadgeClaim::Distance(distance))?;
     claims.push(BadgeClaim::Gain(GainGoal::new(alloc, fixes)?))?;
     if let Some(goal) = goal_of_course(alloc, rec)? {
-        claims.push(BadgeClaim::Goal(goal))?;
+        claims.push(BadgeClaim::DeclaredGoal(goal))?;
     }
     Ok(claims)
 }

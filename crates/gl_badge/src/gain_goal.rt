@@ -1,9 +1,9 @@
 ghost use Rattle.std.specs.Prelude.{◌≡◌, ◌≤◌, ◌<◌, length, map, take, [], ◌∷◌, IfOk, Some, slice_get};
 ghost use Rattle.gl_goal.specs.Free.{numbers_from};
-ghost use Rattle.gl_goal.specs.Rule.{IsGoal, IsLegal};
+ghost use Rattle.gl_goal.specs.Goal.{IsGoal, IsLegal};
 ghost use Rattle.gl_badge.specs.Gain.{gain_goal, rise};
 ghost use Rattle.gl_badge.specs.GainGoal.{gain_rule};
-ghost use Rattle.gl_badge.specs.Laws.Gain.{gain_goal-is_goal};
+ghost use Rattle.gl_badge.specs.Lemmas.Gain.{gain_goal-is_goal};
 
 use crate::gain::GainGoal;
 use gl_box::{Cell, Span, Tuple};

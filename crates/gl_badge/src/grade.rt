@@ -26,8 +26,8 @@ fn limit(badge: Badge, grade: Grade) -> Option<u64>
         (Badge::Gain, Grade::Silver) => Some(1_000),
         (Badge::Gain, Grade::Gold) => Some(3_000),
         (Badge::Gain, Grade::Diamond) => Some(5_000),
-        (Badge::Goal, Grade::Silver | Grade::Gold) => None,
-        (Badge::Goal, Grade::Diamond) => Some(30_000_000),
+        (Badge::DeclaredGoal, Grade::Silver | Grade::Gold) => None,
+        (Badge::DeclaredGoal, Grade::Diamond) => Some(30_000_000),
     }
 }
 

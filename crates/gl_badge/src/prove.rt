@@ -3,7 +3,7 @@ ghost use Rattle.std.specs.List.{AllZip};
 ghost use Rattle.gl_day.specs.Expected.{Proves};
 ghost use Rattle.gl_proof.specs.Claim.{statement_of};
 ghost use Rattle.gl_badge.specs.Claims.{rule_of_claim, rules_of_claims};
-ghost use Rattle.gl_badge.specs.Named.{expected_of, kind_of, number_of};
+ghost use Rattle.gl_badge.specs.Named.{expected_claim, expected_of};
 ghost use Rattle.gl_badge.specs.Proved.{IsBadgeFound};
 
 use crate::badge::Badge;
@@ -30,7 +30,7 @@ pub struct Badges {
 /// The claim of a badge with its goal, proved. The only error is want of memory.
 fn prove_goal<G: Goal>(alloc: Global, badge: Badge, goal: &G) -> Result<Claim, AllocError>
     ensures { IfOk result (λ claim.
-        Proves (number_of badge, kind_of badge, G.rule goal.now) (statement_of claim)) }
+        Proves (expected_claim badge (G.rule goal.now)) (statement_of claim)) }
 {
     let number = Name::from_text(alloc, badge.number())?;
     let found = search_one(alloc, goal)?;
@@ -40,13 +40,13 @@ fn prove_goal<G: Goal>(alloc: Global, badge: Badge, goal: &G) -> Result<Claim, A
 /// A badge claim, proved. The only error is want of memory.
 fn prove_claim(alloc: Global, claim: &BadgeClaim) -> Result<Claim, AllocError>
     ensures { IfOk result (λ proved. Proves
-        (number_of (rule_of_claim claim.now).0, kind_of (rule_of_claim claim.now).0, (rule_of_claim claim.now).1)
+        (expected_claim (rule_of_claim claim.now).0 (rule_of_claim claim.now).1)
         (statement_of proved)) }
 {
     match claim {
         BadgeClaim::Distance(goal) => prove_goal(alloc, Badge::Distance, goal),
         BadgeClaim::Gain(goal) => prove_goal(alloc, Badge::Gain, goal),
-        BadgeClaim::Goal(goal) => prove_goal(alloc, Badge::Goal, goal),
+        BadgeClaim::DeclaredGoal(goal) => prove_goal(alloc, Badge::DeclaredGoal, goal),
     }
 }
 
@@ -73,8 +73,10 @@ fn totals_of(alloc: Global, claims: &[Claim]) -> Result<Vec<Option<u64>>, AllocE
     Ok(totals)
 }
 
-/// The three lines of a flight's badge claims, and the claims themselves, proved: each has the fixes
-/// that reach its total and the boxes that show that no others reach more. The only error is want of
+/// The three lines of a flight's badge claims, and the claims themselves, proved: each has the
+/// fixes
+/// that reach its total and the boxes that show that no others reach more. The only error is want
+/// of
 /// memory.
 pub fn prove_badges(alloc: Global, rec: &Recording) -> Result<Badges, AllocError>
     ensures { IfOk result (λ badges.

@@ -2,7 +2,8 @@ ghost use Rattle.std.specs.Prelude.{◌≡◌, ◌≤◌, ◌++◌, length, slic
 ghost use Rattle.gl_goal.specs.Chain.{legs};
 ghost use Rattle.gl_badge.specs.declared.shown.Course.{Course};
 ghost use Rattle.gl_badge.specs.Course.{IsCourse};
-ghost use Rattle.gl_badge.specs.Text.{AreBadgeLines, AreBadgeOptima, course_line, distance_line, gain_line, goal_line, graded, is_total, missed_line, reached_line};
+ghost use Rattle.gl_badge.specs.Text.{AreBadgeLines, AreBadgeOptima, course_line, distance_line, gain_line, goal_line, graded, missed_line, reached_line};
+ghost use Rattle.gl_badge.specs.Code.Text.{is_total};
 
 use crate::badge::Badge;
 use crate::declared::course;
@@ -70,7 +71,7 @@ fn push_course(text: &mut Vec<u8>, length: u64) -> Result<(), AllocError>
 {
     text.extend_from_slice(b"GOAL ")?;
     push_fixed(text, length, METRE_PLACES)?;
-    push_grade(text, Badge::Goal, length)
+    push_grade(text, Badge::DeclaredGoal, length)
 }
 
 /// Appends the line of a declared course whose point with this number was missed.

@@ -4,7 +4,8 @@ use Rattle.std.specs.Prelude.{int_le}
 use Rattle.std.proofs.lemmas.Int.{ints}
 use Rattle.gl_sphere.specs.Sine.{half_turn_sine, quarter_sine, radians, sine_sum, sine_term, written_cosine, written_sine}
 use Rattle.gl_zone.specs.Zones.{is_clockwise}
-use Rattle.gl_bearing.specs.Bearing.{IsNowhere, is_too_near, radial_at, signed_angle}
+use Rattle.gl_bearing.specs.Code.Bearing.{IsNowhere}
+use Rattle.gl_bearing.specs.Bearing.{is_too_near, radial_at, signed_angle}
 
 pub radial-north : radial_at 0 ≡ (pos 10_000_000_000_000_000, pos 0)
 unfolding signed_angle written_cosine written_sine half_turn_sine quarter_sine radians sine_sum sine_term

@@ -47,11 +47,6 @@ pub record IsBearing (from to : Grid) (n : ℕ) : Type 0 where
   pub apart : is_too_near (direction_to from to) ≡ false
   pub at : IsAtAngle (direction_to from to) n
 
--- a direction is none
-pub record IsNowhere (direction : ℤ × ℤ) : Type 0 where
-  pub north : direction.0 ≡ pos 0
-  pub east : direction.1 ≡ pos 0
-
 -- the other place has no direction
 abbrev pub HasNoBearing : Grid → Grid → Type 0
 HasNoBearing from to = is_too_near (direction_to from to) ≡ true

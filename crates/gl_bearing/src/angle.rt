@@ -1,11 +1,12 @@
 ghost use Rattle.std.specs.Prelude.{◌≡◌, ◌+◌, ◌<◌, ◌≤◌, IfNone, IfSome, true, false};
 ghost use Rattle.gl_sphere.specs.Range.{IsWithin};
 ghost use Rattle.gl_zone.specs.Zones.{is_clockwise};
-ghost use Rattle.gl_bearing.specs.Bearing.{HasNoBearing, IsAtAngle, IsBearing, IsNowhere, is_too_near, radial_at, signed_angle, whole_turn};
+ghost use Rattle.gl_bearing.specs.Bearing.{HasNoBearing, IsAtAngle, IsBearing, is_too_near, radial_at, signed_angle, whole_turn};
+ghost use Rattle.gl_bearing.specs.Code.Bearing.{IsNowhere};
 
-use crate::direction::{Direction, WHOLE_TURN, direction_to};
-use crate::product::crosswise;
+use crate::direction::{WHOLE_TURN, direction_to};
 use gl_sphere::{Grid, HALF_TURN, wcos, wsin};
+use gl_zone::Direction;
 
 /// A quarter of a turn, in 1/100,000 minute.
 const QUARTER_TURN: u32 = 540_000_000;
@@ -40,19 +41,12 @@ fn radial_at(angle: u32) -> Direction
     }
 }
 
-/// Whether a direction lies up to 180 degrees clockwise of another.
-fn is_clockwise(a: Direction, b: Direction) -> bool
-    ensures { result ≡ is_clockwise (a.north, a.east) (b.north, b.east) }
-{
-    crosswise(a.north, b.east) - crosswise(a.east, b.north) >= 0
-}
-
 /// Whether a direction lies up to 180 degrees clockwise of the radial at an angle.
 fn is_reached(angle: u32, direction: Direction) -> bool
     requires { angle ≤ whole_turn }
     ensures { result ≡ is_clockwise (radial_at angle) (direction.north, direction.east) }
 {
-    is_clockwise(radial_at(angle), direction)
+    radial_at(angle).is_clockwise(direction)
 }
 
 /// The angle of a direction between two radials: it lies clockwise of the first, and not of the

@@ -6,7 +6,6 @@ mod angle;
 mod direction;
 mod far_side;
 mod middle;
-mod product;
 
 pub use angle::bearing;
 pub use far_side::opposite;

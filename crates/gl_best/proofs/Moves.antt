@@ -9,7 +9,8 @@ use lib.ListN.{get_elem?}
 use Rattle.atomic_table.proofs.Lists.{at_set, at_snoc, at_longer, set_here, set_else}
 use Rattle.gl_best.specs.declared.rule.View.{View}
 use Rattle.gl_best.specs.Rule.{IsHeard, IsKept, IsRaised, once, times, times_in}
-use Rattle.gl_best.specs.Steps.{Looked, Raised, both_of, given_of, greatest, kept_of, spent, without}
+use Rattle.gl_best.specs.Code.Steps.{Looked, Raised, spent}
+use Rattle.gl_best.specs.Steps.{both_of, given_of, greatest, kept_of, without}
 use Rattle.gl_best.proofs.Numbers.{times-append, times-greatest, times-without, times_in-append, times_in-set, times_in-one, times_in-two, none_stand, without-some}
 
 there_is_below : (views : List View) (seat : ℕ) (view : View) → get_elem? views seat ≡ some view → seat < length views
@@ -30,7 +31,8 @@ same_word (word ∷ words) = refl
 heard_more : (word new : ℕ) (view : View) → word ≤ new → IsHeard word view → IsHeard new view
 heard_more word new view less heard = record { raised = heard.raised; seen = omega (arith, heard.seen); idle = heard.idle }
 
-heard_set : (word new : ℕ) (views : List View) (by : ℕ) (after : View) → word ≤ new → ((seat : ℕ) (view : View) → get_elem? views seat ≡ some view → IsHeard word view) → IsHeard new after → (seat : ℕ) (view : View) → get_elem? (set views by after) seat ≡ some view → IsHeard new view
+heard_set : (word new : ℕ) (views : List View) (by : ℕ) (after : View) → word ≤ new → ((seat : ℕ) (view : View) → get_elem? views seat ≡ some view → IsHeard word view) → IsHeard new after
+    → (seat : ℕ) (view : View) → get_elem? (set views by after) seat ≡ some view → IsHeard new view
 heard_set word new views by after less heard mine seat view at =
     ⊎_elim
     (λ (it : (seat ≡ by) × (after ≡ view)). subst (IsHeard new) it.1 mine)
@@ -38,7 +40,8 @@ heard_set word new views by after less heard mine seat view at =
     (at_set views by seat after view at)
 
 -- who raised the word still has, after a view changed that raised no other
-raised_set : (word : ℕ) (views : List View) (by : ℕ) (before after : View) → get_elem? views by ≡ some before → (before.raised ≡ word → after.raised ≡ word) → IsRaised word views → IsRaised word (set views by after)
+raised_set : (word : ℕ) (views : List View) (by : ℕ) (before after : View) → get_elem? views by ≡ some before → (before.raised ≡ word → after.raised ≡ word) → IsRaised word views
+    → IsRaised word (set views by after)
 raised_set word views by before after at same raised =
     dite (ℕ_discrete raised.seat by)
     (λ is.
@@ -48,12 +51,14 @@ raised_set word views by before after at same raised =
     (λ isnt. record { seat = raised.seat; view = raised.view; there = set_else views by raised.seat after isnt ∙ raised.there; raised = raised.raised })
 
 -- what holds once a word was written, from what holds of the word
-kept_with : (words : List ℕ) (word : ℕ) (views : List View) → length words ≡ 1 → ((seat : ℕ) (view : View) → get_elem? views seat ≡ some view → IsHeard word view) → (word ≡ 0) ⊎ IsRaised word views → ((number : ℕ) → times_in number views ≡ once (nat_lt number 16)) → IsKept (slice_set words 0 word) views
+kept_with : (words : List ℕ) (word : ℕ) (views : List View) → length words ≡ 1 → ((seat : ℕ) (view : View) → get_elem? views seat ≡ some view → IsHeard word view) → (word ≡ 0) ⊎ IsRaised word views
+    → ((number : ℕ) → times_in number views ≡ once (nat_lt number 16)) → IsKept (slice_set words 0 word) views
 kept_with [] word views one heard raised numbers = absurd (omega arith)
 kept_with (first ∷ words) word views one heard raised numbers = record { one = one; heard = heard; raised = raised; numbers = numbers }
 
 -- the numbers of all seats after a view changed that kept its numbers
-same_numbers : (views : List View) (by : ℕ) (before after : View) → get_elem? views by ≡ some before → before.numbers ≡ after.numbers → ((number : ℕ) → times_in number views ≡ once (nat_lt number 16)) → (number : ℕ) → times_in number (set views by after) ≡ once (nat_lt number 16)
+same_numbers : (views : List View) (by : ℕ) (before after : View) → get_elem? views by ≡ some before → before.numbers ≡ after.numbers → ((number : ℕ) → times_in number views ≡ once (nat_lt number 16))
+    → (number : ℕ) → times_in number (set views by after) ≡ once (nat_lt number 16)
 same_numbers views by before after at same numbers number =
     let equal : times number before.numbers ≡ times number after.numbers = ap (times number) same in
     omega (arith, times_in-set number views by before after at, numbers number, equal)
@@ -61,7 +66,8 @@ same_numbers views by before after at same numbers number =
 not_empty : (numbers : List ℕ) → 0 < length numbers → numbers ≡ [] → ⊥
 not_empty numbers some_ none = omega (arith, ap (λ (it : List ℕ). length it) none)
 
-pub looks : (words : List ℕ) (views : List View) (by : ℕ) (before : View) → 0 < length before.numbers → IsKept words views → get_elem? views by ≡ some before → (after : View) × IsKept (slice_set words 0 (slice_index words 0)) (slice_set views by after) × Looked before (slice_index words 0) after
+pub looks : (words : List ℕ) (views : List View) (by : ℕ) (before : View) → 0 < length before.numbers → IsKept words views → get_elem? views by ≡ some before
+    → (after : View) × IsKept (slice_set words 0 (slice_index words 0)) (slice_set views by after) × Looked before (slice_index words 0) after
 looks words views by before some_ kept at =
     let found = slice_index words 0 in
     let after : View = record { seen = found; raised = before.raised; numbers = before.numbers } in
@@ -74,7 +80,8 @@ looks words views by before some_ kept at =
       (heard.seen, refl),
     )
 
-pub raises : (words : List ℕ) (views : List View) (by number : ℕ) (before : View) → 0 < length before.numbers → IsKept words views → get_elem? views by ≡ some before → (after : View) × IsKept (slice_set words 0 (max (slice_index words 0) number)) (slice_set views by after) × Raised number before (slice_index words 0) after
+pub raises : (words : List ℕ) (views : List View) (by number : ℕ) (before : View) → 0 < length before.numbers → IsKept words views → get_elem? views by ≡ some before
+    → (after : View) × IsKept (slice_set words 0 (max (slice_index words 0) number)) (slice_set views by after) × Raised number before (slice_index words 0) after
 raises words views by number before some_ kept at =
     let found = slice_index words 0 in
     let word = max found number in
@@ -95,7 +102,8 @@ raises words views by number before some_ kept at =
       (heard.seen, refl),
     )
 
-pub shares : (words : List ℕ) (views : List View) (by : ℕ) (before : View) → 2 ≤ length before.numbers → IsKept words views → get_elem? views by ≡ some before → IsKept words (slice_set views by (kept_of before) ++ given_of before ∷ [])
+pub shares : (words : List ℕ) (views : List View) (by : ℕ) (before : View) → 2 ≤ length before.numbers → IsKept words views → get_elem? views by ≡ some before
+    → IsKept words (slice_set views by (kept_of before) ++ given_of before ∷ [])
 shares words views by before two kept at =
     let word = slice_index words 0 in
     let left = kept_of before in
@@ -114,14 +122,21 @@ shares words views by before two kept at =
           (λ (it : IsRaised word views). let one = raised_set word views by before left at (λ same. same) it in
           inr record { seat = one.seat; view = one.view; there = at_longer (set views by left) (right ∷ []) one.seat one.view one.there; raised = one.raised })
           kept.raised;
-      numbers = λ number. omega (arith, times_in-append number (set views by left) right, times_in-set number views by before left at, times-without number (greatest before.numbers) before.numbers (times-greatest before.numbers (omega arith)), kept.numbers number);
+      numbers = λ number. omega (
+        arith,
+        times_in-append number (set views by left) right,
+        times_in-set number views by before left at,
+        times-without number (greatest before.numbers) before.numbers (times-greatest before.numbers (omega arith)),
+        kept.numbers number,
+      );
     }
 
 both_empty : (one other : List ℕ) → one ++ other ≡ [] → (one ≡ []) × (other ≡ [])
 both_empty [] other none = (refl, none)
 both_empty (number ∷ one) other none = absurd (cc)
 
-pub gathers : (words : List ℕ) (views : List View) (by other : ℕ) (before another : View) → IsKept words views → get_elem? views by ≡ some before → (other ≡ by → ⊥) → get_elem? (slice_set views by (both_of before another)) other ≡ some another → IsKept words (slice_set (slice_set views by (both_of before another)) other spent)
+pub gathers : (words : List ℕ) (views : List View) (by other : ℕ) (before another : View) → IsKept words views → get_elem? views by ≡ some before → (other ≡ by → ⊥)
+    → get_elem? (slice_set views by (both_of before another)) other ≡ some another → IsKept words (slice_set (slice_set views by (both_of before another)) other spent)
 gathers words views by other before another kept at apart there =
     let word = slice_index words 0 in
     let both = both_of before another in
@@ -151,18 +166,26 @@ gathers words views by other before another kept at apart there =
           inr record { seat = by; view = both; there = here; raised = omega (arith, raised, heard.raised, heard.seen) })
           (λ isnt_other. inr record { seat = it.seat; view = it.view; there = set_else joined other it.seat spent isnt_other ∙ set_else views by it.seat both isnt ∙ it.there; raised = it.raised })))
           kept.raised;
-      numbers = λ number. omega (arith, times_in-set number joined other another spent there, times_in-set number views by before both at, times-append number before.numbers another.numbers, kept.numbers number);
+      numbers = λ number. omega (
+        arith,
+        times_in-set number joined other another spent there,
+        times_in-set number views by before both at,
+        times-append number before.numbers another.numbers,
+        kept.numbers number,
+      );
     }
 
 -- beside a seat with all numbers no other has one
-no_other : (words : List ℕ) (views : List View) (by other : ℕ) (view another : View) → IsKept words views → get_elem? views by ≡ some view → other ≢ by → get_elem? views other ≡ some another → ((number : ℕ) → number < 16 → 0 < times number view.numbers) → (number : ℕ) → times number another.numbers ≡ 0
+no_other : (words : List ℕ) (views : List View) (by other : ℕ) (view another : View) → IsKept words views → get_elem? views by ≡ some view → other ≢ by → get_elem? views other ≡ some another
+    → ((number : ℕ) → number < 16 → 0 < times number view.numbers) → (number : ℕ) → times number another.numbers ≡ 0
 no_other words views by other view another kept at apart there all number = by_number (nat_lt number 16) refl
   where
     by_number : (is : Bool) → nat_lt number 16 ≡ is → times number another.numbers ≡ 0
     by_number true is = omega (arith, times_in-two number views other by another view apart there at, kept.numbers number, ap once is, all number (ltb-true number 16 is))
     by_number false is = omega (arith, times_in-one number views other another there, kept.numbers number, ap once is)
 
-pub closes : (words : List ℕ) (views : List View) (by : ℕ) (view : View) → IsKept words views → get_elem? views by ≡ some view → ((number : ℕ) → number < 16 → 0 < times number view.numbers) → slice_index words 0 ≡ view.raised
+pub closes : (words : List ℕ) (views : List View) (by : ℕ) (view : View) → IsKept words views → get_elem? views by ≡ some view → ((number : ℕ) → number < 16 → 0 < times number view.numbers)
+    → slice_index words 0 ≡ view.raised
 closes words views by view kept at all =
     let heard = kept.heard by view at in
     ⊎_elim

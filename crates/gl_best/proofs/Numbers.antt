@@ -26,7 +26,8 @@ none_stand [] none = refl
 none_stand (number ∷ numbers) none = absurd (omega (arith, once_same number, none number))
 
 -- the sum after one seat's view changed
-pub times_in-set : (number : ℕ) (views : List View) (seat : ℕ) (before after : View) → get_elem? views seat ≡ some before → times_in number (set views seat after) + times number before.numbers ≡ times_in number views + times number after.numbers
+pub times_in-set : (number : ℕ) (views : List View) (seat : ℕ) (before after : View) → get_elem? views seat ≡ some before
+    → times_in number (set views seat after) + times number before.numbers ≡ times_in number views + times number after.numbers
 times_in-set number [] seat before after at = absurd (some-ne-none before (sym at))
 times_in-set number (view ∷ views) zero before after at =
     let same : times number view.numbers ≡ times number before.numbers = ap (λ (it : View). times number it.numbers) (some-injective view before at) in
@@ -42,7 +43,8 @@ times_in-one number (first ∷ views) zero view at =
 times_in-one number (first ∷ views) (suc seat) view at = omega (arith, times_in-one number views seat view at)
 
 -- nor do two seats
-pub times_in-two : (number : ℕ) (views : List View) (one other : ℕ) (view another : View) → one ≢ other → get_elem? views one ≡ some view → get_elem? views other ≡ some another → times number view.numbers + times number another.numbers ≤ times_in number views
+pub times_in-two : (number : ℕ) (views : List View) (one other : ℕ) (view another : View) → one ≢ other → get_elem? views one ≡ some view → get_elem? views other ≡ some another
+    → times number view.numbers + times number another.numbers ≤ times_in number views
 times_in-two number [] one other view another apart at there = absurd (some-ne-none view (sym at))
 times_in-two number (first ∷ views) zero zero view another apart at there = absurd (apart refl)
 times_in-two number (first ∷ views) zero (suc other) view another apart at there =
@@ -62,7 +64,8 @@ times-first number numbers = omega (arith, once_same number)
 later_is : (one other : ℕ) → eqb (max one other) one ≡ false → max one other ≡ other
 later_is one other isnt = dite (dec_le other one) (λ less. absurd (true≢false (sym (eq-eqb (max one other) one (omega arith)) ∙ isnt))) (λ more. omega arith)
 
-greatest_later : (number : ℕ) (numbers : List ℕ) (is : Bool) → eqb (max number (greatest numbers)) number ≡ is → (is ≡ false → 0 < times (greatest numbers) numbers) → 0 < times (max number (greatest numbers)) (number ∷ numbers)
+greatest_later : (number : ℕ) (numbers : List ℕ) (is : Bool) → eqb (max number (greatest numbers)) number ≡ is → (is ≡ false → 0 < times (greatest numbers) numbers)
+    → 0 < times (max number (greatest numbers)) (number ∷ numbers)
 greatest_later number numbers true is later = omega (arith, ap once is)
 greatest_later number numbers false is later =
     let same = later_is number (greatest numbers) is in
@@ -76,7 +79,9 @@ times-greatest (number ∷ []) some_ = subst (λ (it : ℕ). 0 < times it (numbe
 times-greatest (number ∷ next ∷ numbers) some_ =
     greatest_later number (next ∷ numbers) _ refl (λ _. times-greatest (next ∷ numbers) (omega arith))
 
-without_later : (number gone first : ℕ) (numbers : List ℕ) (is : Bool) → eqb gone first ≡ is → 0 < times gone (first ∷ numbers) → (0 < times gone numbers → times number (without gone numbers) + times number (gone ∷ []) ≡ times number numbers) → times number (unless_is is first numbers (without gone numbers)) + times number (gone ∷ []) ≡ times number (first ∷ numbers)
+without_later : (number gone first : ℕ) (numbers : List ℕ) (is : Bool) → eqb gone first ≡ is → 0 < times gone (first ∷ numbers)
+    → (0 < times gone numbers → times number (without gone numbers) + times number (gone ∷ []) ≡ times number numbers)
+    → times number (unless_is is first numbers (without gone numbers)) + times number (gone ∷ []) ≡ times number (first ∷ numbers)
 without_later number gone first numbers true is has later =
     let same : once (eqb number first) ≡ once (eqb number gone) = ap (λ (it : ℕ). once (eqb number it)) (sym (eqb-true gone first is)) in
     omega (arith, same)
@@ -100,7 +105,8 @@ without-some gone (one ∷ two ∷ numbers) more none = by_one (eqb gone one) (e
     by_one true also empty = absurd (cc)
     by_one false also empty = absurd (cc)
 
-without_fewer : (gone first : ℕ) (numbers : List ℕ) (is : Bool) → eqb gone first ≡ is → 0 < times gone (first ∷ numbers) → (0 < times gone numbers → length (without gone numbers) + 1 ≡ length numbers) → length (unless_is is first numbers (without gone numbers)) + 1 ≡ length (first ∷ numbers)
+without_fewer : (gone first : ℕ) (numbers : List ℕ) (is : Bool) → eqb gone first ≡ is → 0 < times gone (first ∷ numbers) → (0 < times gone numbers → length (without gone numbers) + 1 ≡ length numbers)
+    → length (unless_is is first numbers (without gone numbers)) + 1 ≡ length (first ∷ numbers)
 without_fewer gone first numbers true is has later = omega arith
 without_fewer gone first numbers false is has later =
     let there : 0 < times gone numbers = omega (arith, ap once is) in

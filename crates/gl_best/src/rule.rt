@@ -25,9 +25,10 @@ pub(crate) struct Looks;
 
 impl Play<(), View> for Looks {
     ghost use Rattle.std.specs.Prelude.{◌≡◌};
-    ghost use Rattle.gl_best.specs.Steps.{Looked};
+    ghost use Rattle.gl_best.specs.Code.Steps.{Looked};
 
-    ghost then = { λ step before found after. Looked before.0 found after.0 × (after.1 ≡ before.1) };
+    ghost then = { λ step before found after. Looked before.0 found after.0
+        × (after.1 ≡ before.1) };
 }
 
 /// The word becomes the greater of itself and a number.
@@ -35,9 +36,10 @@ pub(crate) struct Raises;
 
 impl Play<(), View> for Raises {
     ghost use Rattle.std.specs.Prelude.{◌≡◌};
-    ghost use Rattle.gl_best.specs.Steps.{Raised};
+    ghost use Rattle.gl_best.specs.Code.Steps.{Raised};
 
-    ghost then = { λ step before found after. Raised step.first before.0 found after.0 × (after.1 ≡ before.1) };
+    ghost then = { λ step before found after. Raised step.first before.0 found after.0
+        × (after.1 ≡ before.1) };
 }
 
 /// A seat gives its greatest number to a new one, or takes in the numbers of another.
@@ -52,7 +54,8 @@ impl Split<View> for Numbers {
 }
 
 impl Join<View> for Numbers {
-    ghost use Rattle.gl_best.specs.Steps.{both_of, spent};
+    ghost use Rattle.gl_best.specs.Steps.{both_of};
+    ghost use Rattle.gl_best.specs.Code.Steps.{spent};
 
     ghost both = { both_of };
 

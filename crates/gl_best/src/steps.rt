@@ -16,7 +16,8 @@ fn total_in(word: u64) -> Option<u64>
 }
 
 impl BestWord {
-    /// A word that nobody has raised, and its first seat, with all sixteen numbers. The only error is
+    /// A word that nobody has raised, and its first seat, with all sixteen numbers. The only error
+    /// is
     /// want of memory.
     pub fn new(alloc: Global) -> Result<(BestWord, Seat), AllocError>
         ensures seat { IfOk result (λ made. IsSeatOf made.0 made.1) }
@@ -26,7 +27,8 @@ impl BestWord {
         Ok((BestWord { table }, Seat { seat }))
     }
 
-    /// A new seat, for another thread: it has seen as much, and raised nothing. It gets the greatest
+    /// A new seat, for another thread: it has seen as much, and raised nothing. It gets the
+    /// greatest
     /// number of this one.
     pub fn share(&self, seat: &mut Seat) -> Seat
         requires seat { IsSeatOf self.now seat.old }
@@ -82,7 +84,8 @@ impl BestWord {
             .join_seat::<Numbers>(&mut seat.seat, other.into_inner());
     }
 
-    /// The greatest total that any seat raised, `None` exactly where none did: what the seat that has
+    /// The greatest total that any seat raised, `None` exactly where none did: what the seat that
+    /// has
     /// all numbers has raised. It has seen no more than that.
     pub fn close(self, seat: Seat) -> Option<u64>
         requires seat { IsSeatOf self seat }

@@ -3,4 +3,3 @@ pub mod Cell
 pub mod Halves
 pub mod Frontier
 pub mod Closed
-pub mod Laws

@@ -27,7 +27,9 @@ pub record WalksOn (whole : List (ℕ × ℕ)) (cells : List Closed) (place : �
   pub placed : IsPlaced whole (cells_of (map box_of cells)) place
   pub covers : Covers whole (spans_of next.cell)
 
-pub walks_on : (whole : List (ℕ × ℕ)) (cells : List Closed) (place : ℕ) (next : Closed) (opened after : List (List (ℕ × ℕ))) → place < length cells → next ≡ get_or cells place next → IsWalked whole (take place (cells_of (map box_of cells))) opened → (opened ≡ [] → ⊥) → ((more : List (List (ℕ × ℕ))) → AreFrontiers opened (spans_of next.cell ∷ more) ↔ AreFrontiers after more) → WalksOn whole cells place next after
+pub walks_on : (whole : List (ℕ × ℕ)) (cells : List Closed) (place : ℕ) (next : Closed) (opened after : List (List (ℕ × ℕ))) → place < length cells → next ≡ get_or cells place next
+    → IsWalked whole (take place (cells_of (map box_of cells))) opened → (opened ≡ [] → ⊥) → ((more : List (List (ℕ × ℕ))) → AreFrontiers opened (spans_of next.cell ∷ more) ↔ AreFrontiers after more)
+    → WalksOn whole cells place next after
 walks_on whole cells place next opened after below item walked some step =
     let boxes = map box_of cells in
     let cell : List (ℕ × ℕ) × Why → List (ℕ × ℕ) = λ box. box.0 in
@@ -43,7 +45,9 @@ walks_on whole cells place next opened after below item walked some step =
     }
 
 -- a box that wasn't found begins no partition with those before it
-pub strays : (whole : List (ℕ × ℕ)) (cells : List Closed) (place : ℕ) (next : Closed) (opened : List (List (ℕ × ℕ))) → place < length cells → next ≡ get_or cells place next → IsWalked whole (take place (cells_of (map box_of cells))) opened → ((more : List (List (ℕ × ℕ))) → AreFrontiers opened (spans_of next.cell ∷ more) → ⊥) → BeginWhole whole (cells_of (map box_of cells)) (place + 1) → ⊥
+pub strays : (whole : List (ℕ × ℕ)) (cells : List Closed) (place : ℕ) (next : Closed) (opened : List (List (ℕ × ℕ))) → place < length cells → next ≡ get_or cells place next
+    → IsWalked whole (take place (cells_of (map box_of cells))) opened → ((more : List (List (ℕ × ℕ))) → AreFrontiers opened (spans_of next.cell ∷ more) → ⊥)
+    → BeginWhole whole (cells_of (map box_of cells)) (place + 1) → ⊥
 strays whole cells place next opened below item walked out begins =
     let boxes = map box_of cells in
     let more = cells_more (λ (box : List (ℕ × ℕ) × Why). box.0) boxes place (box_of next) (box_inside cells place below) (box_there cells place next below item) in

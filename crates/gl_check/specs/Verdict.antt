@@ -3,7 +3,7 @@ use Rattle.std.specs.Prelude.{◌≡◌, ◌≢◌, ℕ, List, map, Option, IsSo
 use Rattle.std.specs.List.{HoldsAt}
 use Rattle.gl_box.specs.declared.closed.Why.{Why}
 use Rattle.gl_walk.specs.Boxes.{IsSaid, Said, ExtraBox, StrayBox, UnclosedBox, Unfinished}
-use Rattle.gl_goal.specs.Rule.{Rule, IsLegal, chosen, value, whole_cell}
+use Rattle.gl_goal.specs.Goal.{Goal, IsLegal, chosen, value, whole_cell}
 use Rattle.gl_goal.specs.Certificate.{IsCertificate, IsClaimed, IsClosedFor}
 use Rattle.gl_check.specs.declared.verdict.Verdict.{Verdict}
 use Rattle.gl_check.specs.declared.verdict.Verdict.TheVariants.{Yes, Fixes, Total, Extra, Place, Cell, Open}
@@ -13,31 +13,31 @@ abbrev pub cells_of : List (List (ℕ × ℕ) × Why) → List (List (ℕ × ℕ
 cells_of boxes = map (λ box. box.0) boxes
 
 -- the box at a place, which counts from 0, is closed for the total by its reason
-abbrev pub IsClosedAt : Rule → Option ℕ → List (List (ℕ × ℕ) × Why) → ℕ → Type 0
-IsClosedAt rule total boxes place =
-    HoldsAt (λ box. IsClosedFor rule total box.0 box.1) boxes place
+abbrev pub IsClosedAt : Goal → Option ℕ → List (List (ℕ × ℕ) × Why) → ℕ → Type 0
+IsClosedAt goal total boxes place =
+    HoldsAt (λ box. IsClosedFor goal total box.0 box.1) boxes place
 
 -- what is said of the boxes of a claim
-abbrev pub AreSaid : Rule → Option ℕ → List (List (ℕ × ℕ) × Why) → Said → Type 0
-AreSaid rule total boxes said =
-    IsSaid (whole_cell rule.axes) (cells_of boxes) (IsClosedAt rule total boxes) said
+abbrev pub AreSaid : Goal → Option ℕ → List (List (ℕ × ℕ) × Why) → Said → Type 0
+AreSaid goal total boxes said =
+    IsSaid (whole_cell goal.axes) (cells_of boxes) (IsClosedAt goal total boxes) said
 
 -- The first of these that holds. Fixes: there is a total, and no legal tuple has these fixes.
 -- Total: they aren't worth the total. Then the first box that is wrong. Extra: the boxes before it
 -- are already the whole. Place: with it they begin no partition of the whole. Cell: it isn't
 -- closed. Open: the boxes end before they are the whole. Yes: nothing is wrong.
-abbrev pub IsVerdict : Rule → Option ℕ → List ℕ → List (List (ℕ × ℕ) × Why) → Verdict → Type 0
-IsVerdict rule total fixes boxes Yes = IsCertificate rule total fixes boxes
-IsVerdict rule total fixes boxes Fixes =
-    IsSomeAnd total (λ _. (tuple : List ℕ) → IsLegal rule tuple → fixes ≢ chosen rule.axes tuple)
-IsVerdict rule total fixes boxes Total =
-    IsSomeAnd total (λ greatest. (tuple : List ℕ) × IsLegal rule tuple
-    × (fixes ≡ chosen rule.axes tuple) × (value rule tuple ≢ greatest))
-IsVerdict rule total fixes boxes (Extra number) =
-    IsClaimed rule total fixes × AreSaid rule total boxes (ExtraBox number)
-IsVerdict rule total fixes boxes (Place number) =
-    IsClaimed rule total fixes × AreSaid rule total boxes (StrayBox number)
-IsVerdict rule total fixes boxes (Cell number) =
-    IsClaimed rule total fixes × AreSaid rule total boxes (UnclosedBox number)
-IsVerdict rule total fixes boxes Open =
-    IsClaimed rule total fixes × AreSaid rule total boxes Unfinished
+abbrev pub IsVerdict : Goal → Option ℕ → List ℕ → List (List (ℕ × ℕ) × Why) → Verdict → Type 0
+IsVerdict goal total fixes boxes Yes = IsCertificate goal total fixes boxes
+IsVerdict goal total fixes boxes Fixes =
+    IsSomeAnd total (λ _. (tuple : List ℕ) → IsLegal goal tuple → fixes ≢ chosen goal.axes tuple)
+IsVerdict goal total fixes boxes Total =
+    IsSomeAnd total (λ greatest. (tuple : List ℕ) × IsLegal goal tuple
+    × (fixes ≡ chosen goal.axes tuple) × (value goal tuple ≢ greatest))
+IsVerdict goal total fixes boxes (Extra number) =
+    IsClaimed goal total fixes × AreSaid goal total boxes (ExtraBox number)
+IsVerdict goal total fixes boxes (Place number) =
+    IsClaimed goal total fixes × AreSaid goal total boxes (StrayBox number)
+IsVerdict goal total fixes boxes (Cell number) =
+    IsClaimed goal total fixes × AreSaid goal total boxes (UnclosedBox number)
+IsVerdict goal total fixes boxes Open =
+    IsClaimed goal total fixes × AreSaid goal total boxes Unfinished

@@ -1,7 +1,7 @@
 ghost use Rattle.std.specs.Prelude.{◌≡◌, ◌↔◌, ℕ, List, [], map, IfOk, IsTrue};
 ghost use Rattle.gl_box.specs.Cell.{Covers, spans_of};
 ghost use Rattle.gl_box.specs.Closed.{box_of};
-ghost use Rattle.gl_goal.specs.Rule.{whole_cell};
+ghost use Rattle.gl_goal.specs.Goal.{whole_cell};
 ghost use Rattle.gl_goal.specs.Certificate.{IsClaimed, IsClosedFor};
 ghost use Rattle.gl_walk.specs.InLists.{boxes_in};
 ghost use Rattle.gl_walk.specs.Walk.{IsWalked, open_cells};

@@ -2,7 +2,7 @@ ghost use Rattle.std.specs.Prelude.{◌≡◌, ◌↔◌, ℕ, List, map, IfOk};
 ghost use Rattle.gl_box.specs.Cell.{Holds};
 ghost use Rattle.gl_box.specs.Closed.{box_of};
 ghost use Rattle.gl_box.specs.Frontier.{mult};
-ghost use Rattle.gl_goal.specs.Rule.{IsOptimum, whole_cell};
+ghost use Rattle.gl_goal.specs.Goal.{IsOptimum, whole_cell};
 ghost use Rattle.gl_walk.specs.InLists.{boxes_in};
 ghost use Rattle.gl_check.specs.Checked.{IsCertified, IsCheckedAs};
 ghost use Rattle.gl_check.specs.declared.verdict.Verdict.{Verdict};
@@ -28,7 +28,8 @@ fn verdict_of<G: Goal>(alloc: Global, goal: &G, claim: &Claim) -> Result<Verdict
 /// Checks a claim against a goal: `Yes` exactly where its boxes certify its total and its fixes,
 /// and else the first thing that is wrong, in the order of [`Verdict`] and then of the boxes.
 /// Nothing is taken on trust of whoever made the claim. Where the answer is `Yes`, the total is the
-/// optimum of the goal, and each choice of fixes lies in exactly one of the boxes. The only error is
+/// optimum of the goal, and each choice of fixes lies in exactly one of the boxes. The only error
+/// is
 /// want of memory.
 pub fn check_claim<G: Goal>(alloc: Global, goal: &G, claim: &Claim) -> Result<Verdict, AllocError>
     ensures verdict { IfOk result (IsCheckedAs (G.rule goal.now) claim.now) }

@@ -1,7 +1,7 @@
 ghost use Rattle.std.specs.Prelude.{◌≡◌, ◌≢◌, ◌<◌, ℕ, List, [], length, slice_index_or, IfSome, IsNone};
 ghost use Rattle.gl_box.specs.declared.closed.Why.{Why};
 ghost use Rattle.gl_box.specs.Tuple.{places_of};
-ghost use Rattle.gl_goal.specs.Rule.{IsTuple, chosen, fix_at};
+ghost use Rattle.gl_goal.specs.Goal.{IsTuple, chosen, fix_at};
 ghost use Rattle.gl_goal.specs.Certificate.{IsClaimed};
 ghost use Rattle.gl_check.specs.Verdict.{IsVerdict};
 

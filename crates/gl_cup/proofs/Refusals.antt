@@ -36,7 +36,8 @@ rows_refused text which why told =
     elim (other_or_memory why) [ inl other ↦ broken (told other) | inr same ↦ memory same ]
 
 -- a waypoint doesn't read
-pub waypoints_refused : (text : List ℕ) (which : Option ℕ) (columns : Columns) (rest : List Row) (why : CupError) → IsHeader (rows_of text) columns rest → ((why ≡ cup.Memory → ⊥) → refused_waypoint (find (is_unread columns) (waypoint_rows rest)) ≡ Some why) → IsRefusalOf text which why
+pub waypoints_refused : (text : List ℕ) (which : Option ℕ) (columns : Columns) (rest : List Row) (why : CupError) → IsHeader (rows_of text) columns rest
+    → ((why ≡ cup.Memory → ⊥) → refused_waypoint (find (is_unread columns) (waypoint_rows rest)) ≡ Some why) → IsRefusalOf text which why
 waypoints_refused text which columns rest why header told =
     elim (other_or_memory why) [
       | inl other ↦ unread (record { columns = columns; rest = rest; header = header; first = told other })
@@ -44,16 +45,30 @@ waypoints_refused text which columns rest why header told =
     ]
 
 -- no task can be chosen
-pub choice_refused : (text : List ℕ) (which : Option ℕ) (columns : Columns) (rest : List Row) (why : CupError) → IsHeader (rows_of text) columns rest → choice which (task_rows rest) ≡ Err why → IsRefusalOf text which why
+pub choice_refused : (text : List ℕ) (which : Option ℕ) (columns : Columns) (rest : List Row) (why : CupError) → IsHeader (rows_of text) columns rest → choice which (task_rows rest) ≡ Err why
+    → IsRefusalOf text which why
 choice_refused text which columns rest why header none =
     unchosen (record { columns = columns; rest = rest; header = header; none = none })
 
 -- the chosen task is wrong
-pub task_refused : (text : List ℕ) (which : Option ℕ) (columns : Columns) (rows rest tasks details points : List Row) (waypoints : List Waypoint) (row : Row) (why : CupError) → rows ≡ rows_of text → IsHeader rows columns rest → points ≡ waypoint_rows rest → AreRead columns points waypoints → tasks ≡ task_rows rest → choice which tasks ≡ Ok (row, details) → ((why ≡ cup.Memory → ⊥) → refused_task waypoints row details ≡ Some why) → IsRefusalOf text which why
+pub task_refused : (text : List ℕ) (which : Option ℕ) (columns : Columns) (rows rest tasks details points : List Row) (waypoints : List Waypoint) (row : Row) (why : CupError) → rows ≡ rows_of text
+    → IsHeader rows columns rest → points ≡ waypoint_rows rest → AreRead columns points waypoints → tasks ≡ task_rows rest → choice which tasks ≡ Ok (row, details)
+    → ((why ≡ cup.Memory → ⊥) → refused_task waypoints row details ≡ Some why) → IsRefusalOf text which why
 task_refused text which columns rows rest tasks details points waypoints row why rows-are header points-are read tasks-are chosen told =
     let H : List Row → Type 0 = λ (all : List Row). IsHeader all columns rest in
     let R : List Row → Type 0 = λ (all : List Row). AreRead columns all waypoints in
     elim (other_or_memory why) [
-      | inl other ↦ wrong (record { columns = columns; rest = rest; waypoints = waypoints; row = row; details = details; header = subst H rows-are header; read = subst R points-are read; chosen = ap (choice which) (sym tasks-are) ∙ chosen; wrong = told other })
+      | inl other ↦ wrong (record {
+        columns = columns;
+        rest = rest;
+        waypoints = waypoints;
+        row = row;
+        details = details;
+        header = subst H rows-are header;
+        read = subst R points-are read;
+        chosen =
+            ap (choice which) (sym tasks-are) ∙ chosen;
+        wrong = told other;
+      })
       | inr same ↦ memory same
     ]

@@ -5,7 +5,8 @@ use Rattle.gl_cup.specs.Row.{first_broken, is_row, row_at, rows_from}
 use Rattle.gl_cup.specs.declared.row.Row.{Row}
 
 -- one more row
-pub next_rows : (n : ℕ) (all before now : List Row) (line : List ℕ) (lines : List (List ℕ)) → all ≡ before ++ rows_from n (line ∷ lines) → now ≡ before ++ row_at n line → all ≡ now ++ rows_from (n + 1) lines
+pub next_rows : (n : ℕ) (all before now : List Row) (line : List ℕ) (lines : List (List ℕ)) → all ≡ before ++ rows_from n (line ∷ lines) → now ≡ before ++ row_at n line
+    → all ≡ now ++ rows_from (n + 1) lines
 next_rows n all before now line lines is-all is-now =
     is-all ∙ sym (append_assoc before (row_at n line) (rows_from (n + 1) lines)) ∙ ap (λ (rows : List Row). rows ++ rows_from (n + 1) lines) (sym is-now)
 

@@ -10,7 +10,8 @@ use Rattle.gl_cup.specs.declared.waypoint.Waypoint.{Waypoint}
 use Rattle.gl_cup.specs.declared.zone.ObsZone.{ObsZone}
 
 -- a row that isn't refused leaves the answer to those behind it
-pub passes_row : (points : ℕ) (before : List Row) (row : Row) (rows : List Row) → is_refused points before row ≡ false → first_refused points before (row ∷ rows) ≡ first_refused points (before ++ row ∷ []) rows
+pub passes_row : (points : ℕ) (before : List Row) (row : Row) (rows : List Row) → is_refused points before row ≡ false
+    → first_refused points before (row ∷ rows) ≡ first_refused points (before ++ row ∷ []) rows
 passes_row points before row rows passes = ap (λ (b : Bool). cond b (Some row) (first_refused points (before ++ row ∷ []) rows)) passes
 
 pub stops_at_row : (points : ℕ) (before : List Row) (row : Row) (rows : List Row) → is_refused points before row ≡ true → first_refused points before (row ∷ rows) ≡ Some row
@@ -22,11 +23,13 @@ names_at names n name inside is =
     rw add-one (drop-cons names n name inside ∙ ap (λ (x : List ℕ). x ∷ drop (suc n) names) (sym is))
 
 -- a name that is known leaves the answer to those behind it
-pub passes_name : (ws : List Waypoint) (n : ℕ) (names : List (List ℕ)) (name : List ℕ) → n < length names → name ≡ get_or names n name → is_none (place_of name ws) ≡ false → first_unknown ws n (drop n names) ≡ first_unknown ws (n + 1) (drop (n + 1) names)
+pub passes_name : (ws : List Waypoint) (n : ℕ) (names : List (List ℕ)) (name : List ℕ) → n < length names → name ≡ get_or names n name → is_none (place_of name ws) ≡ false
+    → first_unknown ws n (drop n names) ≡ first_unknown ws (n + 1) (drop (n + 1) names)
 passes_name ws n names name inside is known =
     ap (first_unknown ws n) (names_at names n name inside is) ∙ ap (λ (b : Bool). cond b (Some n) (first_unknown ws (n + 1) (drop (n + 1) names))) known
 
-pub stops_at_name : (ws : List Waypoint) (n : ℕ) (names : List (List ℕ)) (name : List ℕ) → n < length names → name ≡ get_or names n name → is_none (place_of name ws) ≡ true → first_unknown ws n (drop n names) ≡ Some n
+pub stops_at_name : (ws : List Waypoint) (n : ℕ) (names : List (List ℕ)) (name : List ℕ) → n < length names → name ≡ get_or names n name → is_none (place_of name ws) ≡ true
+    → first_unknown ws n (drop n names) ≡ Some n
 stops_at_name ws n names name inside is unknown =
     ap (first_unknown ws n) (names_at names n name inside is) ∙ ap (λ (b : Bool). cond b (Some n) (first_unknown ws (n + 1) (drop (n + 1) names))) unknown
 
@@ -35,21 +38,27 @@ none_known : (b : Bool) (n : ℕ) (rest : Option ℕ) → cond b (Some n) rest �
 none_known true n rest is = absurd (cc)
 none_known false n rest is = (refl, is)
 
-pub first_known : (ws : List Waypoint) (n : ℕ) (names : List (List ℕ)) (name : List ℕ) → n < length names → name ≡ get_or names n name → first_unknown ws n (drop n names) ≡ None → (is_none (place_of name ws) ≡ false) × (first_unknown ws (n + 1) (drop (n + 1) names) ≡ None)
+pub first_known : (ws : List Waypoint) (n : ℕ) (names : List (List ℕ)) (name : List ℕ) → n < length names → name ≡ get_or names n name → first_unknown ws n (drop n names) ≡ None
+    → (is_none (place_of name ws) ≡ false) × (first_unknown ws (n + 1) (drop (n + 1) names) ≡ None)
 first_known ws n names name inside is all =
     none_known _ n _ (sym (ap (first_unknown ws n) (names_at names n name inside is)) ∙ all)
 
 -- a point with a zone leaves the answer to those behind it
-pub passes_zone : (details : List Row) (n : ℕ) (names : List (List ℕ)) (name : List ℕ) → n < length names → name ≡ get_or names n name → is_none (zone_at details n) ≡ false → first_zoneless details n (drop n names) ≡ first_zoneless details (n + 1) (drop (n + 1) names)
+pub passes_zone : (details : List Row) (n : ℕ) (names : List (List ℕ)) (name : List ℕ) → n < length names → name ≡ get_or names n name → is_none (zone_at details n) ≡ false
+    → first_zoneless details n (drop n names) ≡ first_zoneless details (n + 1) (drop (n + 1) names)
 passes_zone details n names name inside is zoned =
     ap (first_zoneless details n) (names_at names n name inside is) ∙ ap (λ (b : Bool). cond b (Some n) (first_zoneless details (n + 1) (drop (n + 1) names))) zoned
 
-pub stops_at_zone : (details : List Row) (n : ℕ) (names : List (List ℕ)) (name : List ℕ) → n < length names → name ≡ get_or names n name → zone_at details n ≡ None → first_zoneless details n (drop n names) ≡ Some n
+pub stops_at_zone : (details : List Row) (n : ℕ) (names : List (List ℕ)) (name : List ℕ) → n < length names → name ≡ get_or names n name → zone_at details n ≡ None
+    → first_zoneless details n (drop n names) ≡ Some n
 stops_at_zone details n names name inside is zoneless =
-    ap (first_zoneless details n) (names_at names n name inside is) ∙ ap (λ (found : Option (ObsZone × ℕ)). cond (is_none found) (Some n) (first_zoneless details (n + 1) (drop (n + 1) names))) zoneless
+    ap (first_zoneless details n) (names_at names n name inside is) ∙ ap
+    (λ (found : Option (ObsZone × ℕ)). cond (is_none found) (Some n) (first_zoneless details (n + 1) (drop (n + 1) names))) zoneless
 
 -- the first point without a zone is what is refused
-pub zone_refused : (details : List Row) (n line : ℕ) (names : List (List ℕ)) (name : List ℕ) (why : CupError) → n < length names → name ≡ get_or names n name → first_zoneless details 0 names ≡ first_zoneless details n (drop n names) → (zone_at details n ≡ None) × (why ≡ cup.NoZone line n) → option_map (cup.NoZone line) (first_zoneless details 0 names) ≡ Some why
+pub zone_refused : (details : List Row) (n line : ℕ) (names : List (List ℕ)) (name : List ℕ) (why : CupError) → n < length names → name ≡ get_or names n name
+    → first_zoneless details 0 names ≡ first_zoneless details n (drop n names) → (zone_at details n ≡ None) × (why ≡ cup.NoZone line n)
+    → option_map (cup.NoZone line) (first_zoneless details 0 names) ≡ Some why
 zone_refused details n line names name why inside is rest found =
     ap (option_map (cup.NoZone line)) (rest ∙ stops_at_zone details n names name inside is found.0) ∙ ap (λ (e : CupError). Some e) (sym found.1)
 

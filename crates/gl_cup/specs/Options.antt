@@ -20,7 +20,8 @@ abbrev pub flag_with : Option ℕ → List (List ℕ) → Option Bool
 flag_with None fields = Some false
 flag_with (Some second) fields = flag_of (value_of (codes "WpDis") fields)
 
--- points in any order are no task that can be said, nor is a time for a task that is measured by its
+-- points in any order are no task that can be said, nor is a time for a task that is measured by
+-- its
 -- waypoints
 unfoldable pub options_in : List (List ℕ) → Option Options
 options_in fields = do

@@ -52,7 +52,8 @@ abbrev pub or_else : Option code.CupError → Option code.CupError → Option co
 or_else None other = other
 or_else (Some why) other = Some why
 
--- what is wrong with the points of a task on a line: the first name that isn't known, else the first
+-- what is wrong with the points of a task on a line: the first name that isn't known, else the
+-- first
 -- row below it that is refused, else the first point without a zone
 unfoldable pub refused_points : List Waypoint → ℕ → List Row → List (List ℕ) → Option code.CupError
 refused_points waypoints line details names =

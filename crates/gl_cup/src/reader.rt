@@ -71,7 +71,8 @@ fn place_of(name: &[u8], waypoints: &[Waypoint]) -> Option<Grid>
     }
 }
 
-/// The description of a task, and the names of its points: the fields behind the description and the
+/// The description of a task, and the names of its points: the fields behind the description and
+/// the
 /// take-off, and before the landing. There are at least three.
 fn names_of(row: &Row) -> Result<(&Field, &[Field]), CupError>
     ensures title { IfOk result (λ read. slice_get row.now.fields 0 ≡ Some read.0.now) }

@@ -1,5 +1,14 @@
+pub mod Checks
+pub mod Distances
+pub mod Entrants
 pub mod Fines
+pub mod Flights
+pub mod Foreign
 pub mod Named
+pub mod Sheets
+pub mod Statements
+pub mod Texts
 pub mod Totalled
 pub mod Walked
 pub mod Windows
+pub mod Written

@@ -28,11 +28,13 @@ or-none None = refl
 or-none (Some n) = refl
 
 -- a claim of the kind
-pub total_taken : (test : ClaimKind → Bool) (statements : List Statement) (s : Statement) (total next : Option ℕ) → total_if test s ≡ s.total → total ≡ claimed_total test statements → next ≡ option_or total s.total → next ≡ claimed_total test (statements ++ s ∷ [])
+pub total_taken : (test : ClaimKind → Bool) (statements : List Statement) (s : Statement) (total next : Option ℕ) → total_if test s ≡ s.total → total ≡ claimed_total test statements
+    → next ≡ option_or total s.total → next ≡ claimed_total test (statements ++ s ∷ [])
 total_taken test statements s total next of_kind is taken =
     taken ∙ ap (λ (o : Option ℕ). option_or o s.total) is ∙ ap (option_or (claimed_total test statements)) (sym of_kind) ∙ sym (total-push test statements s)
 
 -- a claim of another kind
-pub total_kept : (test : ClaimKind → Bool) (statements : List Statement) (s : Statement) (total : Option ℕ) → total_if test s ≡ None → total ≡ claimed_total test statements → total ≡ claimed_total test (statements ++ s ∷ [])
+pub total_kept : (test : ClaimKind → Bool) (statements : List Statement) (s : Statement) (total : Option ℕ) → total_if test s ≡ None → total ≡ claimed_total test statements
+    → total ≡ claimed_total test (statements ++ s ∷ [])
 total_kept test statements s total other is =
     is ∙ sym (or-none (claimed_total test statements)) ∙ ap (option_or (claimed_total test statements)) (sym other) ∙ sym (total-push test statements s)

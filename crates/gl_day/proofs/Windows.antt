@@ -3,47 +3,28 @@ use Rattle.std.proofs.Common.{sym, subst, refl, ℕ, ◌≤◌, List, [], ◌∷
 use Rattle.std.specs.Prelude.{MatchBool}
 use Rattle.gl_airspace.specs.declared.volume.Airspace.{Airspace}
 use Rattle.gl_igc.specs.declared.error.IgcError.{IgcError}
-use Rattle.gl_igc.specs.declared.fix.Fix.{Fix}
 use Rattle.gl_igc.specs.declared.recording.Recording.{Recording}
 use Rattle.gl_igc.specs.Reading.{Reading, recording_of}
 use Rattle.gl_judge.specs.declared.outcome.Judged.{Judged}
 use Rattle.gl_judge.specs.declared.outcome.Judged.TheVariants.{Finished, Outlanded, NoStart}
-use Rattle.gl_judge.specs.Finishes.{IsAtFinish}
 use Rattle.gl_judge.specs.Outcome.{IsJudged, OnFinished}
-use Rattle.gl_judge.specs.JudgedFixes.{IsInRange}
-use Rattle.gl_judge.specs.Visits.{IsVisit, last_of}
-use Rattle.gl_judge.proofs.Times.{seconds-bound}
+use Rattle.gl_judge.proofs.Routes.{last-after}
+use Rattle.gl_judge.proofs.Times.{finish-judged, seconds-bound}
 use Rattle.gl_proof.specs.Claim.{Statement}
-use Rattle.gl_task.specs.declared.day_type.Finish.{Finish}
-use Rattle.gl_task.specs.declared.day_type.Finish.TheVariants.{Ring, Gate}
 use Rattle.gl_task.specs.declared.task.Entrant.{Entrant}
 use Rattle.gl_task.specs.declared.task.Task.{Task}
-use Rattle.gl_zone.specs.declared.zone.Zone.{Zone}
 use Rattle.gl_day.specs.declared.flight.Flight.{Flight}
 use Rattle.gl_day.specs.declared.flight.Seen.TheVariants.{Recorded}
-use Rattle.gl_day.specs.Flight.{IsFlight, IsJudgedFlight, IsReadFlight, IsRefusedFlight, IsSeen, IsWindowOf, OnWindow, StewardRules}
-
-visit_rises : (fixes : List Fix) (judged : ℕ × ℕ) (zones : List Zone) (from : ℕ) (visit : List ℕ) → IsVisit fixes judged zones from visit → from ≤ last_of from visit
-visit_rises fixes judged [] from [] is = omega arith
-visit_rises fixes judged [] from (z ∷ zs) is = absurd is
-visit_rises fixes judged (zone ∷ zones) from [] is = absurd is
-visit_rises fixes judged (zone ∷ zones) from (z ∷ zs) is =
-    let first = is.0 in
-    let rest = visit_rises fixes judged zones z zs is.2 in
-    omega (arith, first, rest)
-
--- a finish is judged
-finish_judged : (finish : Finish) (fixes : List Fix) (judged : ℕ × ℕ) (f : ℕ) (time : ℤ) → IsAtFinish finish fixes judged f time → IsInRange judged f
-finish_judged (Ring at radius) fixes judged f time is = is.is_judged
-finish_judged (Gate line) fixes judged f time is = is.behind_judged
+use Rattle.gl_day.specs.Flight.{IsFlight, IsJudgedFlight, IsReadFlight, IsRefusedFlight, IsSeen, StewardRules}
+use Rattle.gl_day.specs.Code.Found.{IsWindowOf, OnWindow}
 
 -- the window of a flight lies within its fixes
 pub window_in : (task : Task) (air : Airspace) (recording : Recording) (outcome : Judged) → IsJudged task air recording outcome → OnWindow outcome (IsWindowOf recording.fixes)
 window_in task air recording (Finished window seconds) is =
     let visited = is.is.finish.visited in
-    let rises : window.first ≤ is.is.finish.last = subst (λ (n : ℕ). window.first ≤ n) visited.ends (visit_rises recording.fixes is.judged task.zones window.first visited.visit visited.is_visit) in
+    let rises : window.first ≤ is.is.finish.last = subst (λ (n : ℕ). window.first ≤ n) visited.ends (last-after recording.fixes is.judged task.zones window.first visited.visit visited.is_visit) in
     let after = is.is.finish.finished.after in
-    let last = finish_judged task.finish recording.fixes is.judged window.last is.is.time is.is.finish.finished.at_finish in
+    let last = finish-judged task.finish recording.fixes is.judged window.last is.is.time is.is.finish.finished.at_finish in
     let upto = last.1 in
     let all = is.range.within in
     record { ordered = omega (arith, rises, after); within = omega (arith, upto, all) }
@@ -60,8 +41,10 @@ pub seconds_in : (task : Task) (air : Airspace) (recording : Recording) (outcome
 seconds_in task air recording outcome is = seconds-bound task air.volumes recording is.judged outcome is.range is.is
 
 -- the flight of a recording is that of its bytes
-pub flight_seen : (task : Task) (air : Airspace) (stewards : List StewardRules) (entrant : Entrant) (recording : Recording) (bytes : List ℕ) (statements : List Statement) (flight : Flight) → IsSeen task entrant bytes (Recorded recording) → IsJudgedFlight task air stewards entrant recording statements flight → IsFlight task air stewards entrant (Some bytes) statements flight
+pub flight_seen : (task : Task) (air : Airspace) (stewards : List StewardRules) (entrant : Entrant) (recording : Recording) (bytes : List ℕ) (statements : List Statement) (flight : Flight)
+    → IsSeen task entrant bytes (Recorded recording) → IsJudgedFlight task air stewards entrant recording statements flight → IsFlight task air stewards entrant (Some bytes) statements flight
 flight_seen task air stewards entrant recording bytes statements flight seen judged =
     let read : Result Reading IgcError → Type 0 = λ r. IsReadFlight task air stewards entrant r statements flight in
     let is = subst read (sym seen.1) (recording, refl, judged) in
-    subst (λ (b : Bool). MatchBool b (IsRefusedFlight task entrant 7 statements flight) (IsReadFlight task air stewards entrant (recording_of bytes (Some task.date)) statements flight)) (sym seen.0) is
+    subst (λ (b : Bool). MatchBool b (IsRefusedFlight task entrant 7 statements flight) (IsReadFlight task air stewards entrant (recording_of bytes (Some task.date)) statements flight))
+    (sym seen.0) is

@@ -1,28 +1,23 @@
 -- Which claims are asked of an entrant, by what is seen of the file.
 use Rattle.std.specs.Prelude.{◌≡◌, ℕ, nat_lt, List, [], length, Option, None, Some, Result, Ok, Err, MatchBool}
 use Rattle.gl_airspace.specs.declared.volume.Airspace.{Airspace}
-use Rattle.gl_goal.specs.Rule.{Rule}
 use Rattle.gl_igc.specs.declared.error.IgcError.{IgcError}
 use Rattle.gl_igc.specs.declared.recording.Recording.{Recording}
 use Rattle.gl_igc.specs.Reading.{Reading, recording_of}
 use Rattle.gl_igc.specs.Recording.{reading_of}
 use Rattle.gl_judge.specs.Claims.{AreExpected}
-use Rattle.gl_proof.specs.declared.claim.ClaimKind.{ClaimKind}
 use Rattle.gl_task.specs.declared.task.Entrant.{Entrant}
 use Rattle.gl_task.specs.declared.task.Task.{Task}
-use Rattle.gl_day.specs.Expected.{expected_of}
+use Rattle.gl_day.specs.Expected.{Expected, expected_of}
 use Rattle.gl_desk.specs.Limits.{most_bytes}
-
--- a claim that a proof has to have: the number of an entrant, a kind and a goal
-abbrev pub Expected : Type 0
-Expected = List ℕ × ClaimKind × Rule
+use Rattle.gl_judge.specs.Claimed.{FlightClaim}
 
 -- those of an entrant whose file reads as this, or is refused
 abbrev pub AreAskedOfReading : Task → Airspace → Entrant → Result Reading IgcError → List Expected
     → Type 0
 AreAskedOfReading task air entrant (Ok reading) claims =
     (recording : Recording) × (reading_of recording ≡ reading)
-    × (list : List (ClaimKind × Rule)) × AreExpected task air recording list
+    × (list : List FlightClaim) × AreExpected task air recording list
     × (claims ≡ expected_of entrant.number list)
 AreAskedOfReading task air entrant (Err error) claims = claims ≡ []
 

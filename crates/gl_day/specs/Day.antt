@@ -1,8 +1,8 @@
 -- The sheet of a day, from the flights of its entrants.
 use Rattle.std.specs.Prelude.{◌≡◌, ℕ, ◌-◌, List, map}
 use Rattle.gl_points.specs.declared.performance.Performance.{Performance}
-use Rattle.gl_points.specs.declared.summary.Day.{Day}
-use Rattle.gl_points.specs.Day.{IsDayOf}
+use Rattle.gl_points.specs.declared.summary.Summary.{Summary}
+use Rattle.gl_points.specs.Summary.{IsSummaryOf}
 use Rattle.gl_points.specs.Points.{points_earned}
 use Rattle.gl_sheet.specs.declared.row.Row.{Row}
 use Rattle.gl_sheet.specs.Sheet.{IsSheet}
@@ -15,7 +15,7 @@ performances_of flights = map (λ flight. flight.performance) flights
 
 -- The row of a flight, on a day with these figures: its points are those that it earned, less its
 -- penalty and not below 0.
-abbrev pub row_of : Day → Flight → Row
+abbrev pub row_of : Summary → Flight → Row
 row_of day flight = record {
   outcome = flight.outcome;
   metres = flight.performance.metres;
@@ -28,8 +28,8 @@ row_of day flight = record {
 
 -- rows are those of the flights of a day, by the figures of all its performances
 pub record AreRows (flights : List Flight) (rows : List Row) : Type 0 where
-  pub day : Day
-  pub figures : IsDayOf (performances_of flights) day
+  pub day : Summary
+  pub figures : IsSummaryOf (performances_of flights) day
   pub each : rows ≡ map (row_of day) flights
 
 -- A text is the sheet of the flights of a task.

@@ -1,5 +1,5 @@
 -- What the flight of an entrant gives, by what was seen of its file.
-use Rattle.std.specs.Prelude.{◌≡◌, ℕ, ◌+◌, nat_lt, ◌<◌, ◌≤◌, Bool, true, false, List, [], length, map, slice_range, Option, None, Some, Result, Ok, Err, MatchBool}
+use Rattle.std.specs.Prelude.{◌≡◌, ℕ, ◌+◌, nat_lt, Bool, true, false, List, [], length, map, slice_range, Option, None, Some, Result, Ok, Err, MatchBool}
 use Rattle.std.specs.List.{AllZip}
 use Rattle.gl_airspace.specs.declared.volume.Airspace.{Airspace}
 use Rattle.gl_igc.specs.declared.error.IgcError.{IgcError}
@@ -8,14 +8,12 @@ use Rattle.gl_igc.specs.declared.recording.Recording.{Recording}
 use Rattle.gl_igc.specs.Reading.{Reading, recording_of}
 use Rattle.gl_igc.specs.Recording.{reading_of}
 use Rattle.gl_igc.specs.Refusals.{refusal_number}
-use Rattle.gl_goal.specs.Rule.{Rule}
 use Rattle.gl_judge.specs.declared.outcome.Judged.{Judged}
 use Rattle.gl_judge.specs.declared.outcome.Judged.TheVariants as judged
 use Rattle.gl_judge.specs.declared.outcome.Window.{Window}
 use Rattle.gl_judge.specs.Claims.{AreExpected}
 use Rattle.gl_judge.specs.Marking.{IsMarked}
 use Rattle.gl_judge.specs.Outcome.{IsJudged}
-use Rattle.gl_proof.specs.declared.claim.ClaimKind.{ClaimKind}
 use Rattle.gl_proof.specs.Claim.{Statement}
 use Rattle.gl_steward.specs.Penalty.{held_after, penalty}
 use Rattle.gl_task.specs.declared.task.Entrant.{Entrant}
@@ -30,15 +28,18 @@ use Rattle.gl_sheet.specs.declared.row.Outcome.TheVariants.{Finished, Outlanded,
 use Rattle.gl_desk.specs.Limits.{most_bytes}
 use Rattle.gl_day.specs.Expected.{Proves, expected_of}
 use Rattle.gl_day.specs.Totals.{AreTotals, claimed_total, column, is_distance, is_free, is_triangle}
+use Rattle.gl_judge.specs.Claimed.{FlightClaim}
 
--- A steward by its rules: the list that it opens a flight with, what a fix makes of a list, and what
+-- A steward by its rules: the list that it opens a flight with, what a fix makes of a list, and
+-- what
 -- is owed for a list.
 pub record StewardRules : Type 0 where
   pub opening : LocalRules → List ℕ
   pub fed : List ℕ → Fix → List ℕ
   pub owed : List ℕ → ℕ
 
-abbrev pub steward_rules : (LocalRules → List ℕ) → (List ℕ → Fix → List ℕ) → (List ℕ → ℕ) → StewardRules
+abbrev pub steward_rules : (LocalRules → List ℕ) → (List ℕ → Fix → List ℕ) → (List ℕ → ℕ)
+    → StewardRules
 steward_rules opening fed owed = record { opening = opening; fed = fed; owed = owed }
 
 -- what a steward is owed for the fixes of a flight
@@ -93,7 +94,7 @@ pub record IsJudgedFlight (task : Task) (air : Airspace) (stewards : List Stewar
     : Type 0 where
   pub judged : Judged
   pub is : IsJudged task air recording judged
-  pub claims : List (ClaimKind × Rule)
+  pub claims : List FlightClaim
   pub expected : AreExpected task air recording claims
   pub proved : AllZip Proves (expected_of entrant.number claims) statements
   pub outcome_is : flight.outcome ≡ outcome_of judged
@@ -117,8 +118,10 @@ IsReadFlight task air stewards entrant (Err error) statements flight =
     (number : ℕ) × (refusal_number error ≡ Some number)
     × IsRefusedFlight task entrant number statements flight
 
--- What the flight of an entrant gives, with these claims: not launched where there is no file; refused
--- by 7 where it has too many bytes, and by the number of its refusal where it is no recording of the
+-- What the flight of an entrant gives, with these claims: not launched where there is no file;
+-- refused
+-- by 7 where it has too many bytes, and by the number of its refusal where it is no recording of
+-- the
 -- day; else what is judged.
 abbrev pub IsFlight : Task → Airspace → List StewardRules → Entrant → Option (List ℕ)
     → List Statement → Flight → Type 0
@@ -138,22 +141,12 @@ IsSeen task entrant bytes (seen.Refused flight) =
     (air : Airspace) (stewards : List StewardRules)
     → IsFlight task air stewards entrant (Some bytes) [] flight
 
--- a fact of the window of a flight, if it has one
-abbrev pub OnWindow : Judged → (Window → Type 0) → Type 0
-OnWindow (judged.Finished window seconds) fact = fact window
-OnWindow (judged.Outlanded window zones) fact = fact window
-OnWindow judged.NoStart fact = Unit {0}
-
--- a window lies within fixes
-pub record IsWindowOf (fixes : List Fix) (window : Window) : Type 0 where
-  pub ordered : window.first ≤ window.last
-  pub within : window.last < length fixes
-
--- The claims that are expected of a flight with a recording are all proved, in their order, and these
+-- The claims that are expected of a flight with a recording are all proved, in their order, and
+-- these
 -- are their totals.
 pub record AreClaims (task : Task) (air : Airspace) (entrant : Entrant) (recording : Recording)
     (statements : List Statement) (totals : Totals) : Type 0 where
-  pub claims : List (ClaimKind × Rule)
+  pub claims : List FlightClaim
   pub expected : AreExpected task air recording claims
   pub proved : AllZip Proves (expected_of entrant.number claims) statements
   pub totals_are : AreTotals statements totals

@@ -1,11 +1,11 @@
 ghost use Rattle.std.specs.Prelude.{◌≡◌, ◌+◌, ◌≤◌, ◌↔◌, ℕ, List, [], ◌∷◌, length, map, slice_get, IfOk, IfNone, IsNone, IsTrue};
 ghost use Rattle.std.specs.List.{AllZip};
 ghost use Rattle.gl_goal.specs.AnyGoal.{any_rule};
-ghost use Rattle.gl_goal.specs.Rule.{IsOptimum, Rule};
-ghost use Rattle.gl_proof.specs.declared.claim.ClaimKind.{ClaimKind};
+ghost use Rattle.gl_goal.specs.Goal.{IsOptimum};
 ghost use Rattle.gl_proof.specs.Claim.{Statement, statement_of};
-ghost use Rattle.gl_day.specs.Checked.{Ends, GoesOn, IsFoundAt, IsNamed, IsSaid, Proceeds};
-ghost use Rattle.gl_day.specs.Expected.{Proves, expected_of};
+ghost use Rattle.gl_day.specs.Checked.{Ends, GoesOn, IsNamed, IsSaid, Proceeds};
+ghost use Rattle.gl_day.specs.Code.Found.{IsFoundAt};
+ghost use Rattle.gl_day.specs.Expected.{Expected, Proves, expected_of};
 ghost use Rattle.gl_judge.specs.Claimed.{rules_of_claims};
 
 use crate::fault::{Checked, Fault, NotProved};
@@ -17,9 +17,9 @@ use std::alloc::{AllocError, Global};
 
 /// The fault that a verdict tells, if it tells one.
 fn fault_of_verdict(verdict: Verdict) -> Option<Fault>
-    ensures { (expected : List ℕ × ClaimKind × Rule) (statement : Statement)
+    ensures { (expected : Expected) (statement : Statement)
         → IsSaid expected statement verdict
-        → (verdict ≡ Verdict.Yes → IsOptimum expected.2 statement.total)
+        → (verdict ≡ Verdict.Yes → IsOptimum expected.rule statement.total)
         → IsFoundAt expected (Some statement) result }
 {
     match verdict {
@@ -49,7 +49,8 @@ fn fault_of_claim<G: Goal>(
     claim: &Claim,
 ) -> Result<Option<Fault>, AllocError>
     ensures { IfOk result
-        (IsFoundAt (number.now, kind, G.rule goal.now) (Some (statement_of claim.now))) }
+        (IsFoundAt (record { number = number.now; kind = kind; rule = G.rule goal.now })
+        (Some (statement_of claim.now))) }
 {
     if !is_named(number, kind, claim) {
         return Ok(Some(Fault::Name));
@@ -68,7 +69,8 @@ fn fault_at<G: Goal>(
     claims: &[Claim],
     at: usize,
 ) -> Result<Option<Fault>, AllocError>
-    ensures found { IfOk result (IsFoundAt (number.now, kind, G.rule goal.now)
+    ensures found { IfOk result
+        (IsFoundAt (record { number = number.now; kind = kind; rule = G.rule goal.now })
         (slice_get (map statement_of claims.now) at)) }
     ensures within { IfOk result (λ fault. IfNone fault (at + 1 ≤ length claims.now)) }
 {
@@ -78,7 +80,8 @@ fn fault_at<G: Goal>(
     }
 }
 
-/// Checks one claim, where `count` claims of the proof were found right before: the answer is what is
+/// Checks one claim, where `count` claims of the proof were found right before: the answer is what
+/// is
 /// wrong with the next one, as [`check_flight`] has it. The only error is want of memory.
 pub fn check_next<G: Goal>(
     alloc: Global,
@@ -89,7 +92,8 @@ pub fn check_next<G: Goal>(
     count: usize,
 ) -> Result<Option<NotProved>, AllocError>
     requires { count ≤ length claims.now }
-    ensures goes_on { IfOk result (GoesOn count ((number.now, kind, G.rule goal.now) ∷ [])
+    ensures goes_on { IfOk result (GoesOn count
+        ((record { number = number.now; kind = kind; rule = G.rule goal.now }) ∷ [])
         (map statement_of claims.now)) }
     ensures within { IfOk result (λ wrong. IfNone wrong (count + 1 ≤ length claims.now)) }
 {
@@ -102,10 +106,14 @@ pub fn check_next<G: Goal>(
     }
 }
 
-/// Checks the claims of one entrant's flight: `goals` are those that are expected, and `count` is how
-/// many claims of the proof were found right before. The answer is the first claim that is wrong; where
-/// there is none, so many more are right. A claim is wrong where the proof has none there, where it has
-/// another number or kind, or else by what the checker says of it. The only error is want of memory.
+/// Checks the claims of one entrant's flight: `goals` are those that are expected, and `count` is
+/// how
+/// many claims of the proof were found right before. The answer is the first claim that is wrong;
+/// where
+/// there is none, so many more are right. A claim is wrong where the proof has none there, where it
+/// has
+/// another number or kind, or else by what the checker says of it. The only error is want of
+/// memory.
 pub fn check_flight(
     alloc: Global,
     number: &Name,
@@ -120,7 +128,8 @@ pub fn check_flight(
         (λ wrong. IfNone wrong (count + length goals.now ≤ length claims.now)) }
 
     // A proof of what is expected so far, of this flight and of what follows is never refused here.
-    ensures passes { IfOk result (λ wrong. Proceeds count (expected_of number.now (rules_of_claims goals.now))
+    ensures passes { IfOk result
+        (λ wrong. Proceeds count (expected_of number.now (rules_of_claims goals.now))
         (map statement_of claims.now) → IsNone wrong) }
 {
     let mut at = count;
@@ -136,13 +145,14 @@ pub fn check_flight(
     Ok(None)
 }
 
-/// What is said of a proof's claims where `count` of them were found right and no other is expected.
+/// What is said of a proof's claims where `count` of them were found right and no other is
+/// expected.
 pub fn check_end(claims: &[Claim], count: usize) -> Checked
     requires { count ≤ length claims.now }
     ensures ends { Ends count (map statement_of claims.now) result }
 
     // A proof of exactly what is expected is accepted.
-    ensures accepts { (expected : List (List ℕ × ClaimKind × Rule)) → length expected ≡ count
+    ensures accepts { (expected : List Expected) → length expected ≡ count
         → AllZip Proves expected (map statement_of claims.now)
         → result ≡ Checked.Accepted count }
 {

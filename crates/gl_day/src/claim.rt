@@ -1,6 +1,6 @@
 ghost use Rattle.std.specs.Prelude.{◌≡◌, ℕ, List, IfOk, IsSome, IsTrue};
 ghost use Rattle.gl_goal.specs.AnyGoal.{any_rule};
-ghost use Rattle.gl_goal.specs.Rule.{IsLegal, IsOptimum};
+ghost use Rattle.gl_goal.specs.Goal.{IsLegal, IsOptimum};
 ghost use Rattle.gl_plain.specs.Found.{IsCertified};
 ghost use Rattle.gl_plain.specs.Search.{IsSound, fixes_of, total_of};
 ghost use Rattle.gl_proof.specs.Claim.{IsWritable, statement_of};
@@ -49,7 +49,8 @@ pub fn claim_of_found<G: Goal>(
     requires sound { IsSound (G.rule goal.now) found.best }
     requires optimum { IsOptimum (G.rule goal.now) (total_of found.best) }
     ensures proves { IfOk result (λ claim.
-        Proves (number.now, kind, G.rule goal.now) (statement_of claim)) }
+        Proves (record { number = number.now; kind = kind; rule = G.rule goal.now })
+        (statement_of claim)) }
     ensures writable { IfOk result IsWritable }
     ensures total { IfOk result (λ claim. (tuple : List ℕ)
         → IsLegal (G.rule goal.now) tuple → IsSome claim.total) }
@@ -78,7 +79,8 @@ pub fn claim_of<S: Search>(
     requires search { S.ready search.now }
     requires number { IsTrue (is_number number.now) }
     ensures proves { IfOk result (λ claim.
-        Proves (number.now, kind, any_rule goal.now) (statement_of claim)) }
+        Proves (record { number = number.now; kind = kind; rule = any_rule goal.now })
+        (statement_of claim)) }
     ensures writable { IfOk result IsWritable }
     ensures total { IfOk result (λ claim. (tuple : List ℕ)
         → IsLegal (any_rule goal.now) tuple → IsSome claim.total) }

@@ -1,11 +1,11 @@
 ghost use Rattle.std.specs.Prelude.{◌≡◌, ◌≤◌, length, map, IfOk};
-ghost use Rattle.gl_points.specs.Day.{IsDayOf};
+ghost use Rattle.gl_points.specs.Summary.{IsSummaryOf};
 ghost use Rattle.gl_points.specs.Limits.{performance_limit};
 ghost use Rattle.gl_points.specs.Points.{IsPartOf};
 ghost use Rattle.gl_day.specs.Day.{AreRows, IsSheetOf, performances_of, row_of};
 
 use crate::flight::Flight;
-use gl_points::{Day, Performance, day, net, score};
+use gl_points::{Performance, Summary, day, net, score};
 use gl_sheet::{Row, SheetError, sheet};
 use gl_task::Task;
 use std::alloc::{AllocError, Global};
@@ -22,7 +22,7 @@ fn performances(alloc: Global, flights: &[Flight]) -> Result<Vec<Performance>, A
 }
 
 /// The row of a flight of a day.
-fn row_of(day: &Day, flight: &Flight) -> Row
+fn row_of(day: &Summary, flight: &Flight) -> Row
     requires { IsPartOf day.now flight.now.performance }
     ensures { result ≡ row_of day.now flight.now }
 {
@@ -38,8 +38,8 @@ fn row_of(day: &Day, flight: &Flight) -> Row
 }
 
 /// The rows of the flights of a day, in their order. The only error is want of memory.
-fn rows(alloc: Global, day: &Day, flights: &[Flight]) -> Result<Vec<Row>, AllocError>
-    requires figures { IsDayOf (performances_of flights.now) day.now }
+fn rows(alloc: Global, day: &Summary, flights: &[Flight]) -> Result<Vec<Row>, AllocError>
+    requires figures { IsSummaryOf (performances_of flights.now) day.now }
     requires few { length flights.now ≤ performance_limit }
     ensures { IfOk result (λ rows. rows.items ≡ map (row_of day.now) flights.now) }
 {
@@ -50,7 +50,8 @@ fn rows(alloc: Global, day: &Day, flights: &[Flight]) -> Result<Vec<Row>, AllocE
     Ok(rows)
 }
 
-/// The rows of the sheet of a day, one a flight and in their order: the points of each by the figures of
+/// The rows of the sheet of a day, one a flight and in their order: the points of each by the
+/// figures of
 /// all performances, less its penalty. The only error is want of memory.
 pub fn day_rows(alloc: Global, flights: &[Flight]) -> Result<Vec<Row>, AllocError>
     requires { length flights.now ≤ performance_limit }

@@ -4,7 +4,8 @@ ghost use Rattle.gl_judge.specs.Marking.{IsMarked, is_chosen};
 ghost use Rattle.gl_judge.specs.Outcome.{IsJudged, OnFinished};
 ghost use Rattle.gl_proof.specs.Claim.{Statement};
 ghost use Rattle.gl_day.specs.declared.flight.Seen.TheVariants.{Recorded};
-ghost use Rattle.gl_day.specs.Flight.{AreClaims, IsFlight, IsSeen, IsWindowOf, OnWindow, fixes_of_window, outcome_of, penalty_in, penalty_of, steward_rules};
+ghost use Rattle.gl_day.specs.Flight.{AreClaims, IsFlight, IsSeen, fixes_of_window, outcome_of, penalty_in, penalty_of, steward_rules};
+ghost use Rattle.gl_day.specs.Code.Found.{IsWindowOf, OnWindow};
 
 use crate::flight::{Flight, column};
 use crate::totals::Totals;
@@ -72,7 +73,8 @@ fn outcome_of(judged: &Judged) -> Outcome
     }
 }
 
-/// The flight of an entrant with a recording, once it is judged and all its claims are proved: `totals`
+/// The flight of an entrant with a recording, once it is judged and all its claims are proved:
+/// `totals`
 /// are theirs. The stewards keep their rules; a flight without a window leaves them as they are.
 pub fn finish_flight(
     task: &Task,

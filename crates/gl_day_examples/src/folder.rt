@@ -5,7 +5,8 @@ use std::alloc::{AllocError, Global};
 use std::process::Abort;
 use std::test::Fail;
 
-/// The task of a race from the origin one degree east, from there one degree north and back, with three
+/// The task of a race from the origin one degree east, from there one degree north and back, with
+/// three
 /// entrants: Ann, Ben and Cy.
 pub const RACE: &str = "date = \"2024-07-01\"\nkind = \"racing\"\ncloses = 72000\n\
     [start]\nat = \"0000000N00000000E\"\ntowards = \"0000000N00100000E\"\nhalf = 5000\n\
@@ -64,7 +65,8 @@ pub fn make_file(alloc: Global, name: &'static str, parts: &[&str]) -> Result<Fi
     Ok(File { name, text })
 }
 
-/// The folder of a day with this task: Ann flies the whole race, and Cy lands out behind the first zone.
+/// The folder of a day with this task: Ann flies the whole race, and Cy lands out behind the first
+/// zone.
 pub fn race(alloc: Global, task: &str) -> Result<Vec<File>, AllocError> {
     let mut files = Vec::new(alloc);
     files.push(make_file(alloc, "DAY.TOML", &[task])?)?;
@@ -116,7 +118,8 @@ pub fn names(alloc: Global, line: &str) -> Result<Vec<Name>, AllocError> {
     Ok(names)
 }
 
-/// Runs the words of the line in a folder of these files; the proof is `P.TXT`. The k-th call of the
+/// Runs the words of the line in a folder of these files; the proof is `P.TXT`. The k-th call of
+/// the
 /// desk fails where k isn't 0.
 pub fn run(alloc: Global, line: &str, files: &[File], failing: u64) -> Result<Ended, Fail> {
     let mut desk = filled(alloc, files, failing)?;

@@ -1,3 +1,4 @@
+pub mod Balance
 pub mod Workers
 pub mod Seats
 pub mod Steps

@@ -12,16 +12,19 @@ use Rattle.gl_deal.specs.declared.view.HandView.{HandView}
 use Rattle.gl_deal.specs.declared.view.PassView.{PassView}
 use Rattle.gl_deal.specs.declared.view.View.{View}
 use Rattle.gl_deal.specs.declared.view.View.TheVariants.{OfHand, OfPass}
-use Rattle.gl_deal.specs.Views.{as_hand, as_pass, is_hand, is_pass, new_pass, with_earlier, with_later, with_put, with_settled, with_stolen, with_taken}
+use Rattle.gl_deal.specs.Views.{as_hand, as_pass, is_hand, is_pass, new_pass, with_put, with_settled, with_stolen, with_taken}
+use Rattle.gl_deal.specs.Code.Deal.{with_earlier, with_later}
 use Rattle.gl_deal.specs.Rule.{IsShared, IsBalanced, HasEachWorkerOnce, HasSettledAll, TookAllItPut, TakesForSomeone, times}
 use Rattle.gl_deal.proofs.Workers.{all_taken, once_more, sum_with, times_both, times_more}
 use Rattle.gl_deal.proofs.Seats.{all_one, seated, IsFirst, IsLater, hand_first, pass_later, sum_set}
 
 -- the hand of a deque, by the view that stands at its port
-first_in : (cells : List Cell) (views : List View) (port : ℕ) (known : HandView) (dealt : IsShared cells views) → get_elem? views port ≡ some (OfHand known) → IsFirst dealt.hand known dealt.passes port
+first_in : (cells : List Cell) (views : List View) (port : ℕ) (known : HandView) (dealt : IsShared cells views) → get_elem? views port ≡ some (OfHand known)
+    → IsFirst dealt.hand known dealt.passes port
 first_in cells views port known dealt is = hand_first dealt.hand known dealt.passes port (subst (λ vs. get_elem? vs port ≡ some (OfHand known)) dealt.views_are is)
 
-later_in : (cells : List Cell) (views : List View) (port : ℕ) (known : PassView) (dealt : IsShared cells views) → get_elem? views port ≡ some (OfPass known) → IsLater dealt.hand known dealt.passes port
+later_in : (cells : List Cell) (views : List View) (port : ℕ) (known : PassView) (dealt : IsShared cells views) → get_elem? views port ≡ some (OfPass known)
+    → IsLater dealt.hand known dealt.passes port
 later_in cells views port known dealt is = pass_later dealt.hand known dealt.passes port (subst (λ vs. get_elem? vs port ≡ some (OfPass known)) dealt.views_are is)
 
 -- The hand's new view keeps the rule where it says as much of the workers, and is balanced
@@ -168,4 +171,5 @@ pub finds : (port : ℕ) (view : View) → is_hand view ≡ true → Finds IsSha
 finds port (OfPass pass) is views dealt at all = absurd (true≢false (sym is))
 finds port (OfHand hand) is views dealt at all =
     let first = first_in [] views port hand dealt at in
-    all_taken hand dealt.passes all (subst (λ (h : HandView). IsBalanced [] h dealt.passes) first.same dealt.balanced) (subst (λ (h : HandView). HasEachWorkerOnce h dealt.passes) first.same dealt.served) dealt.idle
+    all_taken hand dealt.passes all (subst (λ (h : HandView). IsBalanced [] h dealt.passes) first.same dealt.balanced)
+    (subst (λ (h : HandView). HasEachWorkerOnce h dealt.passes) first.same dealt.served) dealt.idle

@@ -8,9 +8,10 @@ use Rattle.std.specs.List.{remove}
 use Rattle.gl_deal.specs.declared.hand.Hand.{Hand}
 use Rattle.gl_deal.specs.declared.pass.Pass.{Pass}
 use Rattle.gl_deal.specs.declared.place.Place.{Place}
-use Rattle.gl_deal.specs.Views.{new_hand, new_pass, partly_dealt}
+use Rattle.gl_deal.specs.Views.{new_hand, new_pass}
+use Rattle.gl_deal.specs.Code.Deal.{partly_dealt, AreDealt, ArePiles}
 use Rattle.gl_deal.specs.Tokens.{Deque, end_of, hand_deque, hand_view}
-use Rattle.gl_deal.specs.Deal.{AreDealt, ArePiles, IsDeal, deques_of, passes_to}
+use Rattle.gl_deal.specs.Deal.{IsDeal, deques_of, passes_to}
 
 module _ {X : Type 0} where
   remove_more : (xs : List X) (x : X) (place : ℕ) → (place ≡ length xs → ⊥) → remove (xs ++ x ∷ []) place ≡ remove xs place ++ x ∷ []
@@ -24,7 +25,8 @@ module _ {X : Type 0} where
   remove_own [] x = refl
   remove_own (y ∷ ys) x = ap (λ zs. y ∷ zs) (remove_own ys x)
 
-pub passes_more : (worker : ℕ) (deques : List Deque) (deque : Deque) → (worker ≡ length deques → ⊥) → passes_to worker (deques ++ deque ∷ []) ≡ passes_to worker deques ++ (deque, new_pass (worker ∷ [])) ∷ []
+pub passes_more : (worker : ℕ) (deques : List Deque) (deque : Deque) → (worker ≡ length deques → ⊥)
+    → passes_to worker (deques ++ deque ∷ []) ≡ passes_to worker deques ++ (deque, new_pass (worker ∷ [])) ∷ []
 passes_more worker deques deque other =
     ap (map (λ (d : Deque). (d, new_pass (worker ∷ [])))) (remove_more deques deque worker other)
     ∙ map-append (λ (d : Deque). (d, new_pass (worker ∷ []))) (remove deques worker) (deque ∷ [])
@@ -50,7 +52,8 @@ AreDone hands worker upto = (owner : ℕ) (d : Hand) → owner < upto → hand_v
 abbrev pub AreLeft : List Hand → ℕ → ℕ → Type 0
 AreLeft hands worker from = (owner : ℕ) (d : Hand) → from ≤ owner → owner < length hands → hand_view (get_or hands owner d) ≡ partly_dealt worker owner
 
-pub done_more : (hands : List Hand) (next : Hand) (worker owner : ℕ) → owner < length hands → hand_view next ≡ partly_dealt (worker + 1) owner → AreDone hands worker owner → AreDone (set hands owner next) worker (owner + 1)
+pub done_more : (hands : List Hand) (next : Hand) (worker owner : ℕ) → owner < length hands → hand_view next ≡ partly_dealt (worker + 1) owner → AreDone hands worker owner
+    → AreDone (set hands owner next) worker (owner + 1)
 done_more hands next worker owner within is done other d less = ⊎_elim
     (λ (before : other < owner). ap hand_view (get_or-set_other hands owner other next d (λ same. omega arith)) ∙ done other d before)
     (λ (at : owner ≤ other).
@@ -147,7 +150,8 @@ places_dealt workers lone dealt piles places count same are_dealt many are_piles
             ∙ all_dealt (length lone) worker (omega arith)
             ∙ ap (new_hand worker) count;
         passes =
-            ap (λ (pile : Vec Pass Global). map end_of pile.items) (sym (get_or-map (λ (place : Place). place.passes) places worker d d.passes (omega arith)) ∙ ap (λ ps. get_or ps worker d.passes) passes)
+            ap (λ (pile : Vec Pass Global). map end_of pile.items) (sym (get_or-map (λ (place : Place). place.passes) places worker d d.passes (omega arith))
+            ∙ ap (λ ps. get_or ps worker d.passes) passes)
             ∙ are_piles worker d.passes (omega arith)
             ∙ ap (passes_to worker) (sym deques);
       };

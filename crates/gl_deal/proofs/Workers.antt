@@ -58,7 +58,8 @@ below_most : (worker workers : ℕ) → below worker workers ≤ 1
 below_most worker workers = ⊎_elim (λ less. omega (arith, below_is worker workers less)) (λ more. omega (arith, below_not worker workers more)) (cases_lt worker workers)
 
 -- a worker whom a pass serves wasn't settled, and isn't the owner
-not_settled : (hand : HandView) (passes : List PassView) (k : ℕ) (d : PassView) (worker : ℕ) (rest : List ℕ) → HasSettledAll hand → HasEachWorkerOnce hand passes → k < length passes → (get_or passes k d).serves ≡ worker ∷ rest → ⊥
+not_settled : (hand : HandView) (passes : List PassView) (k : ℕ) (d : PassView) (worker : ℕ) (rest : List ℕ) → HasSettledAll hand → HasEachWorkerOnce hand passes → k < length passes
+    → (get_or passes k d).serves ≡ worker ∷ rest → ⊥
 not_settled hand passes k d worker rest all served within is =
     let whole = served worker in
     let part = get_or-le-sum_by (λ (p : PassView). times worker p.serves) passes k d within in

@@ -1,5 +1,5 @@
 -- What a hand and what a pass know of their deque, and what the steps add to it.
-use Rattle.std.specs.Prelude.{ℕ, ◌+◌, min, max, Bool, true, false, List, [], ◌++◌}
+use Rattle.std.specs.Prelude.{ℕ, ◌+◌, Bool, true, false, List, [], ◌++◌}
 use Rattle.gl_box.specs.declared.cell.Cell.{Cell}
 use Rattle.gl_deal.specs.declared.view.HandView.{HandView}
 use Rattle.gl_deal.specs.declared.view.PassView.{PassView}
@@ -31,18 +31,6 @@ with_settled hand pass =
 
 abbrev pub with_stolen : PassView → List Cell → PassView
 with_stolen pass cells = record pass { taken = pass.taken ++ cells }
-
--- one more worker stands before the owner
-abbrev pub with_earlier : HandView → HandView
-with_earlier hand = record hand { owner = hand.owner + 1; workers = hand.workers + 1 }
-
--- one more worker stands after the others
-abbrev pub with_later : HandView → HandView
-with_later hand = record hand { workers = hand.workers + 1 }
-
--- the hand of an owner once the first workers, so many of them, have their passes to its deque
-abbrev pub partly_dealt : ℕ → ℕ → HandView
-partly_dealt served owner = new_hand (min served owner) (max served (min served owner + 1))
 
 abbrev pub is_hand : View → Bool
 is_hand (OfHand hand) = true

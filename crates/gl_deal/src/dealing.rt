@@ -1,7 +1,8 @@
 ghost use Rattle.std.specs.Prelude.{◌≡◌, ◌+◌, ◌≤◌, All, IfOk, OnOk, length, map};
 ghost use Rattle.gl_deal.specs.Views.{new_hand};
 ghost use Rattle.gl_deal.specs.Tokens.{end_of, hand_deque, hand_view};
-ghost use Rattle.gl_deal.specs.Deal.{AreDealt, ArePiles, IsDeal, passes_to};
+ghost use Rattle.gl_deal.specs.Code.Deal.{AreDealt, ArePiles};
+ghost use Rattle.gl_deal.specs.Deal.{IsDeal, passes_to};
 
 use crate::hand::Hand;
 use crate::pass::Pass;

@@ -22,7 +22,8 @@ pub struct Hand {
 
 impl Hand {
     ghost use Rattle.std.specs.Prelude.{◌≡◌, ◌≢◌, ◌+◌, [], ◌∷◌, IfNone, IfOk, OnOk, MatchOption, MatchResult};
-    ghost use Rattle.gl_deal.specs.Views.{new_hand, new_pass, partly_dealt, with_put, with_settled, with_taken};
+    ghost use Rattle.gl_deal.specs.Views.{new_hand, new_pass, with_put, with_settled, with_taken};
+    ghost use Rattle.gl_deal.specs.Code.Deal.{partly_dealt};
     ghost use Rattle.gl_deal.specs.Tokens.{end_of, hand_deque, hand_view, pass_deque, pass_view};
     ghost use Rattle.gl_deal.specs.Rule.{HasSettledAll, TookAllItPut};
 

@@ -1,7 +1,8 @@
 // The rule that every deque of cells keeps, and what each step tells its hand or its pass.
 ghost use Rattle.std.specs.Prelude.{◌≡◌, [], ◌∷◌};
 ghost use Rattle.gl_deal.specs.declared.view.View.TheVariants.{OfHand, OfPass};
-ghost use Rattle.gl_deal.specs.Views.{as_hand, as_pass, new_hand, new_pass, with_earlier, with_later, with_put, with_settled, with_stolen, with_taken};
+ghost use Rattle.gl_deal.specs.Views.{as_hand, as_pass, new_hand, new_pass, with_put, with_settled, with_stolen, with_taken};
+ghost use Rattle.gl_deal.specs.Code.Deal.{with_earlier, with_later};
 ghost use Rattle.gl_deal.specs.Rule.{HasSettledAll, IsShared, TookAllItPut};
 
 use crate::view::View;

@@ -16,17 +16,21 @@ named-append [] more = refl
 named-append (file ∷ files) more = ap (λ (rest : List (List ℕ × List ℕ)). (file.0, file.1.items) ∷ rest) (named-append files more)
 
 -- the task alone
-pub day-begun : (files now : List (List ℕ × Vec ℕ Global)) (name : List ℕ) (text : Vec ℕ Global) → files ≡ [] → now ≡ files ++ (name, text) ∷ [] → name ≡ task_file_name → text.items ≡ task_text → named now ≡ (task_file_name, task_text) ∷ []
+pub day-begun : (files now : List (List ℕ × Vec ℕ Global)) (name : List ℕ) (text : Vec ℕ Global) → files ≡ [] → now ≡ files ++ (name, text) ∷ [] → name ≡ task_file_name → text.items ≡ task_text
+    → named now ≡ (task_file_name, task_text) ∷ []
 day-begun files now name text empty is-now is-name is-text = rw (is-now, empty) (cc)
 
 -- one more recording
-pub day-more : (number e v : ℕ) (before now : List (List ℕ × Vec ℕ Global)) (name : List ℕ) (text : Vec ℕ Global) → named before ≡ (task_file_name, task_text) ∷ map (entrant_file number) (range_with_len 0 e) → v ≡ after (draws_before e) number → now ≡ before ++ (name, text) ∷ [] → name ≡ recording_name e → text.items ≡ recording_text e v → named now ≡ (task_file_name, task_text) ∷ map (entrant_file number) (range_with_len 0 (e + 1))
+pub day-more : (number e v : ℕ) (before now : List (List ℕ × Vec ℕ Global)) (name : List ℕ) (text : Vec ℕ Global)
+    → named before ≡ (task_file_name, task_text) ∷ map (entrant_file number) (range_with_len 0 e) → v ≡ after (draws_before e) number → now ≡ before ++ (name, text) ∷ [] → name ≡ recording_name e
+    → text.items ≡ recording_text e v → named now ≡ (task_file_name, task_text) ∷ map (entrant_file number) (range_with_len 0 (e + 1))
 day-more number e v before now name text is-before is-after is-now is-name is-text =
     let file : (name, text.items) ≡ entrant_file number e = cc in
     rw (is-now, named-append before ((name, text) ∷ []), is-before, file, map-range_with_len_more (entrant_file number) 0 e e (omega arith))
 
 -- the files of all entrants
-pub day-whole : (number e : ℕ) (files : List (List ℕ × Vec ℕ Global)) → named files ≡ (task_file_name, task_text) ∷ map (entrant_file number) (range_with_len 0 e) → e ≡ 4 → named files ≡ generated_files number
+pub day-whole : (number e : ℕ) (files : List (List ℕ × Vec ℕ Global)) → named files ≡ (task_file_name, task_text) ∷ map (entrant_file number) (range_with_len 0 e) → e ≡ 4
+    → named files ≡ generated_files number
 unfolding generated_files
 day-whole number e files is-files all =
     is-files ∙ ap (λ (n : ℕ). (task_file_name, task_text) ∷ map (entrant_file number) (range_with_len 0 n)) all

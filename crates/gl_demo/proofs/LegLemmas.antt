@@ -15,7 +15,8 @@ fix_line-is leg x fix v place is-after is-place =
     ap (b_line (leg.begins + fix)) (is-place ∙ ap (fix_place leg fix) is-after)
 
 -- one more line
-pub leg-more : (leg : Leg) (x fix v : ℕ) (place : Place) (old before now : List ℕ) → v ≡ after (2 * fix) x → place ≡ fix_place leg fix v → before ≡ old ++ concat (map (fix_line leg x) (range_with_len 0 fix)) → now ≡ before ++ b_line (leg.begins + fix) place → now ≡ old ++ concat (map (fix_line leg x) (range_with_len 0 (fix + 1)))
+pub leg-more : (leg : Leg) (x fix v : ℕ) (place : Place) (old before now : List ℕ) → v ≡ after (2 * fix) x → place ≡ fix_place leg fix v
+    → before ≡ old ++ concat (map (fix_line leg x) (range_with_len 0 fix)) → now ≡ before ++ b_line (leg.begins + fix) place → now ≡ old ++ concat (map (fix_line leg x) (range_with_len 0 (fix + 1)))
 leg-more leg x fix v place old before now is-after is-place is-before is-now =
     rw (concat-more (fix_line leg x) fix, ← append_assoc, ← is-before, ← (fix_line-is leg x fix v place is-after is-place)) is-now
 

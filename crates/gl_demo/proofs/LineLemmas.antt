@@ -29,7 +29,10 @@ eight : (old a b c d e f g h : List ℕ) → old ++ a ++ b ++ c ++ d ++ e ++ f +
 eight old a b c d e f g h = simp append_assoc
 
 -- the pieces of a line, pushed one by one
-pub line-pushed : (second : ℕ) (place : Place) (old t₁ t₂ t₃ t₄ t₅ t₆ t₇ t₈ : List ℕ) → t₁ ≡ old ++ 66 ∷ [] → t₂ ≡ t₁ ++ clock_columns second → t₃ ≡ t₂ ++ angle_columns 2 78 place.latitude → t₄ ≡ t₃ ++ angle_columns 3 69 place.longitude → t₅ ≡ t₄ ++ codes "A0150001500005" → t₆ ≡ t₅ ++ last_digits 2 (place.latitude % 100) → t₇ ≡ t₆ ++ last_digits 2 (place.longitude % 100) → t₈ ≡ t₇ ++ 10 ∷ [] → t₈ ≡ old ++ b_line second place
+pub line-pushed : (second : ℕ) (place : Place) (old t₁ t₂ t₃ t₄ t₅ t₆ t₇ t₈ : List ℕ) → t₁ ≡ old ++ 66 ∷ [] → t₂ ≡ t₁ ++ clock_columns second → t₃ ≡ t₂ ++ angle_columns 2 78 place.latitude
+    → t₄ ≡ t₃ ++ angle_columns 3 69 place.longitude → t₅ ≡ t₄ ++ codes "A0150001500005" → t₆ ≡ t₅ ++ last_digits 2 (place.latitude % 100) → t₇ ≡ t₆ ++ last_digits 2 (place.longitude % 100)
+    → t₈ ≡ t₇ ++ 10 ∷ [] → t₈ ≡ old ++ b_line second place
 unfolding b_line
 line-pushed second place old t₁ t₂ t₃ t₄ t₅ t₆ t₇ t₈ h₁ h₂ h₃ h₄ h₅ h₆ h₇ h₈ =
-    rw (h₈, h₇, h₆, h₅, h₄, h₃, h₂, h₁) (eight old (codes "B") (clock_columns second) (angle_columns 2 78 place.latitude) (angle_columns 3 69 place.longitude) (codes "A0150001500005") (last_digits 2 (place.latitude % 100)) (last_digits 2 (place.longitude % 100)) (10 ∷ []))
+    rw (h₈, h₇, h₆, h₅, h₄, h₃, h₂, h₁) (eight old (codes "B") (clock_columns second) (angle_columns 2 78 place.latitude) (angle_columns 3 69 place.longitude) (codes "A0150001500005")
+    (last_digits 2 (place.latitude % 100)) (last_digits 2 (place.longitude % 100)) (10 ∷ []))

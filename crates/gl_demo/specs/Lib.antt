@@ -1,3 +1,4 @@
+pub mod Code
 pub mod Day
 pub mod Draws
 pub mod Leg

@@ -1,5 +1,5 @@
 -- Places of the grid, in numbers of which a degree has 6,000,000.
-use Rattle.std.specs.Prelude.{ℕ, ◌+◌, ◌-◌, ◌*◌, ◌≤◌}
+use Rattle.std.specs.Prelude.{ℕ, ◌+◌, ◌-◌, ◌*◌}
 use Rattle.gl_demo.specs.declared.place.Place.{Place}
 use Rattle.gl_demo.specs.Draws.{drawn}
 
@@ -13,14 +13,3 @@ moved_place place x = record {
   latitude = moved place.latitude (drawn x 0 12_001);
   longitude = moved place.longitude (drawn x 1 12_001);
 }
-
--- a place of the northern and eastern grid
-abbrev pub IsOnGrid : Place → Type 0
-IsOnGrid place = (place.latitude ≤ 1_080_000_000) × (place.longitude ≤ 1_080_000_000)
-
--- a place that can be moved by every offset
-pub record HasRoom (place : Place) : Type 0 where
-  pub south : 600_000 ≤ place.latitude
-  pub north : place.latitude ≤ 1_000_000_000
-  pub west : 600_000 ≤ place.longitude
-  pub east : place.longitude ≤ 1_000_000_000

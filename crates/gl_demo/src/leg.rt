@@ -1,6 +1,6 @@
 ghost use Rattle.std.specs.Prelude.{◌≡◌, ◌+◌, ◌*◌, ◌/◌, ◌<◌, ◌≤◌, ◌++◌, OnOk};
 ghost use Rattle.gl_demo.specs.Draws.{after};
-ghost use Rattle.gl_demo.specs.Place.{IsOnGrid};
+ghost use Rattle.gl_demo.specs.Code.Place.{IsOnGrid};
 ghost use Rattle.gl_demo.specs.Leg.{fix_place, leg_text, on_the_way};
 
 use crate::draws::Draws;
@@ -46,7 +46,7 @@ fn along(from: u32, to: u32, parts: u32, all: u32) -> u32
 }
 
 impl Leg {
-    ghost use Rattle.gl_demo.specs.Place.{IsOnGrid};
+    ghost use Rattle.gl_demo.specs.Code.Place.{IsOnGrid};
 
     /// Where a fix is. Its latitude is drawn first.
     pub fn draw_fix(&self, draws: &mut Draws, fix: u32) -> Place

@@ -1,6 +1,7 @@
 ghost use Rattle.std.specs.Prelude.{◌≡◌, ◌≤◌};
 ghost use Rattle.gl_demo.specs.Draws.{after, drawn};
-ghost use Rattle.gl_demo.specs.Place.{moved, moved_place, HasRoom, IsOnGrid};
+ghost use Rattle.gl_demo.specs.Place.{moved, moved_place};
+ghost use Rattle.gl_demo.specs.Code.Place.{HasRoom, IsOnGrid};
 
 use crate::draws::Draws;
 

@@ -14,7 +14,8 @@ use Rattle.std.proofs.lemmas.Map.Keys.{IsDistinct-cons}
 use Rattle.std.proofs.lemmas.Map.Made.{is_some-lookup, update_all_none}
 use Rattle.std.proofs.lemmas.Map.Text.{is_eq-slice_cmp}
 use Rattle.std.proofs.lemmas.Option.{slice_get-map, slice_get-get_or}
-use Rattle.gl_desk.specs.MemDesk.{StoredFile, StoredFiles, stored, bytes_of, appended_to, files_in, outputs_in, all_differ, given_files, HoldsFiles}
+use Rattle.gl_desk.specs.MemDesk.{StoredFile, StoredFiles, stored, bytes_of, appended_to, files_in, outputs_in, all_differ, HoldsFiles}
+use Rattle.gl_desk.specs.Code.MemDesk.{given_files}
 use Rattle.gl_desk.proofs.StoredLemmas.{same_name, same_name-Decides, is_some-bytes_of}
 
 -- a file as it is given: its name and its bytes

@@ -10,7 +10,8 @@ use Rattle.std.proofs.lemmas.Map.Text.{is_eq-slice_cmp}
 use Rattle.std.proofs.lemmas.Slice.Eq.{bytes_eq-Decides}
 use Rattle.gl_desk.specs.declared.mem.MemDesk.{MemDesk}
 use Rattle.gl_desk.specs.Desk.{ListsNames}
-use Rattle.gl_desk.specs.MemDesk.{StoredFile, StoredFiles, stored, bytes_of, appended_to, with_piece, files_in, outputs_in, IsSameUnder, AppendsUnder}
+use Rattle.gl_desk.specs.MemDesk.{StoredFile, StoredFiles, stored, bytes_of, appended_to, files_in, outputs_in, IsSameUnder, AppendsUnder}
+use Rattle.gl_desk.specs.Code.MemDesk.{with_piece}
 
 -- the order of names ties two names exactly where they are one
 abbrev pub same_name : List ℕ → List ℕ → Bool

@@ -1,4 +1,4 @@
-use Rattle.std.specs.Prelude.{◌≡◌, ◌+◌, ◌-◌, ◌^◌, ◌<◌, ℕ, min, List, [], ◌∷◌, ◌++◌, map, Bool, true, not, ◌&&◌, Option, None, Some, IsSome, option_map, unwrap_or, Result, Ok, Err, All, Any, Contains, Vec}
+use Rattle.std.specs.Prelude.{◌≡◌, ◌+◌, ◌-◌, ◌^◌, ◌<◌, ℕ, min, List, [], ◌∷◌, ◌++◌, Bool, true, not, ◌&&◌, Option, None, Some, IsSome, option_map, unwrap_or, Result, Ok, Err, All, Any, Contains, Vec}
 use Rattle.std.specs.List.{list_any}
 use Rattle.std.specs.Str.{bytes_eq}
 use Rattle.std.specs.BTreeMap.{get, BTreeMap}
@@ -24,10 +24,6 @@ abbrev pub all_differ : List (List ℕ) → Bool
 all_differ [] = true
 all_differ (name ∷ names) = not (list_any (bytes_eq name) names) && all_differ names
 
--- the files that a desk is given, by their names
-abbrev pub given_files : List (List ℕ × Vec ℕ Global) → List (List ℕ × StoredFile)
-given_files files = map (λ file. (file.0, (file.1.items, []))) files
-
 -- the file with this name, if there is one
 abbrev pub stored : StoredFiles → List ℕ → Option StoredFile
 stored files name = get (slice_cmp nat_cmp) files name
@@ -40,11 +36,6 @@ bytes_of file = file.0 ++ file.1
 abbrev pub appended_to : Option StoredFile → List ℕ
 appended_to None = []
 appended_to (Some file) = file.1
-
--- the file with the piece appended; one that isn't there is made
-abbrev pub with_piece : Option StoredFile → List ℕ → StoredFile
-with_piece None piece = ([], piece)
-with_piece (Some file) piece = (file.0, file.1 ++ piece)
 
 -- the bytes of the file with each name
 unfoldable pub files_in : StoredFiles → FilesByName

@@ -1,6 +1,6 @@
 ghost use Rattle.std.specs.Prelude.{◌≡◌, ◌≤◌, ◌↔◌, length, IsTrue, IfOk};
 ghost use Rattle.gl_desk.specs.Answers.{CountsFaults, stop_of};
-ghost use Rattle.gl_desk.specs.Outcome.{IsWantOfMemory, Settles};
+ghost use Rattle.gl_desk.specs.Code.Outcome.{IsWantOfMemory, Settles};
 
 use crate::desk::Desk;
 use crate::error::DeskError;

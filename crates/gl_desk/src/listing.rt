@@ -2,7 +2,7 @@ ghost use Rattle.std.specs.Prelude.{◌≡◌, ◌+◌, ◌≤◌, ◌++◌, ◌
 ghost use Rattle.std.specs.Option.{option_to_list};
 ghost use Rattle.std.specs.Fs.{dir_entry_name, IsFile};
 ghost use Rattle.std.specs.IoError.{error_kind};
-ghost use Rattle.gl_desk.specs.Outcome.{IsUnnamed};
+ghost use Rattle.gl_desk.specs.Code.Outcome.{IsUnnamed};
 
 use crate::name::Name;
 use crate::system::SystemError;

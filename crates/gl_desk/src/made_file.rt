@@ -39,7 +39,8 @@ impl<F: Write> MadeFile<F> {
     }
 }
 
-/// Makes a file. A name under which something stands already is an error, and that is left as it is:
+/// Makes a file. A name under which something stands already is an error, and that is left as it
+/// is:
 /// no link is followed, and no pipe and no device is opened.
 pub fn make<Rt: Files>(
     rt: &Rt,

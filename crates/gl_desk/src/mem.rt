@@ -4,7 +4,8 @@ ghost use Rattle.std.specs.Cmp.Lexicographic.{slice_cmp};
 ghost use Rattle.std.specs.BTreeMap.{is_at};
 ghost use Rattle.std.specs.Map.{keys_of, lookup};
 ghost use Rattle.gl_desk.specs.Desk.{ListsNames, ReadsFrom};
-ghost use Rattle.gl_desk.specs.MemDesk.{all_differ, given_files, stored, with_piece, files_in, files_of};
+ghost use Rattle.gl_desk.specs.MemDesk.{all_differ, stored, files_in, files_of};
+ghost use Rattle.gl_desk.specs.Code.MemDesk.{given_files, with_piece};
 
 use crate::calls::Calls;
 use crate::desk::Desk;

@@ -32,7 +32,8 @@ pub fn pour<D: Desk, T: Taker>(
     to: &mut T,
 ) -> Result<u64, ReadError>
     requires { HasFile (D.told desk.old).folder name.now }
-    ensures poured { IfOk result (IsPoured T.stands_for (D.told desk.old).folder name.now to.old to.new) }
+    ensures poured { IfOk result
+        (IsPoured T.stands_for (D.told desk.old).folder name.now to.old to.new) }
     ensures tag { T.tag to.new ≡ T.tag to.old }
     ensures fits { IfOk result (λ count. count ≤ limit) }
     ensures too_large { result ≡ Err ReadError.TooLarge

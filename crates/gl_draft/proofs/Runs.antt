@@ -7,8 +7,8 @@ use Rattle.gl_desk.specs.Desk.{FilesByName, ListsNames, Told}
 use Rattle.gl_desk.specs.declared.error.DeskError.TheVariants as desk
 use Rattle.gl_draft.specs.declared.refusal.Cause as code
 use Rattle.gl_draft.specs.declared.refusal.Cause.TheVariants as cause
-use Rattle.gl_draft.specs.Causes.{IsNoFault, stop_of_cause}
-use Rattle.gl_draft.specs.Folder.{HaveFiles}
+use Rattle.gl_draft.specs.Causes.{IsNoFault}
+use Rattle.gl_draft.specs.Code.Run.{stop_of_cause, HaveFiles}
 
 -- the names of a folder have their files
 pub lists_files : (folder : Option FilesByName) (names : List (List ℕ)) → ListsNames folder names → HaveFiles folder names

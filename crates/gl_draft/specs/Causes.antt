@@ -1,5 +1,5 @@
 -- Why no task file is made, and what stops a run.
-use Rattle.std.specs.Prelude.{◌≡◌, ℕ, Option, None, Some, Result, Ok, Err, ⊤}
+use Rattle.std.specs.Prelude.{◌≡◌, ℕ, Option, None, Some, ⊤}
 use Rattle.gl_cup.specs.declared.error.CupError.{CupError}
 use Rattle.gl_cup.specs.declared.error.CupError.TheVariants as cup
 use Rattle.gl_desk.specs.declared.error.DeskError.{DeskError}
@@ -35,17 +35,6 @@ cause_of_task (task.Twice key) = cause.Task 4 key
 cause_of_task (task.TooMany key) = cause.Task 5 key
 cause_of_task task.Memory = cause.Stopped desk.Memory
 
--- what stopped the making of a task file, if something did
-abbrev pub stop_of_cause : code.Cause → Option DeskError
-stop_of_cause cause.NotListed = None
-stop_of_cause cause.TooLarge = None
-stop_of_cause cause.NoRecording = None
-stop_of_cause (cause.Cup error) = None
-stop_of_cause (cause.Shape line point) = None
-stop_of_cause (cause.Task number key) = None
-stop_of_cause cause.Differs = None
-stop_of_cause (cause.Stopped stop) = Some stop
-
 -- the outside didn't fail
 abbrev pub IsNoFault : code.Cause → Type 0
 IsNoFault cause.NotListed = ⊤
@@ -56,10 +45,6 @@ IsNoFault (cause.Shape line point) = ⊤
 IsNoFault (cause.Task number key) = ⊤
 IsNoFault cause.Differs = ⊤
 IsNoFault (cause.Stopped stop) = stop ≡ desk.Memory
-
-abbrev pub stop_in : {X : Type 0} → Result X code.Cause → Option DeskError
-stop_in (Ok x) = None
-stop_in (Err why) = stop_of_cause why
 
 -- what stopped a run before its end, if something did
 abbrev pub stop_at : Status → Option DeskError

@@ -1,6 +1,6 @@
 pub mod Causes
+pub mod Code
 pub mod Draft
-pub mod Folder
 pub mod Line
 pub mod Run
 pub mod Sector

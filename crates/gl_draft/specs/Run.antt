@@ -1,27 +1,24 @@
 -- What a run is: its answer, what it says, and what it leaves.
-use Rattle.std.specs.Prelude.{◌≡◌, ◌↔◌, ℕ, List, Option, None, Some, IfNone, IsNone}
+use Rattle.std.specs.Prelude.{◌≡◌, ◌↔◌, ℕ, List, Option, Some, IfNone, IsNone}
 use Rattle.gl_desk.specs.Answers.{CountsFaults}
 use Rattle.gl_desk.specs.Desk.{FilesByName, Told, followed_by}
 use Rattle.gl_draft.specs.declared.answer.Status.{Status}
 use Rattle.gl_draft.specs.declared.answer.Status.TheVariants.{Done, Words}
-use Rattle.gl_draft.specs.declared.command.Answer as code
 use Rattle.gl_draft.specs.Causes.{stop_at}
 use Rattle.gl_draft.specs.Taken.{IsMade}
 use Rattle.gl_draft.specs.Words.{Asked, words_of}
 
 -- a text is made for what the words ask for
-pub record IsMadeFor (folder : Option FilesByName) (words : List (List ℕ)) (text : List ℕ) : Type 0 where
+pub record IsMadeFor (folder : Option FilesByName) (words : List (List ℕ))
+    (text : List ℕ) : Type 0 where
   pub asked : Asked
   pub form : words_of words ≡ Some asked
   pub made : IsMade folder asked text
 
--- an answer stops nothing; where the run is done, it is the text of a task file that is made for the words
-pub record IsAnswer (folder : Option FilesByName) (words : List (List ℕ)) (answer : code.Answer) : Type 0 where
-  pub goes : stop_at answer.status ≡ None
-  pub made : answer.status ≡ Done → IsMadeFor folder words answer.text.items
-
--- what a run says where it is done: the text of a task file that is made for the words, in one piece
-pub record SaysMade (folder : Option FilesByName) (words : List (List ℕ)) (before after : Option (List ℕ)) : Type 0 where
+-- what a run says where it is done: the text of a task file that is made for the words, in one
+-- piece
+pub record SaysMade (folder : Option FilesByName) (words : List (List ℕ))
+    (before after : Option (List ℕ)) : Type 0 where
   pub text : List ℕ
   pub made : IsMadeFor folder words text
   pub said : after ≡ followed_by before text

@@ -50,7 +50,8 @@ pub record IsRingOf (finish : CupPoint) (at : Grid) (radius : ℕ) : Type 0 wher
 abbrev pub distance_of : Grid → Grid → ℕ
 distance_of a b = written_distance (squared_chord (written_vector a) (written_vector b))
 
--- a line across the way from the point before, which is a kilometre away or more, crossed towards the place on the far side of the
+-- a line across the way from the point before, which is a kilometre away or more, crossed towards
+-- the place on the far side of the
 -- earth from that point, which is the way on
 pub record IsGateOf (last finish : CupPoint) (at towards : Grid) (half : ℕ) : Type 0 where
   pub at_is : IsNearPlace finish.place at
@@ -102,7 +103,8 @@ AreZonesFrom points number (zone ∷ zones) =
     IsZoneAt points number zone × AreZonesFrom points (number + 1) zones
 
 -- the start, the zones and the finish of a task's points
-pub record IsCourseOf (task : CupTask) (start : Start) (zones : List Zone) (finish : code_finish.Finish) : Type 0 where
+pub record IsCourseOf (task : CupTask) (start : Start) (zones : List Zone)
+    (finish : code_finish.Finish) : Type 0 where
   pub first : CupPoint
   pub next : CupPoint
   pub last_turn : CupPoint

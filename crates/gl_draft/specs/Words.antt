@@ -3,7 +3,6 @@ use Rattle.std.specs.Prelude.{ℕ, nat_lt, ◌==◌, ◌||◌, if◌then◌else�
 use Rattle.std.specs.Str.{byte}
 use Rattle.gl_task.specs.Forms.{is_file_name}
 use Rattle.gl_text.specs.Digits.{number_of}
-use Rattle.gl_draft.specs.declared.words.Words as code
 
 -- the number of a task: one to six digits, the first of which isn't 0
 unfoldable pub number_in : List ℕ → Option ℕ
@@ -28,6 +27,3 @@ words_of [] = None
 words_of (file ∷ []) = file_alone file
 words_of (file ∷ number ∷ []) = pair_of file number
 words_of (file ∷ number ∷ more ∷ rest) = None
-
-abbrev pub asked_by : code.Words → Asked
-asked_by words = (words.file.now, words.task)

@@ -1,12 +1,12 @@
 ghost use Rattle.std.specs.Prelude.{◌≡◌, ◌≢◌, ◌↔◌, None, Some, IfOk, IfErr, IsNone};
 ghost use Rattle.gl_desk.specs.Answers.{OnlyReads, stop_of};
 ghost use Rattle.gl_desk.specs.Desk.{FilesByName, IsSeenIn};
-ghost use Rattle.gl_draft.specs.Causes.{IsNoFault, stop_at, stop_in};
+ghost use Rattle.gl_draft.specs.Causes.{IsNoFault, stop_at};
+ghost use Rattle.gl_draft.specs.Code.Run.{stop_in, HaveFiles, IsAnswer, asked_by};
 ghost use Rattle.gl_draft.specs.Taken.{IsDraftOf, IsMade, IsTaskIn, IsTextOf};
-ghost use Rattle.gl_draft.specs.Folder.{HaveFiles};
-ghost use Rattle.gl_draft.specs.Run.{IsAnswer, IsRun};
+ghost use Rattle.gl_draft.specs.Run.{IsRun};
 ghost use Rattle.std.specs.Prelude.{Option};
-ghost use Rattle.gl_draft.specs.Words.{asked_by, words_of};
+ghost use Rattle.gl_draft.specs.Words.{words_of};
 
 use crate::answer::Status;
 use crate::course::{Course, course_of, kind_of};

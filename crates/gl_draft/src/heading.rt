@@ -1,5 +1,5 @@
-use crate::form::{is_name, is_number};
 use gl_desk::Name;
+use gl_task_file::{is_name, is_number};
 use gl_text::next_line;
 use std::alloc::{AllocError, Global};
 use std::str;

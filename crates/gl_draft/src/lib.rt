@@ -9,7 +9,6 @@ mod course;
 mod draft;
 mod entrant;
 mod folder;
-mod form;
 mod heading;
 mod line;
 mod place;

@@ -6,7 +6,8 @@ use std::alloc::{AllocError, Global};
 use std::test::Fail;
 
 /// A recording with two more decimals of the minutes of each place: the origin, a degree east of
-/// it, a degree north of it, and a place which is by the last two digits 999.99 m or 1,000.01 m east
+/// it, a degree north of it, and a place which is by the last two digits 999.99 m or 1,000.01 m
+/// east
 /// of it.
 fn round_flight(alloc: Global, digits: &str) -> Result<Vec<u8>, AllocError> {
     let text = format!(in alloc;

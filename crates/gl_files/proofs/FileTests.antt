@@ -18,8 +18,9 @@ use Rattle.gl_files.specs.declared.halt.Halt.{Halt}
 use Rattle.gl_files.specs.declared.halt.Halt.TheVariants.{Refused, Stopped}
 use Rattle.gl_files.specs.declared.refusal.Cause.{Cause}
 use Rattle.gl_files.specs.declared.refusal.Refusal.{Refusal}
-use Rattle.gl_files.specs.FileTests.{AirspaceText, AllPass, Fails, NearProofText, ProofText, SeriesListText, SheetText, TaskText, airspace_cause, list_cause, near_proof_cause, proof_cause, sheet_cause, task_cause, FileTest, FirstFails, HasRead, HasReadFile, IsNoText, IsProofOfText, IsText, Kind, Listed, Passes, Reads, RecordingText, ScheduleText, Small, Unlisted, file_of, recording_cause, schedule_cause, text_tests}
-use Rattle.gl_files.specs.Halts.{AreBytes, RefusesFor}
+use Rattle.gl_files.specs.FileTests.{AirspaceText, AllPass, Fails, NearProofText, ProofText, SeriesListText, SheetText, TaskText, airspace_cause, list_cause, near_proof_cause, proof_cause, sheet_cause, task_cause, FileTest, FirstFails, IsNoText, IsProofOfText, IsText, Kind, Listed, Passes, Reads, RecordingText, ScheduleText, Small, Unlisted, file_of, recording_cause, schedule_cause, text_tests}
+use Rattle.gl_files.specs.Code.FileTests.{HasRead, HasReadFile}
+use Rattle.gl_files.specs.Code.Halts.{AreBytes, RefusesFor}
 use Rattle.gl_files.proofs.Readings.{airspace_refused, task_refused}
 
 -- no text is of a kind and isn't

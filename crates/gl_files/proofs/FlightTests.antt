@@ -6,19 +6,22 @@ use Rattle.gl_desk.specs.Limits.{most_bytes}
 use Rattle.gl_files.specs.declared.halt.Halt.{Halt}
 use Rattle.gl_files.specs.declared.halt.Halt.TheVariants.{Refused, Stopped}
 use Rattle.gl_files.specs.declared.refusal.Refusal.{Refusal}
-use Rattle.gl_files.specs.FileTests.{HasReadFile, HasTested, IsNeeded, IsRecordingOf, RecordingText}
+use Rattle.gl_files.specs.Code.FileTests.{HasReadFile, IsNeeded}
+use Rattle.gl_files.specs.FileTests.{HasTested, IsRecordingOf, RecordingText}
 use Rattle.gl_files.specs.FlightFile.{IsFlightRead, flight_tests}
 use Rattle.gl_files.proofs.DayTests.{not_listed}
 use Rattle.gl_files.proofs.FileTests.{some_text_fails, some_text_passes}
 
 -- the file isn't listed
-pub file_missing : (folder : Option FilesByName) (names : List (List ℕ)) (file : List ℕ) (halt : Halt) → ListsNames folder names → IsNeeded names file (Err halt) → HasTested (λ seen. IsSeenIn folder file seen) (flight_tests file) IsFlightRead (Err halt)
+pub file_missing : (folder : Option FilesByName) (names : List (List ℕ)) (file : List ℕ) (halt : Halt) → ListsNames folder names → IsNeeded names file (Err halt)
+    → HasTested (λ seen. IsSeenIn folder file seen) (flight_tests file) IsFlightRead (Err halt)
 file_missing folder names file (Refused refusal) lists (none, same) =
     (None, not_listed folder names file lists none, inl (ap (λ (r : Refusal). r.file) same, (refl, ap (λ (r : Refusal). r.cause) same)))
 file_missing folder names file (Stopped stop) lists needed = tt
 
 -- it is listed, and was read or refused
-pub file_tested : (folder : Option FilesByName) (file : List ℕ) (result : _) → HasReadFile {X = Recording} (RecordingText None) most_bytes folder file (IsRecordingOf None) result → HasTested (λ seen. IsSeenIn folder file seen) (flight_tests file) IsFlightRead result
+pub file_tested : (folder : Option FilesByName) (file : List ℕ) (result : _) → HasReadFile {X = Recording} (RecordingText None) most_bytes folder file (IsRecordingOf None) result
+    → HasTested (λ seen. IsSeenIn folder file seen) (flight_tests file) IsFlightRead result
 file_tested folder file (Ok recording) (seen, is, passes, reads) = (seen, is, (some_text_passes (RecordingText None) most_bytes file seen passes, passes), reads)
 file_tested folder file (Err (Refused refusal)) (seen, is, fails) = (seen, is, inr (some_text_fails (RecordingText None) most_bytes file seen refusal fails, fails))
 file_tested folder file (Err (Stopped stop)) read = tt

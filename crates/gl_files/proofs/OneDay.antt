@@ -23,7 +23,8 @@ use Rattle.gl_files.specs.DayFiles.{IsAirspaceRead, IsAirspaceSeen, IsDayRead, I
 use Rattle.gl_files.specs.FileTests.{AirspaceText, Fails, FileTest, FirstFails, IsNoText, Kind, Reads, TaskText, airspace_cause, task_cause}
 use Rattle.gl_files.proofs.FileTests.{passes_or_fails}
 use Rattle.gl_files.proofs.Readings.{document_same}
-use Rattle.gl_files.proofs.TaskSame.{one, task_same}
+use Rattle.gl_files.proofs.TaskSame.{task_same}
+use Rattle.gl_text.proofs.Lists.{one_some}
 
 -- a folder has one file under a name
 pub seen_alone : (files : FilesByName) (file : List ℕ) (a b : Option (List ℕ)) → IsSeenIn (Some files) file a → IsSeenIn (Some files) file b → b ≡ a
@@ -36,7 +37,8 @@ airspace_alone files (Some file) a b is also = seen_alone files file a b is also
 task_seen_one : (files : FilesByName) (file : List ℕ) (s t : TaskSeen) → IsTaskSeen file (Some files) s → IsTaskSeen file (Some files) t → t ≡ s
 task_seen_one files file s t is also =
     let text = seen_alone files file s.text t.text is.text also.text in
-    let air = airspace_alone files (airspace_file s.text) s.airspace t.airspace is.airspace (subst (λ (o : Option (List ℕ)). IsAirspaceSeen (Some files) (airspace_file o) t.airspace) text also.airspace) in
+    let air = airspace_alone files (airspace_file s.text) s.airspace t.airspace is.airspace
+    (subst (λ (o : Option (List ℕ)). IsAirspaceSeen (Some files) (airspace_file o) t.airspace) text also.airspace) in
     λ i. record { text = text i; airspace = air i }
 
 -- so one thing is seen of the files of `score` and `check`
@@ -71,12 +73,12 @@ cause_one cause memory x y a b none (inl wanting) is also =
     let e : ◌≡◌ {A = Option Cause} None (Some a) = sym none ∙ sym (ap cause wanting) ∙ is in absurd (cc)
 cause_one cause memory x y a b none (inr (inl wanting)) is also =
     let e : ◌≡◌ {A = Option Cause} None (Some b) = sym none ∙ sym (ap cause wanting) ∙ also in absurd (cc)
-cause_one cause memory x y a b none (inr (inr same)) is also = one (cause y) a b (sym (ap cause same) ∙ is) also
+cause_one cause memory x y a b none (inr (inr same)) is also = one_some (cause y) a b (sym (ap cause same) ∙ is) also
 
 -- the first test of a text that fails is one
 fails_one : (text : List ℕ) (a b : TaskError) → FailsFirst text a → FailsFirst text b → a ≡ b
 fails_one text a b is also =
-    one (first_failed (tests is.file)) a b is.first
+    one_some (first_failed (tests is.file)) a b is.first
     (subst (λ (file : Members). first_failed (tests file) ≡ Some b) (sym (document_same text is.file also.file is.document also.document)) also.first)
 
 -- why a text gives no task: memory is wanting, it is no TOML, or a test fails

@@ -16,9 +16,11 @@ use Rattle.gl_proof.specs.Refusal.{IsRefused}
 use Rattle.gl_proof.specs.Text.{IsTextOf, statements_of}
 use Rattle.gl_files.specs.declared.halt.Halt.{Halt}
 use Rattle.gl_files.specs.declared.halt.Halt.TheVariants.{Refused, Stopped}
-use Rattle.gl_files.specs.FileTests.{HasReadFile, IsProofOfText, IsRecordingOf, ProofText, RecordingText, proof_cause, recording_cause}
-use Rattle.gl_files.specs.Halts.{AreBytes, IsUnread, RefusesFor}
-use Rattle.gl_files.specs.Pouring.{IsFileRead, IsProofPoured, IsProofRead, day_tag}
+use Rattle.gl_files.specs.Code.FileTests.{HasReadFile}
+use Rattle.gl_files.specs.FileTests.{IsProofOfText, IsRecordingOf, ProofText, RecordingText, proof_cause, recording_cause}
+use Rattle.gl_files.specs.Code.Halts.{AreBytes, IsUnread, RefusesFor}
+use Rattle.gl_files.specs.Pouring.{IsFileRead}
+use Rattle.gl_files.specs.Code.Pouring.{IsProofPoured, IsProofRead, day_tag}
 use Rattle.gl_files.proofs.FileTests.{bytes_refused, proof_refused, recording_refused}
 
 -- a day is known by its tag
@@ -36,12 +38,14 @@ pub recording_read : (folder : Option FilesByName) (file : List ℕ) (day : Opti
 recording_read folder file day recording is =
     (Some is.bytes, is.seen, (is.small, ((reading_of recording, is.says), tt)), is.says)
 
-pub no_recording_read : (folder : Option FilesByName) (file : List ℕ) (day : Option ℤ) (error : IgcError) (halt : Halt) → IsFileRead folder file day (Err error) → RefusesFor file (recording_cause error) halt → HasRecording folder file day (Err halt)
+pub no_recording_read : (folder : Option FilesByName) (file : List ℕ) (day : Option ℤ) (error : IgcError) (halt : Halt) → IsFileRead folder file day (Err error)
+    → RefusesFor file (recording_cause error) halt → HasRecording folder file day (Err halt)
 no_recording_read folder file day error (Refused refusal) is refused =
     (Some is.bytes, is.seen, inr (is.small, inl (recording_refused day file is.bytes error (Refused refusal) (IsRecordingOf day) is.says refused)))
 no_recording_read folder file day error (Stopped stop) is refused = tt
 
-pub unread_recording : (folder : Option FilesByName) (file : List ℕ) (day : Option ℤ) (error : ReadError) (halt : Halt) → (error ≡ reading.TooLarge → IsLongerThan most_bytes folder file) → IsUnread file error halt → HasRecording folder file day (Err halt)
+pub unread_recording : (folder : Option FilesByName) (file : List ℕ) (day : Option ℤ) (error : ReadError) (halt : Halt) → (error ≡ reading.TooLarge → IsLongerThan most_bytes folder file)
+    → IsUnread file error halt → HasRecording folder file day (Err halt)
 unread_recording folder file day reading.TooLarge (Refused refusal) longer is =
     bytes_refused folder (RecordingText day) file most_bytes (Refused refusal) (IsRecordingOf day) (longer refl, is)
 unread_recording folder file day reading.TooLarge (Stopped stop) longer is = tt
@@ -56,18 +60,21 @@ pub proof_says : (bytes : List ℕ) (reader : ProofReader) (read : Result Proof 
 proof_says bytes reader (Ok read) ok refused stands = ok bytes stands
 proof_says bytes reader (Err error) ok refused stands = refused bytes stands
 
-pub unread_proof : (folder : Option FilesByName) (file : List ℕ) (most : ℕ) (error : ReadError) (halt : Halt) → (error ≡ reading.TooLarge → IsLongerThan most folder file) → IsUnread file error halt → AreBytes folder file most (Err halt)
+pub unread_proof : (folder : Option FilesByName) (file : List ℕ) (most : ℕ) (error : ReadError) (halt : Halt) → (error ≡ reading.TooLarge → IsLongerThan most folder file) → IsUnread file error halt
+    → AreBytes folder file most (Err halt)
 unread_proof folder file most reading.TooLarge (Refused refusal) longer is = (longer refl, is)
 unread_proof folder file most reading.TooLarge (Stopped stop) longer is = tt
 unread_proof folder file most reading.Fault halt longer is = subst (λ (h : Halt). AreBytes folder file most (Err h)) (sym is) tt
 unread_proof folder file most reading.Memory halt longer is = subst (λ (h : Halt). AreBytes folder file most (Err h)) (sym is) tt
 
 -- what the code made of a file that is to be a proof
-pub proof_poured : (folder : Option FilesByName) (file : List ℕ) (most : ℕ) (read : Proof) → IsProofPoured folder file most (Ok (Ok read)) → HasReadFile ProofText most folder file IsProofOfText (Ok read)
+pub proof_poured : (folder : Option FilesByName) (file : List ℕ) (most : ℕ) (read : Proof) → IsProofPoured folder file most (Ok (Ok read))
+    → HasReadFile ProofText most folder file IsProofOfText (Ok read)
 proof_poured folder file most read (bytes, seen, small, says) =
     (Some bytes, seen, (small, ((read.version, statements_of read, says), tt)), says)
 
-pub no_proof_poured : (folder : Option FilesByName) (file : List ℕ) (most : ℕ) (error : ProofError) (halt : Halt) → IsProofPoured folder file most (Ok (Err error)) → RefusesFor file (proof_cause error) halt → HasReadFile ProofText most folder file IsProofOfText (Err halt)
+pub no_proof_poured : (folder : Option FilesByName) (file : List ℕ) (most : ℕ) (error : ProofError) (halt : Halt) → IsProofPoured folder file most (Ok (Err error))
+    → RefusesFor file (proof_cause error) halt → HasReadFile ProofText most folder file IsProofOfText (Err halt)
 no_proof_poured folder file most error (Refused refusal) (bytes, seen, small, says) refused =
     (Some bytes, seen, inr (small, inl (proof_refused file bytes error (Refused refusal) says refused)))
 no_proof_poured folder file most error (Stopped stop) poured refused = tt

@@ -48,7 +48,8 @@ task_refused text read error reads refused = table_refused text reads.file error
 -- the tasks of a text name one airspace file
 pub task_airspace_same : (text : List ℕ) (a b : Task) → IsReadFrom text a → IsReadFrom text b → a.airspace ≡ b.airspace
 task_airspace_same text a b is_a is_b =
-    sym is_a.says.airspace ∙ subst (λ (file : Members). said (codes "airspace") file_name file ≡ b.airspace) (sym (document_same text is_a.file is_b.file is_a.document is_b.document)) is_b.says.airspace
+    sym is_a.says.airspace ∙ subst (λ (file : Members). said (codes "airspace") file_name file ≡ b.airspace)
+    (sym (document_same text is_a.file is_b.file is_a.document is_b.document)) is_b.says.airspace
 
 -- a text that gives airspace is refused for want of memory alone
 pub airspace_refused : (text : List ℕ) (read : Airspace) (error : AirError) → IsAirspace text read → Tells (refusal_of (readings_of text)) error → error ≡ air.Memory

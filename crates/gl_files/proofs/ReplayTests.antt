@@ -11,14 +11,16 @@ use Rattle.gl_words.specs.Words.{ReplayWords}
 use Rattle.gl_files.specs.declared.halt.Halt.{Halt}
 use Rattle.gl_files.specs.declared.halt.Halt.TheVariants.{Refused, Stopped}
 use Rattle.gl_files.specs.declared.refusal.Refusal.{Refusal}
-use Rattle.gl_files.specs.FileTests.{HasRead, HasReadFile, HasTested, IsNeeded, IsRecordingOf, RecordingText, ScheduleText, schedule_cause, text_tests}
-use Rattle.gl_files.specs.Halts.{RefusesFor}
+use Rattle.gl_files.specs.Code.FileTests.{HasRead, HasReadFile, IsNeeded}
+use Rattle.gl_files.specs.FileTests.{HasTested, IsRecordingOf, RecordingText, ScheduleText, schedule_cause, text_tests}
+use Rattle.gl_files.specs.Code.Halts.{RefusesFor}
 use Rattle.gl_files.specs.ReplayFiles.{AreReplayRead, AreStepsOf, IsReplaySeen, replay_tests}
 use Rattle.gl_files.proofs.DayTests.{is_listed, not_listed, seen_some}
 use Rattle.gl_files.proofs.FileTests.{all_pass, fails_behind, fails_in_front, some_text_fails, some_text_passes, text_refused}
 
 -- a text that is no schedule
-pub schedule_refused : (file text : List ℕ) (error : StepError) (halt : Halt) → IsRefused text error → RefusesFor file (schedule_cause error) halt → HasRead ScheduleText file text AreStepsOf (Err halt)
+pub schedule_refused : (file text : List ℕ) (error : StepError) (halt : Halt) → IsRefused text error → RefusesFor file (schedule_cause error) halt
+    → HasRead ScheduleText file text AreStepsOf (Err halt)
 schedule_refused file text error halt told refused =
     text_refused ScheduleText file text (schedule_cause error) halt AreStepsOf (λ cause why. (error, told, why)) refused
 
@@ -26,16 +28,22 @@ schedule_refused file text error halt told refused =
 pub flight_missing : (folder : Option FilesByName) (names : List (List ℕ)) (words : ReplayWords) (halt : Halt)
     → ListsNames folder names → IsNeeded names words.flight (Err halt) → HasTested (IsReplaySeen words folder) (replay_tests words) AreReplayRead (Err halt)
 flight_missing folder names words (Refused refusal) lists (none, same) =
-    let schedule = seen_some folder words.schedule in
-    (record { flight = None; schedule = schedule.0 }, (not_listed folder names words.flight lists none, schedule.1), inl (ap (λ (r : Refusal). r.file) same, (refl, ap (λ (r : Refusal). r.cause) same)))
+    let schedule = seen_some folder words.schedule in (
+      record { flight = None; schedule = schedule.0 },
+      (not_listed folder names words.flight lists none, schedule.1),
+      inl (ap (λ (r : Refusal). r.file) same, (refl, ap (λ (r : Refusal). r.cause) same)),
+    )
 flight_missing folder names words (Stopped stop) lists needed = tt
 
 -- the recording is listed, and the schedule isn't
 pub schedule_missing : (folder : Option FilesByName) (names : List (List ℕ)) (words : ReplayWords) (halt : Halt)
     → ListsNames folder names → HasFile folder words.flight → IsNeeded names words.schedule (Err halt) → HasTested (IsReplaySeen words folder) (replay_tests words) AreReplayRead (Err halt)
 schedule_missing folder names words (Refused refusal) lists flight (none, same) =
-    let bytes = is_listed folder words.flight flight in
-    (record { flight = Some bytes.0; schedule = None }, (bytes.1, not_listed folder names words.schedule lists none), inr (refl, inl (ap (λ (r : Refusal). r.file) same, (refl, ap (λ (r : Refusal). r.cause) same))))
+    let bytes = is_listed folder words.flight flight in (
+      record { flight = Some bytes.0; schedule = None },
+      (bytes.1, not_listed folder names words.schedule lists none),
+      inr (refl, inl (ap (λ (r : Refusal). r.file) same, (refl, ap (λ (r : Refusal). r.cause) same))),
+    )
 schedule_missing folder names words (Stopped stop) lists flight needed = tt
 
 -- both are listed, and the recording was refused
@@ -45,8 +53,12 @@ pub flight_refused : (folder : Option FilesByName) (words : ReplayWords) (halt :
 flight_refused folder words (Refused refusal) schedule (seen, is, fails) =
     let lines = is_listed folder words.schedule schedule in
     let first = text_tests (RecordingText None) most_bytes words.flight seen in
-    let then = text_tests ScheduleText most_bytes words.schedule (Some lines.0) in
-    (record { flight = seen; schedule = Some lines.0 }, (is, lines.1), inr (some_text_fails (RecordingText None) most_bytes words.flight seen refusal fails, inr (refl, fails_in_front first then refusal fails)))
+    let then = text_tests ScheduleText most_bytes words.schedule (Some lines.0) in (
+      record { flight = seen; schedule = Some lines.0 },
+      (is, lines.1),
+      inr
+          (some_text_fails (RecordingText None) most_bytes words.flight seen refusal fails, inr (refl, fails_in_front first then refusal fails)),
+    )
 flight_refused folder words (Stopped stop) schedule read = tt
 
 -- both are listed, the recording passed, and the schedule was refused
@@ -56,8 +68,14 @@ pub steps_refused : (folder : Option FilesByName) (words : ReplayWords) (recordi
     → HasTested (IsReplaySeen words folder) (replay_tests words) AreReplayRead (Err halt)
 steps_refused folder words recording (Refused refusal) (seen, is, passes, reads) (lines, are, fails) =
     let first = text_tests (RecordingText None) most_bytes words.flight seen in
-    let then = text_tests ScheduleText most_bytes words.schedule lines in
-    (record { flight = seen; schedule = lines }, (is, are), inr (some_text_passes (RecordingText None) most_bytes words.flight seen passes, inr (some_text_fails ScheduleText most_bytes words.schedule lines refusal fails, fails_behind first then refusal passes fails)))
+    let then = text_tests ScheduleText most_bytes words.schedule lines in (
+      record { flight = seen; schedule = lines },
+      (is, are),
+      inr (
+        some_text_passes (RecordingText None) most_bytes words.flight seen passes,
+        inr (some_text_fails ScheduleText most_bytes words.schedule lines refusal fails, fails_behind first then refusal passes fails),
+      ),
+    )
 steps_refused folder words recording (Stopped stop) read lines = tt
 
 -- both are listed, and passed
@@ -67,5 +85,12 @@ pub both_read : (folder : Option FilesByName) (words : ReplayWords) (recording :
     → HasTested (IsReplaySeen words folder) (replay_tests words) AreReplayRead (Ok (recording, steps))
 both_read folder words recording steps (seen, is, passes, reads) (lines, are, pass, read) =
     let first = text_tests (RecordingText None) most_bytes words.flight seen in
-    let then = text_tests ScheduleText most_bytes words.schedule lines in
-    (record { flight = seen; schedule = lines }, (is, are), (some_text_passes (RecordingText None) most_bytes words.flight seen passes, (some_text_passes ScheduleText most_bytes words.schedule lines pass, all_pass first then passes pass)), (reads, read))
+    let then = text_tests ScheduleText most_bytes words.schedule lines in (
+      record { flight = seen; schedule = lines },
+      (is, are),
+      (
+        some_text_passes (RecordingText None) most_bytes words.flight seen passes,
+        (some_text_passes ScheduleText most_bytes words.schedule lines pass, all_pass first then passes pass),
+      ),
+      (reads, read),
+    )

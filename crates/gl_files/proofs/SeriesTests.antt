@@ -22,11 +22,13 @@ use Rattle.gl_files.specs.declared.halt.Halt.{Halt}
 use Rattle.gl_files.specs.declared.halt.Halt.TheVariants.{Refused, Stopped}
 use Rattle.gl_files.specs.declared.refusal.Cause.{Cause}
 use Rattle.gl_files.specs.declared.refusal.Refusal.{Refusal}
-use Rattle.gl_files.specs.FileTests.{AllPass, FileTest, FirstFails, HasRead, HasReadFile, HasTested, IsNeeded, SeriesListText, SheetText, list_cause, sheet_cause, text_tests}
-use Rattle.gl_files.specs.Halts.{RefusesFor}
+use Rattle.gl_files.specs.FileTests.{AllPass, FileTest, FirstFails, HasTested, SeriesListText, SheetText, list_cause, sheet_cause, text_tests}
+use Rattle.gl_files.specs.Code.FileTests.{HasRead, HasReadFile, IsNeeded}
+use Rattle.gl_files.specs.Code.Halts.{RefusesFor}
 use Rattle.gl_files.specs.SeriesFiles.{AreSeriesRead, DaySeen, IsDaySeen, IsListRead, IsSeriesSeen, IsSheetRead, day_tests, series_tests, tests_of}
 use Rattle.gl_files.proofs.DayTests.{not_listed, seen_some}
 use Rattle.gl_files.proofs.FileTests.{all_pass, fails_behind, fails_in_front, some_text_fails, some_text_passes, text_refused}
+use Rattle.gl_text.proofs.Lists.{AllZip-append}
 
 -- a text that is no list, and one that is no sheet
 pub list_refused : (file text : List ℕ) (error : ListError) (halt : Halt) → IsRefused text error → RefusesFor file (list_cause error) halt → HasRead SeriesListText file text IsList (Err halt)
@@ -77,12 +79,6 @@ abbrev pub AreDaysTested : Option FilesByName → List (List ℕ) → List DaySh
 AreDaysTested folder names sheets =
     (days : List DaySeen) × AllZip (IsDaySeen folder) names days × AllPass (flat_map day_tests days) × AllZip IsSheetRead days sheets
 
-zip_append : {A B : Type 0} (R : A → B → Type 0) (xs vs : List A) (ys ws : List B) → AllZip R xs ys → AllZip R vs ws → AllZip R (xs ++ vs) (ys ++ ws)
-zip_append R [] vs [] ws one other = other
-zip_append R [] vs (y ∷ ys) ws one other = absurd one
-zip_append R (x ∷ xs) vs [] ws one other = absurd one
-zip_append R (x ∷ xs) vs (y ∷ ys) ws one other = (one.0, zip_append R xs vs ys ws one.1 other)
-
 tests_append : (days more : List DaySeen) → flat_map day_tests (days ++ more) ≡ flat_map day_tests days ++ flat_map day_tests more
 tests_append [] more = refl
 tests_append (day ∷ days) more = λ i. tests_of SheetText day.file day.sheet ++ tests_append days more i
@@ -103,9 +99,10 @@ pub days_more : (folder : Option FilesByName) (names : List (List ℕ)) (i : ℕ
     → AreDaysTested folder (take i names) sheets → HasTested (IsDaySeen folder name) day_tests IsSheetRead (Ok sheet) → AreDaysTested folder (take (i + 1) names) (sheets ++ sheet ∷ [])
 days_more folder names i name sheets sheet below item (days, are, passes, reads) (day, is, pass, read) = (
   days ++ day ∷ [],
-  subst (λ (l : List (List ℕ)). AllZip (IsDaySeen folder) l (days ++ day ∷ [])) (sym (next_name names i name below item)) (zip_append (IsDaySeen folder) (take i names) (name ∷ []) days (day ∷ []) are (is, tt)),
+  subst (λ (l : List (List ℕ)). AllZip (IsDaySeen folder) l (days ++ day ∷ [])) (sym (next_name names i name below item))
+      (AllZip-append (IsDaySeen folder) (take i names) (name ∷ []) days (day ∷ []) are (is, tt)),
   subst AllPass (sym (tests_append days (day ∷ []))) (all_pass (flat_map day_tests days) (day_tests day ++ []) passes (all_pass (day_tests day) [] pass tt)),
-  zip_append IsSheetRead days (day ∷ []) sheets (sheet ∷ []) reads (read, tt),
+  AllZip-append IsSheetRead days (day ∷ []) sheets (sheet ∷ []) reads (read, tt),
 )
 
 -- all passed
@@ -119,12 +116,15 @@ pub day_refused : (folder : Option FilesByName) (names : List (List ℕ)) (i : �
     → HasTested {X = Vec DaySheet Global} (AllZip (IsDaySeen folder) names) (flat_map day_tests) (λ days read. AllZip IsSheetRead days read.items) (Err halt)
 day_refused folder names i name sheets (Refused refusal) below item (days, are, passes, reads) (day, is, fails) =
     let rest = days_seen folder (drop (i + 1) names) in
-    let upto = subst (λ (l : List (List ℕ)). AllZip (IsDaySeen folder) l (days ++ day ∷ [])) (sym (next_name names i name below item)) (zip_append (IsDaySeen folder) (take i names) (name ∷ []) days (day ∷ []) are (is, tt)) in
+    let upto = subst (λ (l : List (List ℕ)). AllZip (IsDaySeen folder) l (days ++ day ∷ [])) (sym (next_name names i name below item))
+    (AllZip-append (IsDaySeen folder) (take i names) (name ∷ []) days (day ∷ []) are (is, tt)) in
     let seen = (days ++ day ∷ []) ++ rest.0 in
     let front = fails_behind (flat_map day_tests days) (day_tests day ++ []) refusal passes (fails_in_front (day_tests day) [] refusal fails) in (
       seen,
-      subst (λ (l : List (List ℕ)). AllZip (IsDaySeen folder) l seen) (take-append-drop (i + 1) names) (zip_append (IsDaySeen folder) (take (i + 1) names) (drop (i + 1) names) (days ++ day ∷ []) rest.0 upto rest.1),
-      subst (λ (tests : List FileTest). FirstFails tests refusal) (sym (tests_append (days ++ day ∷ []) rest.0)) (fails_in_front (flat_map day_tests (days ++ day ∷ [])) (flat_map day_tests rest.0) refusal
+      subst (λ (l : List (List ℕ)). AllZip (IsDaySeen folder) l seen) (take-append-drop (i + 1) names)
+          (AllZip-append (IsDaySeen folder) (take (i + 1) names) (drop (i + 1) names) (days ++ day ∷ []) rest.0 upto rest.1),
+      subst (λ (tests : List FileTest). FirstFails tests refusal) (sym (tests_append (days ++ day ∷ []) rest.0))
+          (fails_in_front (flat_map day_tests (days ++ day ∷ [])) (flat_map day_tests rest.0) refusal
           (subst (λ (tests : List FileTest). FirstFails tests refusal) (sym (tests_append days (day ∷ []))) front)),
     )
 day_refused folder names i name sheets (Stopped stop) below item tested refused = tt
@@ -178,7 +178,8 @@ sheets_fit [] (sheet ∷ sheets) read = absurd read
 sheets_fit (day ∷ days) [] read = absurd read
 sheets_fit (day ∷ days) (sheet ∷ sheets) read = (sheet_fits day.sheet sheet read.0, sheets_fit days sheets read.1)
 
-pub days_fit : (folder : Option FilesByName) (series : Series) (days : List DaySeen) (sheets : List DaySheet) → IsSeries series → AllZip (IsDaySeen folder) series.days days → AllZip IsSheetRead days sheets → AreDays sheets
+pub days_fit : (folder : Option FilesByName) (series : Series) (days : List DaySeen) (sheets : List DaySheet) → IsSeries series → AllZip (IsDaySeen folder) series.days days
+    → AllZip IsSheetRead days sheets → AreDays sheets
 days_fit folder series days sheets is are reads = record {
   few = omega (arith, is.few_days, AllZip-long (IsDaySeen folder) series.days days are, AllZip-long IsSheetRead days sheets reads);
   each = All-from_recursion (λ (sheet : DaySheet). IsDay sheet.rows) sheets (sheets_fit days sheets reads);

@@ -31,10 +31,7 @@ use Rattle.gl_task.specs.Numbers.{all_differ}
 use Rattle.gl_task.specs.Ranges.{has_minimum, has_width_and_way, is_in_range, is_round_its_centre}
 use Rattle.gl_task_file.specs.Reading.{IsReadFrom}
 use Rattle.gl_files.proofs.Readings.{document_same}
-
--- what a key says is one thing
-pub one : {X : Type 0} (o : Option X) (a b : X) → o ≡ Some a → o ≡ Some b → a ≡ b
-one o a b is_a is_b = cc
+use Rattle.gl_text.proofs.Lists.{one_some}
 
 -- a key that isn't there says nothing
 lacks : {X Y : Type 0} (o : Option Data) (wanted : Data → Option X) (f : X → Y) (y : Y) → is_some o ≡ false → option_map f (option_and_then wanted o) ≡ Some y → ⊥
@@ -42,7 +39,8 @@ lacks None wanted f y none says = cc
 lacks (Some value) wanted f y none says = cc
 
 -- as many things of as many values are one list, where each value has one
-each_one : {A : Type 0} (Is : Data → A → Type 0) → ((value : Data) (a b : A) → Is value a → Is value b → a ≡ b) → (values : List Data) (xs ys : List A) → Each Is values xs → Each Is values ys → xs ≡ ys
+each_one : {A : Type 0} (Is : Data → A → Type 0) → ((value : Data) (a b : A) → Is value a → Is value b → a ≡ b) → (values : List Data) (xs ys : List A) → Each Is values xs → Each Is values ys
+    → xs ≡ ys
 each_one Is once [] [] [] is_x is_y = refl
 each_one Is once [] [] (y ∷ ys) is_x is_y = absurd is_y
 each_one Is once [] (x ∷ xs) ys is_x is_y = absurd is_x
@@ -55,10 +53,10 @@ each_one Is once (value ∷ values) (x ∷ xs) (y ∷ ys) is_x is_y =
 
 line_one : (table : Members) (v w : Line) → IsLine table v → IsLine table w → v ≡ w
 line_one table v w is_v is_w =
-    let half = one _ v.half w.half is_v.half is_w.half in
+    let half = one_some _ v.half w.half is_v.half is_w.half in
     λ i. record {
-      centre = one _ v.centre w.centre is_v.centre is_w.centre i;
-      towards = one _ v.towards w.towards is_v.towards is_w.towards i;
+      centre = one_some _ v.centre w.centre is_v.centre is_w.centre i;
+      towards = one_some _ v.towards w.towards is_v.towards is_w.towards i;
       half = half i;
       half_at_most = is_prop→PathP (λ j. half j ≤ greatest_length) (λ j. hlevel props) v.half_at_most w.half_at_most i;
     }
@@ -78,13 +76,13 @@ pilot_one table None None is_v is_w = refl
 pilot_one table None (Some w) is_v is_w = absurd (lacks _ _ pos w.wait is_v is_w.0)
 pilot_one table (Some v) None is_v is_w = absurd (lacks _ _ pos v.wait is_w is_v.0)
 pilot_one table (Some v) (Some w) is_v is_w =
-    ap Some (pilot_start_one v w (one _ v.wait w.wait is_v.0 is_w.0) (one _ v.width w.width is_v.1 is_w.1))
+    ap Some (pilot_start_one v w (one_some _ v.wait w.wait is_v.0 is_w.0) (one_some _ v.width w.width is_v.1 is_w.1))
 
 start_one : (file : Members) (v w : Start) → IsStart file v → IsStart file w → v ≡ w
 start_one file v w is_v is_w =
     let line = line_one (table_at (codes "start") file) v.line w.line is_v.line is_w.line in
-    let opens = one _ v.opens w.opens is_v.opens is_w.opens in
-    let close = one _ v.close w.close is_v.close is_w.close in
+    let opens = one_some _ v.opens w.opens is_v.opens is_w.opens in
+    let close = one_some _ v.close w.close is_v.close is_w.close in
     λ i. record {
       line = line i;
       opens = opens i;
@@ -129,13 +127,13 @@ cylinder_same v w centre radius = λ i. record {
 sector_one : (centre : Option Grid) (table : Members) (v w : Sector) → IsSector centre table v → IsSector centre table w → v ≡ w
 sector_one centre table v w is_v is_w =
     let inner = is_v.inner ∙ sym is_w.inner in
-    let outer = one _ v.outer w.outer is_v.outer is_w.outer in
-    let from = one _ v.from w.from is_v.from is_w.from in
-    let to = one _ v.to w.to is_v.to is_w.to in
+    let outer = one_some _ v.outer w.outer is_v.outer is_w.outer in
+    let from = one_some _ v.from w.from is_v.from is_w.from in
+    let to = one_some _ v.to w.to is_v.to is_w.to in
     λ i. record {
-      centre = one _ v.centre w.centre is_v.at is_w.at i;
-      north = one _ v.north w.north is_v.north is_w.north i;
-      east = one _ v.east w.east is_v.east is_w.east i;
+      centre = one_some _ v.centre w.centre is_v.at is_w.at i;
+      north = one_some _ v.north w.north is_v.north is_w.north i;
+      east = one_some _ v.east w.east is_v.east is_w.east i;
       inner = inner i;
       outer = outer i;
       from = from i;
@@ -149,7 +147,7 @@ sector_one centre table v w is_v is_w =
 
 part_one : (centre : Option Grid) (value : Data) (v w : Part) → IsPart centre value v → IsPart centre value w → v ≡ w
 part_one centre value (zone_part.Cylinder v) (zone_part.Cylinder w) is_v is_w =
-    ap zone_part.Cylinder (cylinder_same v w (one _ v.centre w.centre is_v.0 is_w.0) (one _ v.radius w.radius is_v.1 is_w.1))
+    ap zone_part.Cylinder (cylinder_same v w (one_some _ v.centre w.centre is_v.0 is_w.0) (one_some _ v.radius w.radius is_v.1 is_w.1))
 part_one centre value (zone_part.Cylinder v) (zone_part.Sector w) is_v is_w = absurd (lacks _ _ _ _ is_w.0 is_v.1)
 part_one centre value (zone_part.Sector v) (zone_part.Cylinder w) is_v is_w = absurd (lacks _ _ _ _ is_v.0 is_w.1)
 part_one centre value (zone_part.Sector v) (zone_part.Sector w) is_v is_w = ap zone_part.Sector (sector_one centre (table_of value) v w is_v.1 is_w.1)
@@ -158,7 +156,7 @@ zone_one : (value : Data) (v w : Zone) → IsZone value v → IsZone value w →
 zone_one value v w is_v is_w =
     let parts = each_one _ (part_one _) _ v.parts w.parts is_v.parts is_w.parts in
     λ i. record {
-      centre = one _ v.centre w.centre is_v.centre is_w.centre i;
+      centre = one_some _ v.centre w.centre is_v.centre is_w.centre i;
       parts = parts i;
       some_part = is_prop→PathP (λ j. 1 ≤ length (parts j)) (λ j. hlevel props) v.some_part w.some_part i;
       at_most_four = is_prop→PathP (λ j. length (parts j) ≤ most_parts) (λ j. hlevel props) v.at_most_four w.at_most_four i;
@@ -166,14 +164,14 @@ zone_one value v w is_v is_w =
 
 kind_one : (file : Members) (v w : code_kind.Kind) → IsKind file v → IsKind file w → v ≡ w
 kind_one file Racing Racing is_v is_w = refl
-kind_one file Racing (Area minimum) is_v is_w = let no = one _ _ _ is_v is_w.0 in cc
-kind_one file (Area minimum) Racing is_v is_w = let no = one _ _ _ is_v.0 is_w in cc
-kind_one file (Area v) (Area w) is_v is_w = ap Area (one _ v w is_v.1 is_w.1)
+kind_one file Racing (Area minimum) is_v is_w = let no = one_some _ _ _ is_v is_w.0 in cc
+kind_one file (Area minimum) Racing is_v is_w = let no = one_some _ _ _ is_v.0 is_w in cc
+kind_one file (Area v) (Area w) is_v is_w = ap Area (one_some _ v w is_v.1 is_w.1)
 
 finish_one : (table : Members) (v w : code_finish.Finish) → IsFinishOf table v → IsFinishOf table w → v ≡ w
 finish_one table (Ring v r) (Ring w s) is_v is_w =
-    let at = one _ v w is_v.0 is_w.0 in
-    let radius = one _ r s is_v.1 is_w.1 in
+    let at = one_some _ v w is_v.0 is_w.0 in
+    let radius = one_some _ r s is_v.1 is_w.1 in
     λ i. Ring (at i) (radius i)
 finish_one table (Ring v r) (Gate w) is_v is_w = absurd (lacks _ _ _ _ is_w.0 is_v.1)
 finish_one table (Gate v) (Ring w s) is_v is_w = absurd (lacks _ _ _ _ is_v.0 is_w.1)
@@ -181,10 +179,10 @@ finish_one table (Gate v) (Gate w) is_v is_w = ap Gate (line_one table v w is_v.
 
 entrant_one : (value : Data) (v w : Entrant) → IsEntrant value v → IsEntrant value w → v ≡ w
 entrant_one value v w is_v is_w =
-    let number = one _ v.number w.number is_v.number is_w.number in
-    let name = one _ v.name w.name is_v.name is_w.name in
-    let handicap = one _ v.handicap w.handicap is_v.handicap is_w.handicap in
-    let file = one _ v.file w.file is_v.file is_w.file in
+    let number = one_some _ v.number w.number is_v.number is_w.number in
+    let name = one_some _ v.name w.name is_v.name is_w.name in
+    let handicap = one_some _ v.handicap w.handicap is_v.handicap is_w.handicap in
+    let file = one_some _ v.file w.file is_v.file is_w.file in
     λ i. record {
       number = number i;
       name = name i;
@@ -199,9 +197,9 @@ entrant_one value v w is_v is_w =
 
 pub task_one : (file : Members) (v w : Task) → IsTask file v → IsTask file w → v ≡ w
 task_one file v w is_v is_w =
-    let date = one _ v.date w.date is_v.date is_w.date in
+    let date = one_some _ v.date w.date is_v.date is_w.date in
     let kind = kind_one file v.kind w.kind is_v.kind_is is_w.kind_is in
-    let closes = one _ v.closes w.closes is_v.closes is_w.closes in
+    let closes = one_some _ v.closes w.closes is_v.closes is_w.closes in
     let airspace = sym is_v.airspace ∙ is_w.airspace in
     let zones = each_one IsZone zone_one _ v.zones w.zones is_v.zones is_w.zones in
     let finish = finish_one (table_at (codes "finish") file) v.finish w.finish is_v.finish is_w.finish in

@@ -1,6 +1,5 @@
 -- The tests of a command's files: the first that fails refuses its file.
-use Rattle.std.specs.Prelude.{◌≡◌, ℕ, ◌≤◌, ◌<◌, ◌⊎◌, ℤ, Contains, List, [], ◌∷◌, length, Option, None, Some, Result, Err, Ok, IsNone, IsSome, IsSomeAnd, ⊤}
-use Rattle.gl_desk.specs.Desk.{FilesByName, IsSeenIn}
+use Rattle.std.specs.Prelude.{◌≡◌, ℕ, ◌≤◌, ◌<◌, ◌⊎◌, ℤ, List, [], ◌∷◌, length, Option, None, Some, Result, Err, Ok, IsNone, IsSome, IsSomeAnd, ⊤}
 use Rattle.gl_airspace.specs.Airspace.{IsAirspace}
 use Rattle.gl_airspace.specs.Parts.{Tells}
 use Rattle.gl_airspace.specs.Volumes.{readings_of, refusal_of}
@@ -45,7 +44,6 @@ use Rattle.gl_files.specs.declared.refusal.Cause.{Cause}
 use Rattle.gl_files.specs.declared.refusal.Cause.TheVariants.{NearProofCut, NoDate, NoFix, NoHeading, NoKey, NoNearHeading, NotIgc, NotListed, NotToml, NumberTwice, ProofCut, TooLarge, TooManyFixes, TooManyItems, TooManySteps, TooMuchAirspace, WrongAirspace, WrongDay, WrongNearProof, WrongProof, WrongStep, WrongValue, NoListHeading, NoSheetHeading, WrongListLine, WrongRecord}
 use Rattle.gl_files.specs.declared.refusal.Cause.TheVariants as cause
 use Rattle.gl_files.specs.declared.refusal.Refusal.{Refusal}
-use Rattle.gl_files.specs.Refusals.{file_refusal}
 
 -- What a text is to be: a task; airspace; a recording, by the day of a task if there is one; a
 -- schedule; a proof; that of a closest approach; the list of a championship; the sheet of one of
@@ -221,33 +219,3 @@ IsProofOfText text read =
 -- the tests of what stands in a file that is listed
 abbrev pub text_tests : Kind → ℕ → List ℕ → Option (List ℕ) → List FileTest
 text_tests kind most file seen = Small most file seen ∷ Reads kind file seen ∷ []
-
--- What the code made of a text: it is of the kind, and this was read; or it isn't, and its file is
--- refused.
-abbrev pub HasRead : {X : Type 0} → Kind → List ℕ → List ℕ → (List ℕ → X → Type 0) → Result X Halt
-    → Type 0
-HasRead kind file text IsOf (Ok x) = IsText kind text × IsOf text x
-HasRead kind file text IsOf (Err (Refused refusal)) =
-    (refusal.file ≡ file) × IsNoText kind text refusal.cause
-HasRead kind file text IsOf (Err (Stopped stop)) = ⊤
-
--- the same of the text of a file that is listed, which has at most so many bytes
-abbrev pub HasReadFile : {X : Type 0} → Kind → ℕ → Option FilesByName → List ℕ
-    → (List ℕ → X → Type 0) → Result X Halt → Type 0
-HasReadFile kind most folder file IsOf result =
-    HasTested (λ seen. IsSeenIn folder file seen) (λ seen. text_tests kind most file seen)
-    (λ seen x. IsSomeAnd seen (λ text. IsOf text x)) result
-
--- what the code found among the names of a folder: the file is there, or it is refused
-abbrev pub IsNeeded : List (List ℕ) → List ℕ → Result (Unit {0}) Halt → Type 0
-IsNeeded names file (Ok found) = Contains names file
-IsNeeded names file (Err (Refused refusal)) =
-    ¬ Contains names file × (refusal ≡ file_refusal file NotListed)
-IsNeeded names file (Err (Stopped stop)) = ⊤
-
--- it isn't there, or it is refused
-abbrev pub IsUnused : List (List ℕ) → List ℕ → Result (Unit {0}) Halt → Type 0
-IsUnused names file (Ok found) = ¬ Contains names file
-IsUnused names file (Err (Refused refusal)) =
-    Contains names file × (refusal ≡ file_refusal file cause.Listed)
-IsUnused names file (Err (Stopped stop)) = ⊤

@@ -1,9 +1,9 @@
 pub mod BadgeFiles
+pub mod Code
 pub mod DayFiles
 pub mod FileTests
 pub mod FlightFile
 pub mod Halts
-pub mod Lines
 pub mod NearFiles
 pub mod Pouring
 pub mod Refusals

@@ -38,16 +38,6 @@ recording_tests words seen =
     text_tests (RecordingText None) most_bytes words.flight seen.flight
     ++ text_tests (RecordingText (day_of seen.flight)) most_bytes words.other seen.other
 
--- both are listed; then the recordings
-abbrev pub flights_tests : NearWords → NearSeen → List FileTest
-flights_tests words seen =
-    Listed words.flight seen.flight ∷ Listed words.other seen.other ∷ recording_tests words seen
-
--- what is seen of the two recordings
-abbrev pub AreFlightsSeen : NearWords → Option FilesByName → NearSeen → Type 0
-AreFlightsSeen words folder seen =
-    IsSeenIn folder words.flight seen.flight × IsSeenIn folder words.other seen.other
-
 -- Both recordings are listed, and the proof isn't; then the recordings, one after the other.
 abbrev pub near_tests : NearWords → NearSeen → List FileTest
 near_tests words seen =

@@ -1,21 +1,10 @@
--- What is read of a recording, and of a proof, that comes in pieces.
-use Rattle.std.specs.Prelude.{ℕ, ℤ, ◌≤◌, List, [], ◌∷◌, length, Option, None, Some, Result, Ok, Err}
+-- What is read of a recording that comes in pieces.
+use Rattle.std.specs.Prelude.{ℕ, ℤ, ◌≤◌, List, length, Option, Some, Result}
 use Rattle.gl_desk.specs.Desk.{FilesByName, IsSeenIn}
 use Rattle.gl_igc.specs.Recording.{IsReadAs}
 use Rattle.gl_igc.specs.declared.error.IgcError.{IgcError}
 use Rattle.gl_igc.specs.declared.recording.Recording.{Recording}
 use Rattle.gl_desk.specs.Limits.{most_bytes}
-use Rattle.gl_lines.specs.declared.error.ProofError.{ProofError}
-use Rattle.gl_proof.specs.Refusal.{IsRefused}
-use Rattle.gl_proof.specs.declared.proof.Proof.{Proof}
-use Rattle.gl_files.specs.declared.halt.Halt.{Halt}
-use Rattle.gl_files.specs.FileTests.{IsProofOfText}
-use Rattle.gl_files.specs.Halts.{AreBytes}
-
--- the day of a task, if there is one, as a list
-abbrev pub day_tag : Option ℤ → List ℤ
-day_tag None = []
-day_tag (Some day) = day ∷ []
 
 -- A file was read to its end: its bytes, at most those that a recording may have, and what they say
 -- by the day of a task. Where the folder is told, they are those that it has under the name.
@@ -25,17 +14,3 @@ pub record IsFileRead (folder : Option FilesByName) (file : List ℕ) (day : Opt
   pub seen : IsSeenIn folder file (Some bytes)
   pub small : length bytes ≤ most_bytes
   pub says : IsReadAs bytes day read
-
--- what a text says as a proof
-abbrev pub IsProofRead : List ℕ → Result Proof ProofError → Type 0
-IsProofRead text (Ok read) = IsProofOfText text read
-IsProofRead text (Err error) = IsRefused text error
-
--- A proof's file was read to its end: its bytes, at most so many, and what they say. Else it wasn't
--- read, as the bytes of a file aren't.
-abbrev pub IsProofPoured : Option FilesByName → List ℕ → ℕ → Result (Result Proof ProofError) Halt
-    → Type 0
-IsProofPoured folder file most (Ok read) =
-    (bytes : List ℕ) × IsSeenIn folder file (Some bytes) × (length bytes ≤ most)
-    × IsProofRead bytes read
-IsProofPoured folder file most (Err halt) = AreBytes folder file most (Err halt)

@@ -6,8 +6,10 @@ ghost use Rattle.gl_desk.specs.Limits.{most_bytes};
 ghost use Rattle.gl_task_file.specs.Reading.{IsReadFrom};
 ghost use Rattle.gl_words.specs.DayNames.{names_seen};
 ghost use Rattle.gl_files.specs.DayFiles.{IsAirspaceRead, IsAirspaceSeen, IsCheckRead, IsDayRead, IsTaskSeen, IsScoreRead, IsScoreSeen, airspace_tests, check_tests, task_tests, score_tests};
-ghost use Rattle.gl_files.specs.FileTests.{AirspaceText, HasRead, HasReadFile, HasTested, TaskText, airspace_cause, task_cause};
-ghost use Rattle.gl_files.specs.Halts.{IsNoFault, halt_stop};
+ghost use Rattle.gl_files.specs.FileTests.{AirspaceText, HasTested, TaskText, airspace_cause, task_cause};
+ghost use Rattle.gl_files.specs.Code.FileTests.{HasRead, HasReadFile};
+ghost use Rattle.gl_files.specs.Code.Halts.{IsNoFault};
+ghost use Rattle.gl_files.specs.Halts.{halt_stop};
 
 use crate::file_tests::{need, need_unlisted, read_bytes, read_proof_file};
 use crate::halt::{Halt, refusing_for};

@@ -2,8 +2,10 @@ ghost use Rattle.std.specs.Prelude.{◌≡◌};
 ghost use Rattle.gl_desk.specs.Answers.{OnlyReads};
 ghost use Rattle.gl_desk.specs.Desk.{HasFile};
 ghost use Rattle.gl_desk.specs.Limits.{most_bytes};
-ghost use Rattle.gl_files.specs.FileTests.{HasReadFile, IsNeeded, IsProofOfText, IsRecordingOf, IsUnused, ProofText, RecordingText, proof_cause, recording_cause};
-ghost use Rattle.gl_files.specs.Halts.{AreBytes, IsNoFault, halt_stop};
+ghost use Rattle.gl_files.specs.Code.FileTests.{HasReadFile, IsNeeded, IsUnused};
+ghost use Rattle.gl_files.specs.FileTests.{IsProofOfText, IsRecordingOf, ProofText, RecordingText, proof_cause, recording_cause};
+ghost use Rattle.gl_files.specs.Code.Halts.{AreBytes, IsNoFault};
+ghost use Rattle.gl_files.specs.Halts.{halt_stop};
 
 use crate::halt::{Halt, refusing, refusing_for, unread};
 use crate::pouring::{read_proof_pieces, read_recording_file};

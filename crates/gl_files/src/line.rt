@@ -1,6 +1,6 @@
 ghost use Rattle.std.specs.Prelude.{◌≡◌, ◌++◌, IfOk, OnOk};
 ghost use Rattle.gl_files.specs.Refusals.{at_key, line_with, parts_of, place_text, refusal_line, file_refusal};
-ghost use Rattle.gl_files.specs.Lines.{parts_seen, place_seen};
+ghost use Rattle.gl_files.specs.Code.Lines.{parts_seen, place_seen};
 
 use crate::refusal::Cause;
 use gl_desk::Name;

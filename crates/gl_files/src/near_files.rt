@@ -3,9 +3,12 @@ ghost use Rattle.gl_desk.specs.Desk.{HasFile, ListsNames};
 ghost use Rattle.std.specs.Prelude.{◌≡◌, Some};
 ghost use Rattle.gl_desk.specs.Limits.{most_bytes};
 ghost use Rattle.gl_words.specs.NearWords.{near_seen};
-ghost use Rattle.gl_files.specs.FileTests.{HasRead, HasReadFile, HasTested, IsRecordingOf, NearProofText, RecordingText, most_proof_bytes, near_proof_cause};
-ghost use Rattle.gl_files.specs.Halts.{IsNoFault, halt_stop};
-ghost use Rattle.gl_files.specs.NearFiles.{AreFlightsSeen, AreNearCheckRead, AreNearRead, IsClaimOf, IsNearSeen, flights_tests, near_check_tests, near_tests};
+ghost use Rattle.gl_files.specs.Code.FileTests.{HasRead, HasReadFile};
+ghost use Rattle.gl_files.specs.FileTests.{HasTested, IsRecordingOf, NearProofText, RecordingText, most_proof_bytes, near_proof_cause};
+ghost use Rattle.gl_files.specs.Code.Halts.{IsNoFault};
+ghost use Rattle.gl_files.specs.Halts.{halt_stop};
+ghost use Rattle.gl_files.specs.Code.NearFiles.{AreFlightsSeen, flights_tests};
+ghost use Rattle.gl_files.specs.NearFiles.{AreNearCheckRead, AreNearRead, IsClaimOf, IsNearSeen, near_check_tests, near_tests};
 
 use crate::file_tests::{MOST_PROOF_BYTES, need, need_unlisted, read_bytes, read_recording};
 use crate::halt::{Halt, refusing_for};

@@ -5,7 +5,8 @@ ghost use Rattle.gl_desk.specs.Desk.{HasFile, IsLongerThan, IsSeenIn};
 ghost use Rattle.gl_igc.specs.Pieces.{StandsForText, task_day_of};
 ghost use Rattle.gl_proof.specs.Reading.{StandsForProof};
 ghost use Rattle.gl_files.specs.Halts.{halt_stop};
-ghost use Rattle.gl_files.specs.Pouring.{IsFileRead, IsProofPoured, day_tag};
+ghost use Rattle.gl_files.specs.Pouring.{IsFileRead};
+ghost use Rattle.gl_files.specs.Code.Pouring.{IsProofPoured, day_tag};
 
 use crate::halt::{Halt, unread};
 use gl_desk::{Desk, MOST_BYTES, Name, ReadError, Taker, pour};

@@ -3,8 +3,10 @@ ghost use Rattle.gl_desk.specs.Answers.{OnlyReads};
 ghost use Rattle.gl_desk.specs.Desk.{HasFile, ListsNames};
 ghost use Rattle.gl_desk.specs.Limits.{most_bytes};
 ghost use Rattle.gl_words.specs.ReplayWords.{replay_seen};
-ghost use Rattle.gl_files.specs.FileTests.{HasRead, HasReadFile, HasTested, ScheduleText, schedule_cause};
-ghost use Rattle.gl_files.specs.Halts.{IsNoFault, halt_stop};
+ghost use Rattle.gl_files.specs.Code.FileTests.{HasRead, HasReadFile};
+ghost use Rattle.gl_files.specs.FileTests.{HasTested, ScheduleText, schedule_cause};
+ghost use Rattle.gl_files.specs.Code.Halts.{IsNoFault};
+ghost use Rattle.gl_files.specs.Halts.{halt_stop};
 ghost use Rattle.gl_files.specs.ReplayFiles.{AreReplayRead, AreStepsOf, IsReplaySeen, replay_tests};
 
 use crate::file_tests::{need, read_bytes, read_recording};

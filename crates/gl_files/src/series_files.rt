@@ -7,8 +7,10 @@ ghost use Rattle.gl_series.specs.SeriesList.{IsList, IsSeries};
 ghost use Rattle.gl_series.specs.SheetText.{IsSheetOf};
 ghost use Rattle.gl_series.specs.Totals.{AreDays};
 ghost use Rattle.gl_words.specs.SeriesWords.{series_seen};
-ghost use Rattle.gl_files.specs.FileTests.{HasRead, HasReadFile, HasTested, SeriesListText, SheetText, list_cause, sheet_cause};
-ghost use Rattle.gl_files.specs.Halts.{IsNoFault, halt_stop};
+ghost use Rattle.gl_files.specs.Code.FileTests.{HasRead, HasReadFile};
+ghost use Rattle.gl_files.specs.FileTests.{HasTested, SeriesListText, SheetText, list_cause, sheet_cause};
+ghost use Rattle.gl_files.specs.Code.Halts.{IsNoFault};
+ghost use Rattle.gl_files.specs.Halts.{halt_stop};
 ghost use Rattle.gl_files.specs.SeriesFiles.{AreSeriesRead, IsDaySeen, IsListRead, IsSeriesSeen, IsSheetRead, day_tests, series_tests, tests_of};
 
 use crate::file_tests::{need, read_bytes};

@@ -108,7 +108,8 @@ found_of before words answer (seen, is, inr (refusal, fails, same)) done =
     absurd (cc)
 
 -- a file that was seen is another than one that wasn't, and is as it was
-pub still : (before files : FilesByName) (file proof : List ℕ) (seen unseen : Option (List ℕ)) → before file ≡ seen → before proof ≡ unseen → IsSome seen → IsNone unseen → ((other : List ℕ) → other ≢ proof → files other ≡ before other) → files file ≡ seen
+pub still : (before files : FilesByName) (file proof : List ℕ) (seen unseen : Option (List ℕ)) → before file ≡ seen → before proof ≡ unseen → IsSome seen → IsNone unseen
+    → ((other : List ℕ) → other ≢ proof → files other ≡ before other) → files file ≡ seen
 still before files file proof seen unseen is not some none others =
     others file (λ same. let e : seen ≡ unseen = sym is ∙ ap before same ∙ not in cc) ∙ is
 
@@ -123,14 +124,16 @@ same_seen one other flight second proof =
     ∙ ap (λ (b : Option (List ℕ)). made other.flight b one.proof) second
     ∙ ap (λ (c : Option (List ℕ)). made other.flight other.other c) proof
 
-seen_is : (files : FilesByName) (words : NearWords) (folder : IsNearFolder files words) (found : HasFound folder.before words folder.answer) (seen : NearSeen) → IsNearSeen words (Some files) seen → seen ≡ seen_with found.seen folder.answer.appended
+seen_is : (files : FilesByName) (words : NearWords) (folder : IsNearFolder files words) (found : HasFound folder.before words folder.answer) (seen : NearSeen) → IsNearSeen words (Some files) seen
+    → seen ≡ seen_with found.seen folder.answer.appended
 seen_is files words folder found seen is =
     let flight = still folder.before files words.flight words.proof found.seen.flight found.seen.proof found.is.flight found.is.proof found.passes.0 found.passes.1.1.0 folder.others in
     let other = still folder.before files words.other words.proof found.seen.other found.seen.proof found.is.other found.is.proof found.passes.1.0 found.passes.1.1.0 folder.others in
     same_seen seen (seen_with found.seen folder.answer.appended) (sym is.flight ∙ flight) (sym is.other ∙ other) (sym is.proof ∙ folder.proof)
 
 -- it passes the tests of `nearcheck`
-all_pass : (words : NearWords) (seen : NearSeen) (text : List ℕ) (best : Option NearBest) (boxes : List (List (ℕ × ℕ) × NearWhy)) → AllPass (near_tests words seen) → length text ≤ most_proof_bytes → IsTextOf text best boxes → AllPass (near_check_tests words (seen_with seen text))
+all_pass : (words : NearWords) (seen : NearSeen) (text : List ℕ) (best : Option NearBest) (boxes : List (List (ℕ × ℕ) × NearWhy)) → AllPass (near_tests words seen) → length text ≤ most_proof_bytes
+    → IsTextOf text best boxes → AllPass (near_check_tests words (seen_with seen text))
 all_pass words seen text best boxes passes small is =
     let rest = passes.1.1.1 in
     (passes.0, (passes.1.0, (refl, (rest.0, (rest.1.0, (rest.1.1.0, (rest.1.1.1.0, (small, ((best, boxes, is), tt)))))))))
@@ -142,14 +145,17 @@ one_recording (Some text) day a b is_a is_b =
     let e : ◌≡◌ {A = Result Reading IgcError} (Ok (reading_of a)) (Ok (reading_of b)) = sym is_a ∙ is_b in
     recording_same a b (cc)
 
-same_pairs : (seen : NearSeen) (text : List ℕ) (seconds : ℕ) (one other : Recording × Recording) → AreNearRead seen one → AreNearRead (seen_with seen text) other → pairs_of other seconds ≡ pairs_of one seconds
+same_pairs : (seen : NearSeen) (text : List ℕ) (seconds : ℕ) (one other : Recording × Recording) → AreNearRead seen one → AreNearRead (seen_with seen text) other
+    → pairs_of other seconds ≡ pairs_of one seconds
 same_pairs seen text seconds one other are also =
     let first = one_recording seen.flight None other.0 one.0 also.flight are.flight in
-    let second = one_recording seen.other (Some one.0.date) other.1 one.1 (subst (λ (r : Recording). IsSomeAnd seen.other (λ text. IsRecordingOf (Some r.date) text other.1)) first also.other) are.other in
+    let second = one_recording seen.other (Some one.0.date) other.1 one.1
+    (subst (λ (r : Recording). IsSomeAnd seen.other (λ text. IsRecordingOf (Some r.date) text other.1)) first also.other) are.other in
     cc
 
 -- its verdict
-own_verdict : (words : NearWords) (seen : NearSeen) (wrote : Answer) (read : Recording × Recording) → AreNearRead seen read → IsNearestSaid (pairs_of read words.seconds) wrote → (answer : Answer) → IsNearChecked words (seen_with seen wrote.appended) answer → answer.status ≡ status.Done
+own_verdict : (words : NearWords) (seen : NearSeen) (wrote : Answer) (read : Recording × Recording) → AreNearRead seen read → IsNearestSaid (pairs_of read words.seconds) wrote → (answer : Answer)
+    → IsNearChecked words (seen_with seen wrote.appended) answer → answer.status ≡ status.Done
 own_verdict words seen wrote read are nearest answer (read_too, are_too, verdict, checked, same) =
     let pairs = same_pairs seen wrote.appended words.seconds read read_too.0 are are_too.flights in
     let claim = text_unique wrote.appended read_too.1.best nearest.best (map box_of read_too.1.closed.items) nearest.boxes are_too.claim nearest.appended in
@@ -160,7 +166,9 @@ own_verdict words seen wrote read are nearest answer (read_too, are_too, verdict
     let yes = certificate_yes (pairs_of read words.seconds) nearest.best nearest.boxes verdict is nearest.certificate in
     ap (λ (a : Answer). a.status) (same ∙ ap verdict_answer yes)
 
-own_seen : (files : FilesByName) (words : NearWords) (folder : IsNearFolder files words) (found : HasFound folder.before words folder.answer) (seen : NearSeen) (answer : Answer) → seen ≡ seen_with found.seen folder.answer.appended → (AllPass (near_check_tests words seen) × IsNearChecked words seen answer) ⊎ ((refusal : Refusal) × FirstFails (near_check_tests words seen) refusal × (answer ≡ refused refusal.file refusal.cause)) → answer.status ≡ status.Done
+own_seen : (files : FilesByName) (words : NearWords) (folder : IsNearFolder files words) (found : HasFound folder.before words folder.answer) (seen : NearSeen) (answer : Answer)
+    → seen ≡ seen_with found.seen folder.answer.appended → (AllPass (near_check_tests words seen) × IsNearChecked words seen answer)
+    ⊎ ((refusal : Refusal) × FirstFails (near_check_tests words seen) refusal × (answer ≡ refused refusal.file refusal.cause)) → answer.status ≡ status.Done
 own_seen files words folder found seen answer same (inl (passes, checked)) =
     own_verdict words found.seen folder.answer found.read found.are found.nearest answer (subst (λ (s : NearSeen). IsNearChecked words s answer) same checked)
 own_seen files words folder found seen answer same (inr (refusal, fails, is)) =

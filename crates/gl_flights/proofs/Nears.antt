@@ -33,7 +33,8 @@ use Rattle.gl_flights.specs.OfFile.{IsOfFile}
 use Rattle.gl_answer.specs.Given.{HasAnswered, IsStopped}
 
 -- what a search says of the pairs of two recordings
-pub nearest_said : (one pairing : Pairing) (best : Option NearBest) (boxes : List (List (ℕ × ℕ) × NearWhy)) (said proof : List ℕ) → one ≡ pairing → IsLeast one (total_of best) → IsCertificate one best boxes → said ≡ pair_text best → IsTextOf proof best boxes → IsNearestSaid pairing (record { status = Done; said = said; appended = proof })
+pub nearest_said : (one pairing : Pairing) (best : Option NearBest) (boxes : List (List (ℕ × ℕ) × NearWhy)) (said proof : List ℕ) → one ≡ pairing → IsLeast one (total_of best)
+    → IsCertificate one best boxes → said ≡ pair_text best → IsTextOf proof best boxes → IsNearestSaid pairing (record { status = Done; said = said; appended = proof })
 nearest_said one pairing best boxes said proof same least certificate says is = record {
   best = best;
   boxes = boxes;
@@ -45,7 +46,9 @@ nearest_said one pairing best boxes said proof same least certificate says is = 
 }
 
 -- the answer of `near` where its files passed
-near_is : (words : NearWords) (x m : Told) (flights : Recording × Recording) (said proof : List ℕ) → OnlyReads None x m → HasTested (IsNearSeen words m.folder) (near_tests words) AreNearRead (Ok flights) → IsNearestSaid (pairs_of flights words.seconds) (record { status = Done; said = said; appended = proof }) → IsNear x.folder words (record { status = Done; said = said; appended = proof })
+near_is : (words : NearWords) (x m : Told) (flights : Recording × Recording) (said proof : List ℕ) → OnlyReads None x m
+    → HasTested (IsNearSeen words m.folder) (near_tests words) AreNearRead (Ok flights) → IsNearestSaid (pairs_of flights words.seconds) (record { status = Done; said = said; appended = proof })
+    → IsNear x.folder words (record { status = Done; said = said; appended = proof })
 near_is words x m flights said proof lists tested nearest =
     let seen = subst (λ (f : Option FilesByName). HasTested (IsNearSeen words f) (near_tests words) AreNearRead (Ok flights)) lists.folder tested in
     (seen.0, seen.1, inl (seen.2, (flights, seen.3, nearest)))
@@ -55,7 +58,10 @@ some_text : (text : List ℕ) (best : Option NearBest) (boxes : List (List (ℕ 
 some_text text best boxes is none = let e = sym none ∙ is.is in cc
 
 -- `near` has its answer
-pub near_right : (words : NearWords) (x m y z : Told) (flights : Recording × Recording) (said proof : List ℕ) → OnlyReads None x m → HasTested (IsNearSeen words m.folder) (near_tests words) AreNearRead (Ok flights) → OnlyReads None m y → IsNearestSaid (pairs_of flights words.seconds) (record { status = Done; said = said; appended = proof }) → HasAppended words.proof proof y z → (text : List ℕ) × IsNear x.folder words (record { status = Done; said = said; appended = text }) × HasGiven (Some words.proof) text x z
+pub near_right : (words : NearWords) (x m y z : Told) (flights : Recording × Recording) (said proof : List ℕ) → OnlyReads None x m
+    → HasTested (IsNearSeen words m.folder) (near_tests words) AreNearRead (Ok flights) → OnlyReads None m y
+    → IsNearestSaid (pairs_of flights words.seconds) (record { status = Done; said = said; appended = proof }) → HasAppended words.proof proof y z
+    → (text : List ℕ) × IsNear x.folder words (record { status = Done; said = said; appended = text }) × HasGiven (Some words.proof) text x z
 near_right words x m y z flights said proof lists tested reads nearest appended =
     let all = reads_twice x m y lists reads in
     let right = near_is words x m flights said proof lists tested nearest in (
@@ -68,7 +74,10 @@ near_right words x m y z flights said proof lists tested reads nearest appended 
     )
 
 -- `near` was stopped while its proof was appended
-pub near_stopped : (words : NearWords) (x m y z : Told) (flights : Recording × Recording) (said proof : List ℕ) (stop : DeskError) → OnlyReads None x m → HasTested (IsNearSeen words m.folder) (near_tests words) AreNearRead (Ok flights) → OnlyReads None m y → IsNearestSaid (pairs_of flights words.seconds) (record { status = Done; said = said; appended = proof }) → HasAppendedPart words.proof proof y z stop → IsStopped (near_promise x.folder words) x z stop
+pub near_stopped : (words : NearWords) (x m y z : Told) (flights : Recording × Recording) (said proof : List ℕ) (stop : DeskError) → OnlyReads None x m
+    → HasTested (IsNearSeen words m.folder) (near_tests words) AreNearRead (Ok flights) → OnlyReads None m y
+    → IsNearestSaid (pairs_of flights words.seconds) (record { status = Done; said = said; appended = proof }) → HasAppendedPart words.proof proof y z stop
+    → IsStopped (near_promise x.folder words) x z stop
 near_stopped words x m y z flights said proof stop lists tested reads nearest part =
     let all = reads_twice x m y lists reads in
     let right = near_is words x m flights said proof lists tested nearest in
@@ -84,7 +93,9 @@ near_stopped words x m y z flights said proof stop lists tested reads nearest pa
     }
 
 -- `near` refuses a file
-pub near_refused : (words : NearWords) (x m y : Told) (halt : Halt) (result : Result code.Answer DeskError) → OnlyReads None x m → HasTested (IsNearSeen words m.folder) (near_tests words) AreNearRead (Err halt) → OnlyReads (halt_stop {X = Recording × Recording} (Err halt)) m y → AnswersHalt halt result → IfOk result (HasAnswered (near_promise x.folder words) x y)
+pub near_refused : (words : NearWords) (x m y : Told) (halt : Halt) (result : Result code.Answer DeskError) → OnlyReads None x m
+    → HasTested (IsNearSeen words m.folder) (near_tests words) AreNearRead (Err halt) → OnlyReads (halt_stop {X = Recording × Recording} (Err halt)) m y → AnswersHalt halt result
+    → IfOk result (HasAnswered (near_promise x.folder words) x y)
 near_refused words x m y (Refused refusal) (Ok answer) lists tested reads same =
     let all = reads_twice x m y lists reads in
     let seen = subst (λ (f : Option FilesByName). HasTested {X = Recording × Recording} (IsNearSeen words f) (near_tests words) AreNearRead (Err (Refused refusal))) lists.folder tested in
@@ -94,22 +105,34 @@ near_refused words x m y (Stopped stop) (Ok answer) lists tested reads same = ab
 near_refused words x m y (Stopped stop) (Err error) lists tested reads same = tt
 
 -- `nearcheck` has its answer
-pub near_check_right : (folder : Option FilesByName) (words : NearWords) (flights : Recording × Recording) (claim : NearClaim) (verdict : NearVerdict) (answer : Answer) → HasTested (IsNearSeen words folder) (near_check_tests words) AreNearCheckRead (Ok (flights, claim)) → IsCheckedAs (pairs_of flights words.seconds) claim verdict → answer ≡ verdict_answer verdict → IsNearCheck folder words answer
+pub near_check_right : (folder : Option FilesByName) (words : NearWords) (flights : Recording × Recording) (claim : NearClaim) (verdict : NearVerdict) (answer : Answer)
+    → HasTested (IsNearSeen words folder) (near_check_tests words) AreNearCheckRead (Ok (flights, claim)) → IsCheckedAs (pairs_of flights words.seconds) claim verdict → answer ≡ verdict_answer verdict
+    → IsNearCheck folder words answer
 near_check_right folder words flights claim verdict answer (seen, is, passes, read) checked same =
     (seen, is, inl (passes, ((flights, claim), read, verdict, checked, same)))
 
 -- it has given it
-pub near_checked : (words : NearWords) (x y : Told) (result : Result code.Answer DeskError) → IfOk result (λ answer. IsNearCheck x.folder words (answer_of answer)) → OnlyReads (stop_of result) x y → IfOk result (HasAnswered (near_check_promise x.folder words) x y)
+pub near_checked : (words : NearWords) (x y : Told) (result : Result code.Answer DeskError) → IfOk result (λ answer. IsNearCheck x.folder words (answer_of answer)) → OnlyReads (stop_of result) x y
+    → IfOk result (HasAnswered (near_check_promise x.folder words) x y)
 near_checked words x y (Ok answer) right reads =
     ([], right, record { written = record { appended = (refl, reads.folder, reads.outputs); said = reads.said; faults = reads.faults }; untouched = λ none. (reads.folder, reads.outputs) })
 near_checked words x y (Err stop) right reads = tt
 
 -- the nearest fix to a place, by the text of the place
-point_right : (folder : Option FilesByName) (words : PointWords) (grid : Grid) (answer : Answer) → place_of_text words.place ≡ Some (place_of grid) → IsOfFile (λ recording said. IsNearestFix recording.fixes grid said) folder words.flight answer → IsOfFile (IsPointText words.place) folder words.flight answer
+point_right : (folder : Option FilesByName) (words : PointWords) (grid : Grid) (answer : Answer) → place_of_text words.place ≡ Some (place_of grid)
+    → IsOfFile (λ recording said. IsNearestFix recording.fixes grid said) folder words.flight answer → IsOfFile (IsPointText words.place) folder words.flight answer
 point_right folder words grid answer reads (seen, is, inl (passes, (recording, read, said, says, same))) = (seen, is, inl (passes, (recording, read, said, (grid, reads, says), same)))
 point_right folder words grid answer reads (seen, is, inr refused) = (seen, is, inr refused)
 
-pub pointed : (words : PointWords) (grid : Grid) → place_of_text words.place ≡ Some (place_of grid) → (x y : Told) (result : Result code.Answer DeskError) → IfOk result (λ answer. IsOfFile (λ recording said. IsNearestFix recording.fixes grid said) x.folder words.flight (answer_of answer)) → OnlyReads (stop_of result) x y → IfOk result (HasAnswered (point_promise x.folder words) x y)
-pointed words grid is x y (Ok answer) right reads =
-    ([], point_right x.folder words grid (answer_of answer) is right, record { written = record { appended = (refl, reads.folder, reads.outputs); said = reads.said; faults = reads.faults }; untouched = λ none. (reads.folder, reads.outputs) })
+pub pointed : (words : PointWords) (grid : Grid) → place_of_text words.place ≡ Some (place_of grid) → (x y : Told) (result : Result code.Answer DeskError)
+    → IfOk result (λ answer. IsOfFile (λ recording said. IsNearestFix recording.fixes grid said) x.folder words.flight (answer_of answer)) → OnlyReads (stop_of result) x y
+    → IfOk result (HasAnswered (point_promise x.folder words) x y)
+pointed words grid is x y (Ok answer) right reads = (
+  [],
+  point_right x.folder words grid (answer_of answer) is right,
+  record {
+    written = record { appended = (refl, reads.folder, reads.outputs); said = reads.said; faults = reads.faults };
+    untouched = λ none. (reads.folder, reads.outputs);
+  },
+)
 pointed words grid is x y (Err stop) right reads = tt

@@ -24,4 +24,5 @@ of_file_lawful IsRight folder file named =
     reading_lawful (IsOfFile IsRight folder file) (of_file_promise IsRight folder file).Passes
     (by_tests_result (λ seen. IsSeenIn folder file seen) (flight_tests file) (IsSaidOf IsRight) (λ seen answer is. inl (said_done IsRight seen answer is)))
     (by_tests_passes folder (λ f seen. IsSeenIn f file seen) (flight_tests file) (IsSaidOf IsRight) (λ seen answer is. done_no_refusal answer.status (inl (said_done IsRight seen answer is))))
-    (by_tests_line (λ seen. IsSeenIn folder file seen) (flight_tests file) (IsSaidOf IsRight) (λ seen. (named, (named, (named, tt)))) (λ seen answer is unless. absurd (unless (said_done IsRight seen answer is))))
+    (by_tests_line (λ seen. IsSeenIn folder file seen) (flight_tests file) (IsSaidOf IsRight) (λ seen. (named, (named, (named, tt))))
+    (λ seen answer is unless. absurd (unless (said_done IsRight seen answer is))))

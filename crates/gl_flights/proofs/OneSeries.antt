@@ -49,7 +49,8 @@ abbrev AreSure : List FileTest → Type 0
 AreSure [] = Unit {0}
 AreSure (test ∷ tests) = ((a b : Cause) → Fails test a → Fails test b → a ≡ b) × AreSure tests
 
-text_sure : (kind : Kind) → ((text : List ℕ) (a b : Cause) → IsNoText kind text a → IsNoText kind text b → a ≡ b) → (file : List ℕ) (seen : Option (List ℕ)) (a b : Cause) → Fails (Reads kind file seen) a → Fails (Reads kind file seen) b → a ≡ b
+text_sure : (kind : Kind) → ((text : List ℕ) (a b : Cause) → IsNoText kind text a → IsNoText kind text b → a ≡ b) → (file : List ℕ) (seen : Option (List ℕ)) (a b : Cause)
+    → Fails (Reads kind file seen) a → Fails (Reads kind file seen) b → a ≡ b
 text_sure kind once file None a b one other = absurd one
 text_sure kind once file (Some text) a b one other = once text a b one other
 
@@ -108,7 +109,8 @@ days_one files (name ∷ names) (day ∷ one) (then ∷ other) is also =
     let rest = days_one files names one other is.1 also.1 in
     λ i. first i ∷ rest i
 
-days_same : (files : FilesByName) (seen : Option (List ℕ)) (one other : List DaySeen) → AreDaysSeen (Some files) (record { list = seen; days = one }) → AreDaysSeen (Some files) (record { list = seen; days = other }) → one ≡ other
+days_same : (files : FilesByName) (seen : Option (List ℕ)) (one other : List DaySeen) → AreDaysSeen (Some files) (record { list = seen; days = one })
+    → AreDaysSeen (Some files) (record { list = seen; days = other }) → one ≡ other
 days_same files seen one other (inl (series, read, are)) (inl (then, reads, also)) =
     days_one files series.days one other are (subst (λ (s : Series). AllZip (IsDaySeen (Some files)) s.days other) (list_one seen then series reads read) also)
 days_same files seen one other (inl (series, read, are)) (inr (none, no_days)) = absurd (none series read)
@@ -121,7 +123,8 @@ seen_one files words one other is also =
     let days = days_same files other.list one.days other.days (subst (λ (o : Option (List ℕ)). AreDaysSeen (Some files) (record { list = o; days = one.days })) seen is.1) also.1 in
     λ i. record { list = seen i; days = days i }
 
-are_days : (folder : Option FilesByName) (seen : SeriesSeen) (series : Series) (sheets : List DaySheet) → AreDaysSeen folder seen → IsListRead seen.list series → AllZip IsSheetRead seen.days sheets → AreDays sheets
+are_days : (folder : Option FilesByName) (seen : SeriesSeen) (series : Series) (sheets : List DaySheet) → AreDaysSeen folder seen → IsListRead seen.list series → AllZip IsSheetRead seen.days sheets
+    → AreDays sheets
 are_days folder seen series sheets (inl (then, read, are)) reads zip = days_fit folder then seen.days sheets (list_fits seen.list then read) are zip
 are_days folder seen series sheets (inr (none, no_days)) reads zip = absurd (none series reads)
 
@@ -151,4 +154,5 @@ pub series_one : HasOneSeries
 series_one files words one other (seen, is, verdict) (then, also, verdicts) =
     let same = seen_one files words then seen also is in
     tested_one (Some files) words seen one other is.1 verdict
-    (subst (λ (s : SeriesSeen). (AllPass (series_tests words s) × IsAddedUp words s other) ⊎ ((refusal : Refusal) × FirstFails (series_tests words s) refusal × (other ≡ refused refusal.file refusal.cause))) same verdicts)
+    (subst (λ (s : SeriesSeen). (AllPass (series_tests words s) × IsAddedUp words s other)
+    ⊎ ((refusal : Refusal) × FirstFails (series_tests words s) refusal × (other ≡ refused refusal.file refusal.cause))) same verdicts)

@@ -4,7 +4,7 @@ use Rattle.std.specs.Prelude.{◌↔◌, IsNone}
 use Rattle.std.specs.declared.alloc.Global.{Global}
 use Rattle.gl_desk.specs.Desk.{FilesByName}
 use Rattle.gl_igc.specs.declared.recording.Recording.{Recording}
-use Rattle.gl_goal.specs.Rule.{HasNoLegal, IsLegal, Rule}
+use Rattle.gl_goal.specs.Goal.{HasNoLegal, IsLegal, Goal}
 use Rattle.gl_plain.specs.declared.found.Best.{Best}
 use Rattle.gl_plain.specs.declared.replayed.Replayed.{Replayed}
 use Rattle.gl_plain.specs.declared.schedule.Step.{Step}
@@ -18,14 +18,15 @@ use Rattle.gl_flights.specs.Best.{IsBestText}
 use Rattle.gl_flights.specs.Replay.{IsReplay as IsReplayAnswer, IsReplayOf, IsReplayText, closed_line}
 
 -- a goal with a legal tuple has a best one
-pub some_best : (rule : Rule) (best : Option Best) (tuple : List ℕ) → IsNone best ↔ HasNoLegal rule → IsLegal rule tuple → best ≡ None → ⊥
+pub some_best : (rule : Goal) (best : Option Best) (tuple : List ℕ) → IsNone best ↔ HasNoLegal rule → IsLegal rule tuple → best ≡ None → ⊥
 some_best rule None tuple none legal missing = none.0 refl tuple legal
 some_best rule (Some best) tuple none legal missing = cc
 
 -- the text of the best and of the boxes that the steps closed, for another name of the goal
-pub replay_text : (rule goal : Rule) (workers : ℕ) (steps : List Step) (replayed : Replayed) (best said : List ℕ) → rule ≡ goal → IsBestText rule (codes "FREE") best → IsReplay rule workers steps replayed → said ≡ best ++ closed_line replayed.by_steps → IsReplayText goal workers steps said
+pub replay_text : (rule goal : Goal) (workers : ℕ) (steps : List Step) (replayed : Replayed) (best said : List ℕ) → rule ≡ goal → IsBestText rule (codes "FREE") best
+    → IsReplay rule workers steps replayed → said ≡ best ++ closed_line replayed.by_steps → IsReplayText goal workers steps said
 replay_text rule goal workers steps replayed best said same is made text =
-    subst (λ (r : Rule). IsReplayText r workers steps said) same (record {
+    subst (λ (r : Goal). IsReplayText r workers steps said) same (record {
       best = best;
       is_best = is;
       count = replayed.by_steps;
@@ -35,6 +36,7 @@ replay_text rule goal workers steps replayed best said same is made text =
 
 -- the answer for files that passed
 pub replay_answered : (folder : Option FilesByName) (words : ReplayWords) (recording : Recording) (steps : Vec Step Global) (text : List ℕ)
-    → HasTested (IsReplaySeen words folder) (replay_tests words) AreReplayRead (Ok (recording, steps)) → IsReplayOf recording words.workers steps.items text → IsReplayAnswer folder words (saying Done text)
+    → HasTested (IsReplaySeen words folder) (replay_tests words) AreReplayRead (Ok (recording, steps)) → IsReplayOf recording words.workers steps.items text
+    → IsReplayAnswer folder words (saying Done text)
 replay_answered folder words recording steps text (seen, is, passes, read) says =
     (seen, is, inl (passes, ((recording, steps), read, text, says, refl)))

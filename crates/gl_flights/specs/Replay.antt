@@ -3,7 +3,7 @@ use Rattle.std.specs.Prelude.{◌≡◌, ℕ, List, [], ◌∷◌, ◌++◌, len
 use Rattle.std.specs.Fmt.{decimal}
 use Rattle.std.specs.declared.alloc.Global.{Global}
 use Rattle.gl_desk.specs.Desk.{FilesByName}
-use Rattle.gl_goal.specs.Rule.{Rule}
+use Rattle.gl_goal.specs.Goal.{Goal}
 use Rattle.gl_igc.specs.declared.recording.Recording.{Recording}
 use Rattle.gl_plain.specs.Machine.{IsAfter, State, closed_in}
 use Rattle.gl_plain.specs.declared.schedule.Step.{Step}
@@ -22,21 +22,21 @@ closed_line count = codes "CLOSED " ++ decimal count ++ 10 ∷ []
 
 -- How many boxes some workers close by their steps: by these they come to one state of the machine
 -- and to no other, and in it all workers together have closed so many.
-pub record CloseSoMany (rule : Rule) (workers : ℕ) (steps : List Step) (count : ℕ)
+pub record CloseSoMany (goal : Goal) (workers : ℕ) (steps : List Step) (count : ℕ)
     : Type 0 where
   pub state : State
-  pub after : IsAfter rule workers steps state
-  pub only : (other : State) → IsAfter rule workers steps other → other ≡ state
+  pub after : IsAfter goal workers steps state
+  pub only : (other : State) → IsAfter goal workers steps other → other ≡ state
   pub is : count ≡ length (closed_in state)
 
 -- The text has the greatest free distance and legal fixes that reach it, as that of `free` has, and
 -- then how many boxes the workers close by the steps of the schedule.
-pub record IsReplayText (rule : Rule) (workers : ℕ) (steps : List Step) (said : List ℕ)
+pub record IsReplayText (goal : Goal) (workers : ℕ) (steps : List Step) (said : List ℕ)
     : Type 0 where
   pub best : List ℕ
-  pub is_best : IsBestText rule (codes "FREE") best
+  pub is_best : IsBestText goal (codes "FREE") best
   pub count : ℕ
-  pub closed : CloseSoMany rule workers steps count
+  pub closed : CloseSoMany goal workers steps count
   pub is : said ≡ best ++ closed_line count
 
 -- such a text for all fixes of a recording

@@ -1,6 +1,6 @@
 ghost use Rattle.std.specs.Prelude.{IfOk, Some};
 ghost use Rattle.gl_box.specs.Tuple.{places_of};
-ghost use Rattle.gl_goal.specs.Rule.{IsOptimum, IsReached};
+ghost use Rattle.gl_goal.specs.Goal.{IsOptimum, IsReached};
 ghost use Rattle.gl_flights.specs.Best.{IsBestText};
 
 use gl_answer::distance_lines;

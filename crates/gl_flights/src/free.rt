@@ -1,6 +1,6 @@
 ghost use Rattle.std.specs.Prelude.{◌≡◌, ◌∷◌, [], IfOk};
 ghost use Rattle.gl_goal.specs.FreeGoal.{rule_of};
-ghost use Rattle.gl_goal.specs.Rule.{IsGoal, IsLegal};
+ghost use Rattle.gl_goal.specs.Goal.{IsGoal, IsLegal};
 ghost use Rattle.gl_flights.specs.Free.{IsFreeText, whole_free_goal};
 
 use crate::best::best_lines;

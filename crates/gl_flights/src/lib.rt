@@ -12,5 +12,5 @@ pub mod series;
 mod triangle;
 
 pub use laws::one_series;
-pub use of_file::{Course, answer_of_file};
+pub use of_file::{Question, answer_of_file};
 pub use replay::replay_schedule;

@@ -1,7 +1,7 @@
 ghost use Rattle.std.specs.Prelude.{IfOk};
 ghost use Rattle.gl_desk.specs.Answers.{OnlyReads, stop_of};
 ghost use Rattle.gl_answer.specs.Answer.{answer_of};
-ghost use Rattle.gl_flights.specs.Course.{IsTextOf};
+ghost use Rattle.gl_flights.specs.Question.{IsTextOf};
 ghost use Rattle.gl_flights.specs.OfFile.{IsOfFile};
 
 use crate::free::free_of_recording;
@@ -16,7 +16,7 @@ use std::alloc::{AllocError, Global};
 
 /// What is sought in a recording.
 #[derive(Clone, Copy, Debug)]
-pub enum Course {
+pub enum Question {
     /// The best free distance.
     Free,
     /// The best triangle.
@@ -28,15 +28,15 @@ pub enum Course {
 /// What is said of a recording.
 fn text_of_recording(
     alloc: Global,
-    course: Course,
+    question: Question,
     recording: &Recording,
 ) -> Result<Vec<u8>, AllocError>
-    ensures { IfOk result (λ text. IsTextOf course recording.now text.items) }
+    ensures { IfOk result (λ text. IsTextOf question recording.now text.items) }
 {
-    match course {
-        Course::Free => free_of_recording(alloc, recording),
-        Course::Triangle => triangle_of_recording(alloc, recording),
-        Course::Point(place) => point_of_recording(alloc, recording, place),
+    match question {
+        Question::Free => free_of_recording(alloc, recording),
+        Question::Triangle => triangle_of_recording(alloc, recording),
+        Question::Point(place) => point_of_recording(alloc, recording, place),
     }
 }
 
@@ -44,18 +44,18 @@ fn text_of_recording(
 pub fn answer_of_file<D: Desk>(
     alloc: Global,
     desk: &mut D,
-    course: Course,
+    question: Question,
     file: &Name,
 ) -> Result<Answer, DeskError>
     ensures right { IfOk result (λ answer.
-        IsOfFile (IsTextOf course) (D.told desk.old).folder file.now (answer_of answer)) }
+        IsOfFile (IsTextOf question) (D.told desk.old).folder file.now (answer_of answer)) }
     ensures reads { OnlyReads (stop_of result) (D.told desk.old) (D.told desk.new) }
 {
     let names = desk.names(alloc)?;
     match test_flight(alloc, desk, &names, file) {
         Ok(recording) => Ok(Answer {
             status: Status::Done,
-            text: text_of_recording(alloc, course, &recording)?,
+            text: text_of_recording(alloc, question, &recording)?,
         }),
         Err(halt) => answer_halt(alloc, halt),
     }

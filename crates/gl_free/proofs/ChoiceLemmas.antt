@@ -14,41 +14,36 @@ use Rattle.gl_goal.specs.declared.free.FreeGoal.{FreeGoal}
 use Rattle.gl_goal.specs.Chain.{fixes_at, legs, points_of}
 use Rattle.gl_goal.specs.Free.{five_axes, fixes_between, free_goal, numbers_between}
 use Rattle.gl_goal.specs.FreeGoal.{rule_of}
-use Rattle.gl_goal.specs.Rule.{IsInTimeOrder, IsLegal, IsOptimum, IsTuple, chosen, value}
-use Rattle.gl_goal.specs.Laws.Chain.{length-fixes_at, named, named_at}
-use Rattle.gl_goal.specs.Laws.Free.{free_goal-is_goal, get_or-numbers_from, length-numbers_between, numbers_between-named}
+use Rattle.gl_goal.specs.Goal.{IsInTimeOrder, IsLegal, IsOptimum, IsTuple, chosen, value}
+use Rattle.gl_goal.specs.Lemmas.Chain.{named, named_at}
+use Rattle.gl_goal.specs.Lemmas.Free.{free_goal-is_goal, get_or-numbers_from, length-numbers_between, numbers_between-named}
 use Rattle.gl_goal.proofs.Fives.{five_places}
 use Rattle.gl_goal.proofs.FreeLosses.{legal-by_loss, stay_legal}
-use Rattle.gl_free.specs.Arms.{arm_length}
-use Rattle.gl_free.specs.Choices.{AreInOrder}
-use Rattle.gl_free.specs.Places.{altitude_at, leg}
-use Rattle.gl_free.specs.Ranges.{IsBetterChoice}
-use Rattle.gl_free.specs.Search.{IsValid}
+use Rattle.gl_free.specs.Code.Arms.{arm_length}
+use Rattle.gl_free.specs.Code.Choices.{AreInOrder}
+use Rattle.gl_free.specs.Code.Places.{altitude_at, leg}
+use Rattle.gl_free.specs.Code.Ranges.{IsBetterChoice}
+use Rattle.gl_free.specs.Code.Search.{IsValid}
 use Rattle.gl_free.proofs.PlaceLemmas.{altitude-is, chord-is}
-
--- how many places there are
-pub count-is : (g : FreeGoal) → length g.hulls ≡ suc (g.last - g.first)
-count-is g =
-    ap length g.hulled
-    ∙ length-fixes_at g.fixes.items (numbers_between g.first g.last) (numbers_between-named g.fixes.items g.first g.last g.in_order g.within)
-    ∙ length-numbers_between g.first g.last
+use Rattle.gl_goal.proofs.FreeHulls.{length-hulls}
 
 -- the fix at a place, in the goal's list and in its hulls
 fix-at : (g : FreeGoal) (place : ℕ) → place < length g.hulls → (fix : Fix) × (slice_get g.fixes.items (g.first + place) ≡ Some fix) × (slice_get g.hulls place ≡ Some fix)
 fix-at g place below =
     let all = numbers_between-named g.fixes.items g.first g.last g.in_order g.within in
-    let inside : place < length (numbers_between g.first g.last) = omega (arith, count-is g, length-numbers_between g.first g.last) in
+    let inside : place < length (numbers_between g.first g.last) = omega (arith, length-hulls g, length-numbers_between g.first g.last) in
     let fix = named_at g.fixes.items (numbers_between g.first g.last) place all inside in
-    let number = get_or-numbers_from g.first (suc (g.last - g.first)) place 0 (omega (arith, count-is g)) in
+    let number = get_or-numbers_from g.first (suc (g.last - g.first)) place 0 (omega (arith, length-hulls g)) in
     let other = named g.hulls place below in
     let same : other.0 ≡ fix.0 = sym (get_or_from_slice_get g.hulls place other.0 fix.0 other.1) ∙ ap (λ (list : List Fix). get_or list place fix.0) g.hulled ∙ fix.2 in
     (fix.0, ap (λ (n : ℕ). slice_get g.fixes.items n) (sym number) ∙ fix.1, other.1 ∙ ap Some same)
 
 -- five places are a tuple
-pub within-tuple : (g : FreeGoal) (a b c d e : ℕ) → a < length g.hulls → b < length g.hulls → c < length g.hulls → d < length g.hulls → e < length g.hulls → IsTuple (rule_of g).axes (a ∷ b ∷ c ∷ d ∷ e ∷ [])
+pub within-tuple : (g : FreeGoal) (a b c d e : ℕ) → a < length g.hulls → b < length g.hulls → c < length g.hulls → d < length g.hulls → e < length g.hulls
+    → IsTuple (rule_of g).axes (a ∷ b ∷ c ∷ d ∷ e ∷ [])
 unfolding free_goal
 within-tuple g a b c d e ha hb hc hd he =
-    let size : length (numbers_between g.first g.last) ≡ length g.hulls = omega (arith, count-is g, length-numbers_between g.first g.last) in
+    let size : length (numbers_between g.first g.last) ≡ length g.hulls = omega (arith, length-hulls g, length-numbers_between g.first g.last) in
     (omega arith, (omega arith, (omega arith, (omega arith, (omega arith, tt)))))
 
 -- and so are five places in time order
@@ -70,11 +65,14 @@ four_legs : (a b c d p q r s : ℕ) → a ≡ p → b ≡ q → c ≡ r → d �
 four_legs a b c d p q r s ap_is bq cr ds = omega arith
 
 -- what a tuple is worth
-pub value-legs : (g : FreeGoal) (tuple : List ℕ) → IsTuple (rule_of g).axes tuple → value (rule_of g) tuple ≡ leg g.hulls (get_or tuple 0 0) (get_or tuple 1 0) + leg g.hulls (get_or tuple 1 0) (get_or tuple 2 0) + (leg g.hulls (get_or tuple 2 0) (get_or tuple 3 0) + leg g.hulls (get_or tuple 3 0) (get_or tuple 4 0))
+pub value-legs : (g : FreeGoal) (tuple : List ℕ) → IsTuple (rule_of g).axes tuple
+    → value (rule_of g) tuple ≡ leg g.hulls (get_or tuple 0 0) (get_or tuple 1 0) + leg g.hulls (get_or tuple 1 0) (get_or tuple 2 0)
+    + (leg g.hulls (get_or tuple 2 0) (get_or tuple 3 0) + leg g.hulls (get_or tuple 3 0) (get_or tuple 4 0))
 unfolding free_goal
 value-legs g tuple fits =
     let five = five_places g.first g.last tuple g.in_order fits in
-    let at : (k : ℕ) → k < 5 → (fix : Fix) × (slice_get g.fixes.items (g.first + get_or tuple k 0) ≡ Some fix) × (slice_get g.hulls (get_or tuple k 0) ≡ Some fix) = λ k below. fix-at g (get_or tuple k 0) (omega (arith, five.within k below, count-is g)) in
+    let at : (k : ℕ) → k < 5 → (fix : Fix) × (slice_get g.fixes.items (g.first + get_or tuple k 0) ≡ Some fix) × (slice_get g.hulls (get_or tuple k 0) ≡ Some fix) =
+    λ k below. fix-at g (get_or tuple k 0) (omega (arith, five.within k below, length-hulls g)) in
     let a = at 0 (omega arith) in
     let b = at 1 (omega arith) in
     let c = at 2 (omega arith) in
@@ -118,7 +116,8 @@ within-limit : (lost limit : ℤ) → IsTrue (int_le lost limit) → lost ≤ℤ
 within-limit lost limit within = grind (arith, ints)
 
 -- five places in time order that aren't a legal tuple lose too much
-pub illegal-low : (g : FreeGoal) (a b c d e : ℕ) → AreInOrder (length g.hulls) a b c d e → (IsLegal (rule_of g) (a ∷ b ∷ c ∷ d ∷ e ∷ []) → ⊥) → g.loss <ℤ (altitude_at g.hulls a -ℤ altitude_at g.hulls e)
+pub illegal-low : (g : FreeGoal) (a b c d e : ℕ) → AreInOrder (length g.hulls) a b c d e → (IsLegal (rule_of g) (a ∷ b ∷ c ∷ d ∷ e ∷ []) → ⊥)
+    → g.loss <ℤ (altitude_at g.hulls a -ℤ altitude_at g.hulls e)
 unfolding free_goal
 illegal-low g a b c d e order illegal =
     let fits = order-tuple g a b c d e order in
@@ -137,7 +136,12 @@ illegal-low g a b c d e order illegal =
 -- five places in time order are worth the two arms from the third
 pub chosen-worth : (g : FreeGoal) (a b c d e : ℕ) → AreInOrder (length g.hulls) a b c d e → value (rule_of g) (a ∷ b ∷ c ∷ d ∷ e ∷ []) ≡ arm_length g.hulls c b a + arm_length g.hulls c d e
 chosen-worth g a b c d e order =
-    omega (arith, value-legs g (a ∷ b ∷ c ∷ d ∷ e ∷ []) (order-tuple g a b c d e order), leg-turned g.hulls c d (omega (arith, order.fourth_later, order.last_later, order.within)) (omega (arith, order.last_later, order.within)), leg-turned g.hulls d e (omega (arith, order.last_later, order.within)) order.within)
+    omega (
+      arith,
+      value-legs g (a ∷ b ∷ c ∷ d ∷ e ∷ []) (order-tuple g a b c d e order),
+      leg-turned g.hulls c d (omega (arith, order.fourth_later, order.last_later, order.within)) (omega (arith, order.last_later, order.within)),
+      leg-turned g.hulls d e (omega (arith, order.last_later, order.within)) order.within,
+    )
 
 -- staying at the first fix is legal
 pub stay-valid : (g : FreeGoal) (best : Best) → places_of best.tuple ≡ 0 ∷ 0 ∷ 0 ∷ 0 ∷ 0 ∷ [] → best.total ≡ value (rule_of g) (places_of best.tuple) → IsValid (rule_of g) best
@@ -159,7 +163,7 @@ legal-better g found tuple legal more =
     let c = get_or tuple 2 0 in
     let d = get_or tuple 3 0 in
     let e = get_or tuple 4 0 in
-    let count = count-is g in
+    let count = length-hulls g in
     let in_order : IsInTimeOrder ((g.first + a) ∷ (g.first + b) ∷ (g.first + c) ∷ (g.first + d) ∷ (g.first + e) ∷ []) = subst IsInTimeOrder five.chosen legal.in_order in
     let order : AreInOrder (length g.hulls) a b c d e = record {
       second_later = omega (arith, in_order.0);
@@ -181,7 +185,14 @@ legal-better g found tuple legal more =
       last = e;
       order = order;
       within = subst (λ (z : ℤ). z ≤ℤ g.loss) (λ i. sym (altitude-is g.hulls a first.0 first.2) i -ℤ sym (altitude-is g.hulls e last.0 last.2) i) lost;
-      more = omega (arith, more, value-legs g tuple legal.is_tuple, leg-turned g.hulls c d (omega (arith, order.fourth_later, order.last_later, order.within)) (omega (arith, order.last_later, order.within)), leg-turned g.hulls d e (omega (arith, order.last_later, order.within)) order.within);
+      more = omega (
+        arith,
+        more,
+        value-legs g tuple legal.is_tuple,
+        leg-turned g.hulls c d (omega (arith, order.fourth_later, order.last_later, order.within))
+            (omega (arith, order.last_later, order.within)),
+        leg-turned g.hulls d e (omega (arith, order.last_later, order.within)) order.within,
+      );
     }
 
 -- where no better choice is left, what was found is the optimum
@@ -198,4 +209,4 @@ optimum-found g best valid none = (
 pub count-bounds : (g : FreeGoal) (hulls : List Fix) → hulls ≡ fixes_between g.fixes.items g.first g.last → (0 < length hulls) × (length hulls ≤ 90000)
 count-bounds g hulls is =
     let same = ap length (is ∙ sym g.hulled) in
-    (omega (arith, same, count-is g), omega (arith, same, count-is g, g.within, g.in_order, g.at_most_90000))
+    (omega (arith, same, length-hulls g), omega (arith, same, length-hulls g, g.within, g.in_order, g.at_most_90000))

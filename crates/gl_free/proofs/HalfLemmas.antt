@@ -17,19 +17,20 @@ use Rattle.gl_free.specs.declared.pair.Pair.{Pair}
 use Rattle.gl_free.specs.declared.side.Side.{Side}
 use Rattle.gl_free.specs.declared.way.Longest.{Longest}
 use Rattle.gl_free.specs.declared.way.Target.{Target}
-use Rattle.gl_free.specs.Arms.{IsArm, arm_length}
-use Rattle.gl_free.specs.Choices.{AreInOrder, IsLow}
-use Rattle.gl_free.specs.Ends.{IsAllowed, Stands}
-use Rattle.gl_free.specs.Farthest.{IsFarthest}
-use Rattle.gl_free.specs.Halves.{AreEnds, AreFarthest, AreLongest, AreWaysBy, IsHalf, IsLongestArm}
-use Rattle.gl_free.specs.Places.{altitude_at, leg}
-use Rattle.gl_free.specs.Search.{AreSides, IsBetter, IsOver}
-use Rattle.gl_free.specs.Ways.{IsFound, IsWay, onward, way_to}
+use Rattle.gl_free.specs.Code.Arms.{IsArm, arm_length}
+use Rattle.gl_free.specs.Code.Choices.{IsLow}
+use Rattle.gl_free.specs.Code.Ends.{IsAllowed, Stands}
+use Rattle.gl_free.specs.Code.Farthest.{IsFarthest}
+use Rattle.gl_free.specs.Code.Halves.{AreEnds, AreFarthest, AreLongest, AreWaysBy, IsHalf, IsLongestArm}
+use Rattle.gl_free.specs.Code.Places.{altitude_at, leg}
+use Rattle.gl_free.specs.Code.Search.{IsBetter, IsOver}
+use Rattle.gl_free.specs.Code.Ways.{IsFound, IsWay, onward, way_to}
 use Rattle.gl_free.proofs.PlaceLemmas.{altitude-is, leg-limited}
 use Rattle.gl_free.proofs.SearchLemmas.{better-wider}
 
 -- what stands at a place of a list with one more at its end
-pushed-elim : {X : Type 0} → (P : ℕ → X → Type 0) (xs : List X) (x d : X) (k : ℕ) → k < length (xs ++ x ∷ []) → (k < length xs → P k (get_or xs k d)) → (k ≡ length xs → P k x) → P k (get_or (xs ++ x ∷ []) k d)
+pushed-elim : {X : Type 0} → (P : ℕ → X → Type 0) (xs : List X) (x d : X) (k : ℕ) → k < length (xs ++ x ∷ []) → (k < length xs → P k (get_or xs k d)) → (k ≡ length xs → P k x)
+    → P k (get_or (xs ++ x ∷ []) k d)
 pushed-elim P xs x d k below early late = ⊎_elim
     (λ (less : k < length xs). subst (P k) (sym (get_or-append xs (x ∷ []) d k less)) (early less))
     (λ (more : length xs ≤ k).
@@ -37,14 +38,8 @@ pushed-elim P xs x d k below early late = ⊎_elim
     subst (P k) (sym (ap (λ (n : ℕ). get_or (xs ++ x ∷ []) n d) last ∙ get_or-append_seam xs x [] d)) (late last))
     (cases_lt k (length xs))
 
-pub ends-none : (fixes : List Fix) (allowed : Ends) → AreEnds fixes allowed []
-ends-none fixes allowed = record {
-  at_most = λ number below. absurd (omega (arith, below));
-  is_allowed = λ number below some. absurd (omega (arith, below));
-  all = λ number below is. absurd (omega (arith, below));
-}
-
-pub ends-pushed : (fixes : List Fix) (allowed : Ends) (ways : List ℕ) (fix : Fix) (way : ℕ) → AreEnds fixes allowed ways → slice_get fixes (length ways) ≡ Some fix → length ways < length fixes → way ≤ 1 → (0 < way → (allowed.lowest ≤ℤ fix.alt) × (fix.alt ≤ℤ allowed.highest)) → (allowed.lowest ≤ℤ fix.alt → fix.alt ≤ℤ allowed.highest → way ≡ 1) → AreEnds fixes allowed (ways ++ way ∷ [])
+pub ends-pushed : (fixes : List Fix) (allowed : Ends) (ways : List ℕ) (fix : Fix) (way : ℕ) → AreEnds fixes allowed ways → slice_get fixes (length ways) ≡ Some fix → length ways < length fixes
+    → way ≤ 1 → (0 < way → (allowed.lowest ≤ℤ fix.alt) × (fix.alt ≤ℤ allowed.highest)) → (allowed.lowest ≤ℤ fix.alt → fix.alt ≤ℤ allowed.highest → way ≡ 1) → AreEnds fixes allowed (ways ++ way ∷ [])
 ends-pushed fixes allowed ways fix way is there within small is_allowed all =
     let altitude = altitude-is fixes (length ways) fix there in
     record {
@@ -61,18 +56,16 @@ ends-pushed fixes allowed ways fix way is there within small is_allowed all =
           all (subst (λ z. allowed.lowest ≤ℤ z) altitude here.not_lower) (subst (λ z. z ≤ℤ allowed.highest) altitude here.not_higher));
     }
 
-pub farthest-pushed : (fixes : List Fix) (allowed : Ends) (ends : List Far) (far : Far) → AreFarthest fixes allowed ends → IsFarthest fixes allowed (length ends, length ends) far → AreFarthest fixes allowed (ends ++ far ∷ [])
+pub farthest-pushed : (fixes : List Fix) (allowed : Ends) (ends : List Far) (far : Far) → AreFarthest fixes allowed ends → IsFarthest fixes allowed (length ends, length ends) far
+    → AreFarthest fixes allowed (ends ++ far ∷ [])
 farthest-pushed fixes allowed ends far are is number d below =
     pushed-elim (λ n f. IsFarthest fixes allowed (n, n) f) ends far d number below (are number d)
     (λ last. subst (λ (n : ℕ). IsFarthest fixes allowed (n, n) far) (sym last) is)
 
-pub ways-pushed : (ends : List Far) (ways : List ℕ) (far : Far) → AreWaysBy ends ways → length ways < length ends → get_or ends (length ways) far ≡ far → AreWaysBy ends (ways ++ far.value ∷ [])
-ways-pushed ends ways far are within there number d below =
-    pushed-elim (λ n w. w ≡ (get_or ends n d).value) ways far.value 0 number below (are number d)
-    (λ last. sym (ap (λ (f : Far). f.value) (ap (λ (n : ℕ). get_or ends n d) last ∙ get_or_default ends (length ways) d far within ∙ there)))
-
 -- the longest way of one leg to a fix is from its farthest end
-pub found-farthest : (fixes : List Fix) (allowed : Ends) (ways : List ℕ) (target : Target) (found : Longest) (number : ℕ) → AreEnds fixes allowed ways → length ways ≡ length fixes → target.number ≡ number → target.side ≡ allowed.side → IsFound fixes ways target 0 found → ((from : ℕ) → IsWay ways target from → onward fixes ways target from ≤ found.length) → IsFarthest fixes allowed (number, number) (record { value = found.length; place = found.from })
+pub found-farthest : (fixes : List Fix) (allowed : Ends) (ways : List ℕ) (target : Target) (found : Longest) (number : ℕ) → AreEnds fixes allowed ways → length ways ≡ length fixes
+    → target.number ≡ number → target.side ≡ allowed.side → IsFound fixes ways target 0 found → ((from : ℕ) → IsWay ways target from → onward fixes ways target from ≤ found.length)
+    → IsFarthest fixes allowed (number, number) (record { value = found.length; place = found.from })
 found-farthest fixes allowed ways target found number ends long number_is side_is is above =
     let one : (0 < found.length) → way_to ways found.from ≡ 1 = λ some. omega (arith, ends.at_most found.from is.within, (is.reached some).0.some) in
     let far : (0 < found.length) → found.length ≡ suc (leg fixes found.from number) = λ some. omega (arith, one some, (is.reached some).1, ap (leg fixes found.from) number_is) in
@@ -98,7 +91,9 @@ found-farthest fixes allowed ways target found number ends long number_is side_i
     }
 
 -- an arm is shorter than the longest way to the middle
-pub arm-shorter : (fixes : List Fix) (by_place : ByPlace) (half : Half) (target : Target) (middle most : ℕ) → IsHalf fixes by_place half → target.number ≡ middle → target.side ≡ half.allowed.side → ((from : ℕ) → IsWay half.tree.ways.items target from → onward fixes half.tree.ways.items target from ≤ most) → (inner end : ℕ) → IsArm fixes half.allowed middle inner end → arm_length fixes middle inner end < most
+pub arm-shorter : (fixes : List Fix) (by_place : ByPlace) (half : Half) (target : Target) (middle most : ℕ) → IsHalf fixes by_place half → target.number ≡ middle → target.side ≡ half.allowed.side
+    → ((from : ℕ) → IsWay half.tree.ways.items target from → onward fixes half.tree.ways.items target from ≤ most) → (inner end : ℕ) → IsArm fixes half.allowed middle inner end
+    → arm_length fixes middle inner end < most
 arm-shorter fixes by_place half target middle most is number_is side_is above inner end arm =
     let d : Far = record { value = 0; place = 0 } in
     let within : inner < length half.ends.items = omega (arith, arm.inner_in, is.long) in
@@ -110,7 +105,10 @@ arm-shorter fixes by_place half target middle most is number_is side_is above in
     omega (arith, above inner (record { within = inside; some = omega (arith, less, way); stands = stands }), less, way, ap (leg fixes inner) number_is)
 
 -- the longest way to the middle is an arm
-pub found-arm : (fixes : List Fix) (by_place : ByPlace) (half : Half) (target : Target) (middle floor : ℕ) (found : Longest) (far : Far) → IsHalf fixes by_place half → target.number ≡ middle → target.side ≡ half.allowed.side → IsFound fixes half.tree.ways.items target floor found → ((from : ℕ) → IsWay half.tree.ways.items target from → onward fixes half.tree.ways.items target from ≤ found.length) → far ≡ get_or half.ends.items found.from far → IsLongestArm fixes half.allowed middle floor (record { most = found.length; inner = found.from; end = far.place })
+pub found-arm : (fixes : List Fix) (by_place : ByPlace) (half : Half) (target : Target) (middle floor : ℕ) (found : Longest) (far : Far) → IsHalf fixes by_place half → target.number ≡ middle
+    → target.side ≡ half.allowed.side → IsFound fixes half.tree.ways.items target floor found
+    → ((from : ℕ) → IsWay half.tree.ways.items target from → onward fixes half.tree.ways.items target from ≤ found.length) → far ≡ get_or half.ends.items found.from far
+    → IsLongestArm fixes half.allowed middle floor (record { most = found.length; inner = found.from; end = far.place })
 found-arm fixes by_place half target middle floor found far is number_is side_is is_found above there = record {
   reached = λ more.
       let reached = is_found.reached more in
@@ -140,21 +138,12 @@ arms-at fixes sides middle found better =
       after = subst (λ (n : ℕ). IsArm fixes sides.after n better.fourth better.last) same better.after;
     }
 
--- two arms to a middle fix, with their ends on its sides, are in time order
-pub arms-order : (fixes : List Fix) (sides : Sides) (middle : ℕ) (arms : Arms) → AreSides sides → IsArm fixes sides.before middle arms.before.inner arms.before.end → IsArm fixes sides.after middle arms.after.inner arms.after.end → AreInOrder (length fixes) arms.before.end arms.before.inner middle arms.after.inner arms.after.end
-arms-order fixes sides middle arms are before after = record {
-  second_later = subst (λ (s : Side). Stands s arms.before.end arms.before.inner) are.before before.is_end.stands;
-  third_later = subst (λ (s : Side). Stands s arms.before.inner middle) are.before before.stands;
-  fourth_later = subst (λ (s : Side). Stands s arms.after.inner middle) are.after after.stands;
-  last_later = subst (λ (s : Side). Stands s arms.after.end arms.after.inner) are.after after.is_end.stands;
-  within = after.is_end.allowed.within;
-}
-
 -- no choice with an earlier middle fix is better
 abbrev pub AreDone : List Fix → Sides → ℕ × ℕ → ℕ → ℕ → Type 0
 AreDone fixes sides whole found middle = (better : IsBetter fixes sides whole found) → middle ≤ better.third
 
-pub done-next : (fixes : List Fix) (sides : Sides) (whole : ℕ × ℕ) (found more middle : ℕ) → found ≤ more → AreDone fixes sides whole found middle → ¬ IsBetter fixes sides (middle, middle) more → AreDone fixes sides whole more (middle + 1)
+pub done-next : (fixes : List Fix) (sides : Sides) (whole : ℕ × ℕ) (found more middle : ℕ) → found ≤ more → AreDone fixes sides whole found middle → ¬ IsBetter fixes sides (middle, middle) more
+    → AreDone fixes sides whole more (middle + 1)
 done-next fixes sides whole found more middle order done none better =
     let from = done (better-wider fixes sides whole whole more found (λ place inside. inside) order better) in
     ⊎_elim
@@ -173,46 +162,32 @@ done-next fixes sides whole found more middle order done none better =
     })))
     (cases_lt middle better.third)
 
-pub none-longer : (fixes : List Fix) (sides : Sides) (middle found more : ℕ) (arms : Arms) → found ≤ more → AreLongest fixes sides middle found arms → arm_length fixes middle arms.before.inner arms.before.end + arm_length fixes middle arms.after.inner arms.after.end ≤ more → ¬ IsBetter fixes sides (middle, middle) more
+pub none-longer : (fixes : List Fix) (sides : Sides) (middle found more : ℕ) (arms : Arms) → found ≤ more → AreLongest fixes sides middle found arms
+    → arm_length fixes middle arms.before.inner arms.before.end + arm_length fixes middle arms.after.inner arms.after.end ≤ more → ¬ IsBetter fixes sides (middle, middle) more
 none-longer fixes sides middle found more arms order longest less better =
     absurd (omega (arith, better.more, longest.longest (better-wider fixes sides (middle, middle) (middle, middle) more found (λ place inside. inside) order better), less))
 
-pub ways-none : (ends : List Far) → AreWaysBy ends []
-ways-none ends number d below = absurd (omega (arith, below))
-
-pub farthest-nil : (fixes : List Fix) (allowed : Ends) → AreFarthest fixes allowed []
-farthest-nil fixes allowed number d below = absurd (omega (arith, below))
-
--- no way is too long
-pub ends-limited : (fixes : List Fix) (allowed : Ends) (ways : List ℕ) → AreEnds fixes allowed ways → All (λ way. way ≤ 1099511627776) ways
-ends-limited fixes allowed ways is number d below =
-    omega (arith, is.at_most number below, get_or_default ways number d 0 below)
-
-pub ways-limited : (fixes : List Fix) (allowed : Ends) (ends : List Far) (ways : List ℕ) → AreFarthest fixes allowed ends → AreWaysBy ends ways → length ways ≡ length ends → All (λ way. way ≤ 1099511627776) ways
+pub ways-limited : (fixes : List Fix) (allowed : Ends) (ends : List Far) (ways : List ℕ) → AreFarthest fixes allowed ends → AreWaysBy ends ways → length ways ≡ length ends
+    → All (λ way. way ≤ 1099511627776) ways
 ways-limited fixes allowed ends ways farthest by long number d below =
     let far : Far = record { value = 0; place = 0 } in
     omega (arith, (farthest number far (omega (arith, below, long))).limited, by number far below, get_or_default ways number d 0 below)
 
--- where the arms that were found are not longer than needed, no choice is better
-pub none-before : (fixes : List Fix) (sides : Sides) (allowed_before allowed_after : Ends) (middle found most floor : ℕ) (before : Arm) → allowed_before ≡ sides.before → allowed_after ≡ sides.after → ((inner end : ℕ) → IsArm fixes allowed_after middle inner end → arm_length fixes middle inner end < most) → IsLongestArm fixes allowed_before middle floor before → floor ≡ found + 2 - most → before.most ≤ floor → ¬ IsBetter fixes sides (middle, middle) found
-none-before fixes sides allowed_before allowed_after middle found most floor before before_is after_is bound longest floor_is short better =
-    let at = arms-at fixes sides middle found better in
-    let first = longest.shorter better.second better.first (subst (λ (e : Ends). IsArm fixes e middle better.second better.first) (sym before_is) at.before) in
-    let last = bound better.fourth better.last (subst (λ (e : Ends). IsArm fixes e middle better.fourth better.last) (sym after_is) at.after) in
-    let one : arm_length fixes better.third better.second better.first ≡ arm_length fixes middle better.second better.first = ap (λ (n : ℕ). arm_length fixes n better.second better.first) at.third_is in
-    let two : arm_length fixes better.third better.fourth better.last ≡ arm_length fixes middle better.fourth better.last = ap (λ (n : ℕ). arm_length fixes n better.fourth better.last) at.third_is in
-    absurd (omega (arith, first, last, one, two, better.more))
-
-pub none-after : (fixes : List Fix) (sides : Sides) (allowed_before allowed_after : Ends) (middle found floor_before floor : ℕ) (before after : Arm) → allowed_before ≡ sides.before → allowed_after ≡ sides.after → IsLongestArm fixes allowed_before middle floor_before before → IsLongestArm fixes allowed_after middle floor after → floor ≡ found + 2 - before.most → after.most ≤ floor → ¬ IsBetter fixes sides (middle, middle) found
+pub none-after : (fixes : List Fix) (sides : Sides) (allowed_before allowed_after : Ends) (middle found floor_before floor : ℕ) (before after : Arm) → allowed_before ≡ sides.before
+    → allowed_after ≡ sides.after → IsLongestArm fixes allowed_before middle floor_before before → IsLongestArm fixes allowed_after middle floor after → floor ≡ found + 2 - before.most
+    → after.most ≤ floor → ¬ IsBetter fixes sides (middle, middle) found
 none-after fixes sides allowed_before allowed_after middle found floor_before floor before after before_is after_is longest_before longest floor_is short better =
     let at = arms-at fixes sides middle found better in
     let first = longest_before.shorter better.second better.first (subst (λ (e : Ends). IsArm fixes e middle better.second better.first) (sym before_is) at.before) in
     let last = longest.shorter better.fourth better.last (subst (λ (e : Ends). IsArm fixes e middle better.fourth better.last) (sym after_is) at.after) in
-    let one : arm_length fixes better.third better.second better.first ≡ arm_length fixes middle better.second better.first = ap (λ (n : ℕ). arm_length fixes n better.second better.first) at.third_is in
+    let one : arm_length fixes better.third better.second better.first ≡ arm_length fixes middle better.second better.first =
+    ap (λ (n : ℕ). arm_length fixes n better.second better.first) at.third_is in
     let two : arm_length fixes better.third better.fourth better.last ≡ arm_length fixes middle better.fourth better.last = ap (λ (n : ℕ). arm_length fixes n better.fourth better.last) at.third_is in
     absurd (omega (arith, first, last, one, two, better.more))
 
-pub longest-both : (fixes : List Fix) (sides : Sides) (allowed_before allowed_after : Ends) (middle found floor_before floor : ℕ) (before after : Arm) → allowed_before ≡ sides.before → allowed_after ≡ sides.after → IsLongestArm fixes allowed_before middle floor_before before → IsLongestArm fixes allowed_after middle floor after → floor_before < before.most → floor < after.most → AreLongest fixes sides middle found (record { before = before; after = after })
+pub longest-both : (fixes : List Fix) (sides : Sides) (allowed_before allowed_after : Ends) (middle found floor_before floor : ℕ) (before after : Arm) → allowed_before ≡ sides.before
+    → allowed_after ≡ sides.after → IsLongestArm fixes allowed_before middle floor_before before → IsLongestArm fixes allowed_after middle floor after → floor_before < before.most → floor < after.most
+    → AreLongest fixes sides middle found (record { before = before; after = after })
 longest-both fixes sides allowed_before allowed_after middle found floor_before floor before after before_is after_is longest_before longest some_before some_after =
     let one = longest_before.reached some_before in
     let two = longest.reached some_after in
@@ -223,20 +198,26 @@ longest-both fixes sides allowed_before allowed_after middle found floor_before 
           let at = arms-at fixes sides middle found better in
           let first = longest_before.shorter better.second better.first (subst (λ (e : Ends). IsArm fixes e middle better.second better.first) (sym before_is) at.before) in
           let last = longest.shorter better.fourth better.last (subst (λ (e : Ends). IsArm fixes e middle better.fourth better.last) (sym after_is) at.after) in
-          let third : arm_length fixes better.third better.second better.first ≡ arm_length fixes middle better.second better.first = ap (λ (n : ℕ). arm_length fixes n better.second better.first) at.third_is in
-          let same : arm_length fixes better.third better.fourth better.last ≡ arm_length fixes middle better.fourth better.last = ap (λ (n : ℕ). arm_length fixes n better.fourth better.last) at.third_is in
+          let third : arm_length fixes better.third better.second better.first ≡ arm_length fixes middle better.second better.first =
+          ap (λ (n : ℕ). arm_length fixes n better.second better.first) at.third_is in
+          let same : arm_length fixes better.third better.fourth better.last ≡ arm_length fixes middle better.fourth better.last =
+          ap (λ (n : ℕ). arm_length fixes n better.fourth better.last) at.third_is in
           omega (arith, first, last, third, same, one.1, two.1);
     }
 
 -- what was chosen at a middle fix
-pub over-chosen : (fixes : List Fix) (sides : Sides) (middle : ℕ) (loss : ℤ) (found more : ℕ) (arms : Arms) (low : Option Pair) → found ≤ more → AreLongest fixes sides middle found arms → MatchOption low (arm_length fixes middle arms.before.inner arms.before.end + arm_length fixes middle arms.after.inner arms.after.end ≤ more) (IsLow fixes loss arms.before.end arms.after.end) → IsOver fixes sides (middle, middle) loss more low
+pub over-chosen : (fixes : List Fix) (sides : Sides) (middle : ℕ) (loss : ℤ) (found more : ℕ) (arms : Arms) (low : Option Pair) → found ≤ more → AreLongest fixes sides middle found arms
+    → MatchOption low (arm_length fixes middle arms.before.inner arms.before.end + arm_length fixes middle arms.after.inner arms.after.end ≤ more) (IsLow fixes loss arms.before.end arms.after.end)
+    → IsOver fixes sides (middle, middle) loss more low
 over-chosen fixes sides middle loss found more arms None order longest chosen = none-longer fixes sides middle found more arms order longest chosen
 over-chosen fixes sides middle loss found more arms (Some pair) order longest chosen = record {
   first = subst (λ (n : ℕ). IsAllowed fixes sides.before n) (sym chosen.first_is) longest.before.is_end.allowed;
   last = subst (λ (n : ℕ). IsAllowed fixes sides.after n) (sym chosen.last_is) longest.after.is_end.allowed;
-  low = subst (λ (n : ℕ). loss <ℤ (altitude_at fixes n -ℤ altitude_at fixes pair.last)) (sym chosen.first_is) (subst (λ (n : ℕ). loss <ℤ (altitude_at fixes arms.before.end -ℤ altitude_at fixes n)) (sym chosen.last_is) chosen.low);
+  low = subst (λ (n : ℕ). loss <ℤ (altitude_at fixes n -ℤ altitude_at fixes pair.last)) (sym chosen.first_is)
+      (subst (λ (n : ℕ). loss <ℤ (altitude_at fixes arms.before.end -ℤ altitude_at fixes n)) (sym chosen.last_is) chosen.low);
 }
 
 -- where all middle fixes are done, no choice is better
-pub done-all : (fixes : List Fix) (sides : Sides) (found middle : ℕ) → 0 < length fixes → middle ≡ length fixes → AreDone fixes sides (0, length fixes - 1) found middle → ¬ IsBetter fixes sides (0, length fixes - 1) found
+pub done-all : (fixes : List Fix) (sides : Sides) (found middle : ℕ) → 0 < length fixes → middle ≡ length fixes → AreDone fixes sides (0, length fixes - 1) found middle
+    → ¬ IsBetter fixes sides (0, length fixes - 1) found
 done-all fixes sides found middle some is done better = absurd (omega (arith, done better, better.third_in.1))

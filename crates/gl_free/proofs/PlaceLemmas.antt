@@ -11,9 +11,9 @@ use Rattle.gl_hull.proofs.Spans.{fixes_in-single}
 use Rattle.gl_hull.specs.Box.{Box, IsBetween, fixes_in, hull_of}
 use Rattle.gl_hull.specs.Chords.{greatest_chord, reach, squared}
 use Rattle.gl_hull.specs.Near.{IsPlaceOf}
-use Rattle.gl_hull.specs.Laws.Chords.{squared_chord-at_most}
-use Rattle.gl_hull.specs.Laws.Held.{IsHeld, fix_box, hull_of-holds, hull_of-single, named}
-use Rattle.gl_free.specs.Places.{IsMost, altitude_at, altitude_of, chord, chord_of, leg}
+use Rattle.gl_hull.proofs.ChordBounds.{squared_chord-at_most}
+use Rattle.gl_hull.proofs.Held.{IsHeld, fix_box, hull_of-holds, hull_of-single, named}
+use Rattle.gl_free.specs.Code.Places.{IsMost, altitude_at, altitude_of, chord, chord_of, leg}
 
 abbrev hull_at : List Fix → ℕ × ℕ → Box
 hull_at fixes span = hull_of (fixes_in fixes span)
@@ -51,12 +51,19 @@ pub held : (fixes : List Fix) (span : ℕ × ℕ) (place : ℕ) (fix : Fix) → 
 held fixes span place fix inside within is = hull_of-holds fixes span place fix inside.0 inside.1 within (get_or_from_slice_get fixes place fix fix is)
 
 -- the greatest chord between two hulls is the most that places of the spans can have
-pub chord-most : (fixes : List Fix) (from to : ℕ × ℕ) (most : ℕ) → from.0 ≤ from.1 → from.1 < length fixes → to.0 ≤ to.1 → to.1 < length fixes → most ≡ greatest_chord (hull_at fixes from) (hull_at fixes to) → IsMost (chord fixes) from to most
+pub chord-most : (fixes : List Fix) (from to : ℕ × ℕ) (most : ℕ) → from.0 ≤ from.1 → from.1 < length fixes → to.0 ≤ to.1 → to.1 < length fixes
+    → most ≡ greatest_chord (hull_at fixes from) (hull_at fixes to) → IsMost (chord fixes) from to most
 chord-most fixes from to most order within to_order to_within is = record {
   at_most = λ i j in_from in_to.
       let f = named fixes i (omega (arith, in_from.1)) in
       let g = named fixes j (omega (arith, in_to.1)) in
-      omega (arith, is, chord-is fixes i j f.0 g.0 f.1 g.1, squared_chord-at_most (hull_at fixes from) (hull_at fixes to) f.0.at g.0.at (held fixes from i f.0 in_from within f.1).inside (held fixes to j g.0 in_to to_within g.1).inside);
+      omega (
+        arith,
+        is,
+        chord-is fixes i j f.0 g.0 f.1 g.1,
+        squared_chord-at_most (hull_at fixes from) (hull_at fixes to) f.0.at g.0.at (held fixes from i f.0 in_from within f.1).inside
+            (held fixes to j g.0 in_to to_within g.1).inside,
+      );
   single = λ one other.
       let f = named fixes from.0 (omega arith) in
       let g = named fixes to.0 (omega arith) in

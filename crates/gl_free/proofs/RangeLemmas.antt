@@ -15,14 +15,15 @@ use Rattle.gl_free.specs.declared.ends.Sides.{Sides}
 use Rattle.gl_free.specs.declared.pair.Pair.{Pair}
 use Rattle.gl_free.specs.declared.side.Side.{Side}
 use Rattle.gl_free.specs.declared.side.Side.TheVariants.{Before, After}
-use Rattle.gl_free.specs.Candidates.{Starts}
-use Rattle.gl_free.specs.Ends.{Stands}
-use Rattle.gl_free.specs.Places.{altitude_at, altitude_of}
-use Rattle.gl_free.specs.Ranges.{AreLeft, IsBetterChoice, IsIn, IsRun, IsSplit}
-use Rattle.gl_free.specs.Search.{AreFound, AreSides, IsBetter, IsOver}
+use Rattle.gl_free.specs.Code.Candidates.{Starts}
+use Rattle.gl_free.specs.Code.Ends.{Stands}
+use Rattle.gl_free.specs.Code.Places.{altitude_at, altitude_of}
+use Rattle.gl_free.specs.Code.Ranges.{AreLeft, IsBetterChoice, IsIn, IsRun, IsSplit}
+use Rattle.gl_free.specs.Code.Search.{AreFound, AreSides, IsBetter, IsOver}
 
 -- at the start the whole holds each better choice
-pub starts-found : (fixes : List Fix) (sides : Sides) (middle : ℕ × ℕ) (found : ℕ) (before_list after_list : List Candidate) (before after : Part) → Starts fixes sides.before middle before_list before → Starts fixes sides.after middle after_list after → AreFound fixes sides middle found (take before.to before_list) before.from (take after.to after_list) after.from
+pub starts-found : (fixes : List Fix) (sides : Sides) (middle : ℕ × ℕ) (found : ℕ) (before_list after_list : List Candidate) (before after : Part) → Starts fixes sides.before middle before_list before
+    → Starts fixes sides.after middle after_list after → AreFound fixes sides middle found (take before.to before_list) before.from (take after.to after_list) after.from
 starts-found fixes sides middle found before_list after_list before after first second better =
     (first.among better.second better.first better.third better.before, second.among better.fourth better.last better.third better.after)
 
@@ -41,7 +42,9 @@ stood-after : (side : Side) (place of_ : ℕ) → side ≡ After → of_ ≤ pla
 stood-after side place of_ is order = subst (λ (s : Side). Stands s place of_) (sym is) order
 
 -- a better choice with its first fix in a range is one of two arms with ends on these sides
-pub better-arms : (fixes : List Fix) (sides : Sides) (whole : ℕ × ℕ) (loss : ℤ) (range : Altitudes) (found : ℕ) → AreSides sides → sides.before.lowest ≡ range.lowest → sides.before.highest ≡ range.highest → sides.after.lowest ≡ (range.lowest -ℤ int_min loss (pos 50000)) → sides.after.highest ≡ pos 2147483647 → whole.0 ≡ 0 → whole.1 + 1 ≡ length fixes → (better : IsBetterChoice fixes loss found) → IsIn range (altitude_at fixes better.first) → IsBetter fixes sides whole found
+pub better-arms : (fixes : List Fix) (sides : Sides) (whole : ℕ × ℕ) (loss : ℤ) (range : Altitudes) (found : ℕ) → AreSides sides → sides.before.lowest ≡ range.lowest
+    → sides.before.highest ≡ range.highest → sides.after.lowest ≡ (range.lowest -ℤ int_min loss (pos 50000)) → sides.after.highest ≡ pos 2147483647 → whole.0 ≡ 0 → whole.1 + 1 ≡ length fixes
+    → (better : IsBetterChoice fixes loss found) → IsIn range (altitude_at fixes better.first) → IsBetter fixes sides whole found
 better-arms fixes sides whole loss range found are lowest highest reach any first last better inside =
     let order = better.order in
     let first_bounds = altitude-bounds fixes better.first in
@@ -80,7 +83,9 @@ better-arms fixes sides whole loss range found are lowest highest reach any firs
       more = better.more;
     }
 
-pub run-over : (fixes : List Fix) (sides : Sides) (whole : ℕ × ℕ) (loss : ℤ) (range : Altitudes) (found : ℕ) (stop : Option Pair) → AreSides sides → sides.before.lowest ≡ range.lowest → sides.before.highest ≡ range.highest → sides.after.lowest ≡ (range.lowest -ℤ int_min loss (pos 50000)) → sides.after.highest ≡ pos 2147483647 → whole.0 ≡ 0 → whole.1 + 1 ≡ length fixes → IsOver fixes sides whole loss found stop → IsRun fixes loss range found stop
+pub run-over : (fixes : List Fix) (sides : Sides) (whole : ℕ × ℕ) (loss : ℤ) (range : Altitudes) (found : ℕ) (stop : Option Pair) → AreSides sides → sides.before.lowest ≡ range.lowest
+    → sides.before.highest ≡ range.highest → sides.after.lowest ≡ (range.lowest -ℤ int_min loss (pos 50000)) → sides.after.highest ≡ pos 2147483647 → whole.0 ≡ 0 → whole.1 + 1 ≡ length fixes
+    → IsOver fixes sides whole loss found stop → IsRun fixes loss range found stop
 run-over fixes sides whole loss range found None are lowest highest reach any first last over = λ better inside.
     over (better-arms fixes sides whole loss range found are lowest highest reach any first last better inside)
 run-over fixes sides whole loss range found (Some pair) are lowest highest reach any first last over = record {
@@ -123,7 +128,8 @@ choice-earlier fixes loss found less order better = record {
 }
 
 -- a range that was run over to its end is done
-pub left-done : (fixes : List Fix) (loss : ℤ) (found more : ℕ) (ranges : List Altitudes) (range : Altitudes) → found ≤ more → ((better : IsBetterChoice fixes loss more) → IsIn range (altitude_at fixes better.first) → ⊥) → AreLeft fixes loss found (ranges ++ range ∷ []) → AreLeft fixes loss more ranges
+pub left-done : (fixes : List Fix) (loss : ℤ) (found more : ℕ) (ranges : List Altitudes) (range : Altitudes) → found ≤ more
+    → ((better : IsBetterChoice fixes loss more) → IsIn range (altitude_at fixes better.first) → ⊥) → AreLeft fixes loss found (ranges ++ range ∷ []) → AreLeft fixes loss more ranges
 left-done fixes loss found more ranges range order none left better =
     ⊎_elim
     (λ (others : Any (λ (r : Altitudes). IsIn r (altitude_at fixes better.first)) ranges). others)
@@ -131,7 +137,8 @@ left-done fixes loss found more ranges range order none left better =
     (any-pushed (λ (r : Altitudes). IsIn r (altitude_at fixes better.first)) ranges range (left (choice-earlier fixes loss more found order better)))
 
 -- a range that was split gives way to two
-pub left-split : (fixes : List Fix) (loss : ℤ) (found more : ℕ) (ranges with_upper with_both : List Altitudes) (range lower upper : Altitudes) → found ≤ more → IsSplit range lower upper → with_upper ≡ ranges ++ upper ∷ [] → with_both ≡ with_upper ++ lower ∷ [] → AreLeft fixes loss found (ranges ++ range ∷ []) → AreLeft fixes loss more with_both
+pub left-split : (fixes : List Fix) (loss : ℤ) (found more : ℕ) (ranges with_upper with_both : List Altitudes) (range lower upper : Altitudes) → found ≤ more → IsSplit range lower upper
+    → with_upper ≡ ranges ++ upper ∷ [] → with_both ≡ with_upper ++ lower ∷ [] → AreLeft fixes loss found (ranges ++ range ∷ []) → AreLeft fixes loss more with_both
 left-split fixes loss found more ranges with_upper with_both range lower upper order split upper_is both_is left better =
     let P : Altitudes → Type 0 = λ (r : Altitudes). IsIn r (altitude_at fixes better.first) in
     let Q : List Altitudes → Type 0 = Any P in
@@ -152,7 +159,8 @@ is-above : (altitude between : ℤ) → int_le altitude between ≡ false → (b
 is-above altitude between is = grind (arith, ints)
 
 -- the altitudes up to one, and those above it
-pub split-at : (range lower upper : Altitudes) (between : ℤ) → lower.lowest ≡ range.lowest → lower.highest ≡ between → upper.lowest ≡ between +ℤ pos 1 → upper.highest ≡ range.highest → IsSplit range lower upper
+pub split-at : (range lower upper : Altitudes) (between : ℤ) → lower.lowest ≡ range.lowest → lower.highest ≡ between → upper.lowest ≡ between +ℤ pos 1 → upper.highest ≡ range.highest
+    → IsSplit range lower upper
 split-at range lower upper between from below above to = record {
   parts = λ altitude inside. ⊎_elim
       (λ (is : int_le altitude between ≡ true). inl (omega (arith, ints, inside.0), omega (arith, ints, not-above altitude between is)))
@@ -162,11 +170,13 @@ split-at range lower upper between from below above to = record {
 }
 
 -- a range of all altitudes leaves nothing out
-pub left-whole : (fixes : List Fix) (loss : ℤ) (found : ℕ) (old new : List Altitudes) (all : Altitudes) → new ≡ old ++ all ∷ [] → ((place : ℕ) → place < length fixes → IsIn all (altitude_at fixes place)) → AreLeft fixes loss found new
+pub left-whole : (fixes : List Fix) (loss : ℤ) (found : ℕ) (old new : List Altitudes) (all : Altitudes) → new ≡ old ++ all ∷ []
+    → ((place : ℕ) → place < length fixes → IsIn all (altitude_at fixes place)) → AreLeft fixes loss found new
 left-whole fixes loss found old new all is inside better =
     let order = better.order in
     let P : Altitudes → Type 0 = λ (r : Altitudes). IsIn r (altitude_at fixes better.first) in
-    subst (λ (list : List Altitudes). Any P list) (sym is) (any-last P old all (inside better.first (omega (arith, order.second_later, order.third_later, order.fourth_later, order.last_later, order.within))))
+    subst (λ (list : List Altitudes). Any P list) (sym is) (any-last P old all
+    (inside better.first (omega (arith, order.second_later, order.third_later, order.fourth_later, order.last_later, order.within))))
 
 -- and where no range is left, nothing is
 pub left-none : (fixes : List Fix) (loss : ℤ) (found : ℕ) (ranges : List Altitudes) → length ranges ≡ 0 → AreLeft fixes loss found ranges → IsBetterChoice fixes loss found → ⊥

@@ -13,16 +13,16 @@ use Rattle.gl_free.specs.declared.pair.Pair.{Pair}
 use Rattle.gl_free.specs.declared.search.Search.{Search}
 use Rattle.gl_free.specs.declared.stop.Stop.{Stop}
 use Rattle.gl_free.specs.declared.stop.Stop.TheVariants.{Done, GivenUp, Low}
-use Rattle.gl_free.specs.Arms.{arm_length}
-use Rattle.gl_free.specs.Candidates.{AreCandidates, IsAmong, IsPart, Sifts}
-use Rattle.gl_free.specs.Choices.{IsLow}
-use Rattle.gl_free.specs.Ends.{IsAllowed}
-use Rattle.gl_free.specs.Places.{altitude_at}
-use Rattle.gl_free.specs.Search.{AreBelow, AreFound, AreHalvesOf, IsBetter, IsHalted, IsNarrowed, IsOver, Keeps}
-use Rattle.gl_free.specs.Stops.{stop_after}
+use Rattle.gl_free.specs.Code.Arms.{arm_length}
+use Rattle.gl_free.specs.Code.Candidates.{AreCandidates, IsAmong, IsPart, Sifts}
+use Rattle.gl_free.specs.Code.Choices.{IsLow}
+use Rattle.gl_free.specs.Code.Ends.{IsAllowed}
+use Rattle.gl_free.specs.Code.Places.{altitude_at}
+use Rattle.gl_free.specs.Code.Search.{AreBelow, AreFound, AreHalvesOf, IsBetter, IsHalted, IsNarrowed, IsOver, Keeps, stop_after}
 
 -- what is above the need is a part of its own
-part-refined : (fixes : List Fix) (allowed : Ends) (middle : ℕ × ℕ) (need : ℕ) (kind : ℕ → Type 0) (part : Part) (old new : List Candidate) (least : ℕ) (arm : Arm) → part.to ≤ length old → Sifts fixes allowed middle need kind (take part.to old) new least arm → IsPart fixes allowed middle new (record { from = part.to; to = length new; most = arm.most })
+part-refined : (fixes : List Fix) (allowed : Ends) (middle : ℕ × ℕ) (need : ℕ) (kind : ℕ → Type 0) (part : Part) (old new : List Candidate) (least : ℕ) (arm : Arm) → part.to ≤ length old
+    → Sifts fixes allowed middle need kind (take part.to old) new least arm → IsPart fixes allowed middle new (record { from = part.to; to = length new; most = arm.most })
 part-refined fixes allowed middle need kind part old new least arm within sifts =
     let size : length (take part.to old) ≡ part.to = omega (arith, length-take part.to old) in
     let Q : List Candidate → Type 0 = λ list. AreCandidates fixes allowed middle list part.to in
@@ -39,12 +39,21 @@ among-after part old new inner within among =
     let size : length (take part.to old) ≡ part.to = omega (arith, length-take part.to old) in
     subst (λ (n : ℕ). IsAmong new n inner) size among
 
-pub narrowed : (fixes : List Fix) (sides : Sides) (middle : ℕ × ℕ) (found : ℕ) (search : Search) (before after : Part) (arms : Arms) (old_before old_after : List Candidate) (need_before need_after : ℕ) → search.best.total ≡ found → before.to ≤ length old_before → after.to ≤ length old_after → AreBelow fixes sides middle found before.most after.most → AreFound fixes sides middle found (take before.to old_before) before.from (take after.to old_after) after.from → need_before ≡ found + 2 - after.most → need_after ≡ found + 2 - arms.before.most → 0 < arms.before.most → 0 < arms.after.most → Sifts fixes sides.before middle need_before (IsAmong (take before.to old_before) before.from) (take before.to old_before) search.before.candidates.items 0 arms.before → Sifts fixes sides.after middle need_after (IsAmong (take after.to old_after) after.from) (take after.to old_after) search.after.candidates.items 0 arms.after → IsNarrowed fixes sides middle search before after arms
-narrowed fixes sides middle found search before after arms old_before old_after need_before need_after same within_before within_after below among need_before_is need_after_is some_before some_after sifts_before sifts_after =
+pub narrowed : (fixes : List Fix) (sides : Sides) (middle : ℕ × ℕ) (found : ℕ) (search : Search) (before after : Part) (arms : Arms) (old_before old_after : List Candidate)
+    (need_before need_after : ℕ) → search.best.total ≡ found → before.to ≤ length old_before → after.to ≤ length old_after → AreBelow fixes sides middle found before.most after.most
+    → AreFound fixes sides middle found (take before.to old_before) before.from (take after.to old_after) after.from → need_before ≡ found + 2 - after.most → need_after ≡ found + 2 - arms.before.most
+    → 0 < arms.before.most → 0 < arms.after.most → Sifts fixes sides.before middle need_before (IsAmong (take before.to old_before) before.from)
+    (take before.to old_before) search.before.candidates.items 0 arms.before
+    → Sifts fixes sides.after middle need_after (IsAmong (take after.to old_after) after.from) (take after.to old_after) search.after.candidates.items 0 arms.after
+    → IsNarrowed fixes sides middle search before after arms
+narrowed fixes sides middle found search before after arms old_before old_after need_before need_after same within_before within_after below among need_before_is need_after_is some_before some_after
+    sifts_before sifts_after =
     let needed_before : (t : IsBetter fixes sides middle found) → need_before ≤ arm_length fixes t.third t.second t.first = λ t. omega (arith, t.more, (below t).1) in
-    let short_before : (t : IsBetter fixes sides middle found) → arm_length fixes t.third t.second t.first < arms.before.most = λ t. sifts_before.shorter t.second t.first t.third (among t).0 t.third_in t.before (needed_before t) in
+    let short_before : (t : IsBetter fixes sides middle found) → arm_length fixes t.third t.second t.first < arms.before.most =
+    λ t. sifts_before.shorter t.second t.first t.third (among t).0 t.third_in t.before (needed_before t) in
     let needed_after : (t : IsBetter fixes sides middle found) → need_after ≤ arm_length fixes t.third t.fourth t.last = λ t. omega (arith, t.more, short_before t) in
-    let short_after : (t : IsBetter fixes sides middle found) → arm_length fixes t.third t.fourth t.last < arms.after.most = λ t. sifts_after.shorter t.fourth t.last t.third (among t).1 t.third_in t.after (needed_after t) in
+    let short_after : (t : IsBetter fixes sides middle found) → arm_length fixes t.third t.fourth t.last < arms.after.most =
+    λ t. sifts_after.shorter t.fourth t.last t.third (among t).1 t.third_in t.after (needed_after t) in
     record {
       top_before = sifts_before.top;
       top_after = sifts_after.top;
@@ -61,7 +70,8 @@ narrowed fixes sides middle found search before after arms old_before old_after 
     }
 
 -- a better choice is one of a wider span, against a smaller total
-abbrev pub better-wider : (fixes : List Fix) (sides : Sides) (middle wider : ℕ × ℕ) (found less : ℕ) → ((place : ℕ) → IsPlaceOf middle place → IsPlaceOf wider place) → less ≤ found → IsBetter fixes sides middle found → IsBetter fixes sides wider less
+abbrev pub better-wider : (fixes : List Fix) (sides : Sides) (middle wider : ℕ × ℕ) (found less : ℕ) → ((place : ℕ) → IsPlaceOf middle place → IsPlaceOf wider place) → less ≤ found
+    → IsBetter fixes sides middle found → IsBetter fixes sides wider less
 better-wider fixes sides middle wider found less inside order better = record {
   first = better.first;
   second = better.second;
@@ -74,14 +84,18 @@ better-wider fixes sides middle wider found less inside order better = record {
   more = omega (arith, better.more);
 }
 
-pub below-half : (fixes : List Fix) (sides : Sides) (middle half : ℕ × ℕ) (found more before after : ℕ) → ((place : ℕ) → IsPlaceOf half place → IsPlaceOf middle place) → found ≤ more → AreBelow fixes sides middle found before after → AreBelow fixes sides half more before after
+pub below-half : (fixes : List Fix) (sides : Sides) (middle half : ℕ × ℕ) (found more before after : ℕ) → ((place : ℕ) → IsPlaceOf half place → IsPlaceOf middle place) → found ≤ more
+    → AreBelow fixes sides middle found before after → AreBelow fixes sides half more before after
 below-half fixes sides middle half found more before after inside order below better = below (better-wider fixes sides half middle more found inside order better)
 
-pub found-half : (fixes : List Fix) (sides : Sides) (middle half : ℕ × ℕ) (found more : ℕ) (before after : List Candidate) (from_before from_after : ℕ) → ((place : ℕ) → IsPlaceOf half place → IsPlaceOf middle place) → found ≤ more → AreFound fixes sides middle found before from_before after from_after → AreFound fixes sides half more before from_before after from_after
+pub found-half : (fixes : List Fix) (sides : Sides) (middle half : ℕ × ℕ) (found more : ℕ) (before after : List Candidate) (from_before from_after : ℕ)
+    → ((place : ℕ) → IsPlaceOf half place → IsPlaceOf middle place) → found ≤ more → AreFound fixes sides middle found before from_before after from_after
+    → AreFound fixes sides half more before from_before after from_after
 found-half fixes sides middle half found more before after from_before from_after inside order among better = among (better-wider fixes sides half middle more found inside order better)
 
 -- what is true of a candidate for a span is true for a narrower one
-pub part-half : (fixes : List Fix) (allowed : Ends) (middle half : ℕ × ℕ) (list : List Candidate) (part : Part) → ((place : ℕ) → IsPlaceOf half place → IsPlaceOf middle place) → IsPart fixes allowed middle list part → IsPart fixes allowed half list part
+pub part-half : (fixes : List Fix) (allowed : Ends) (middle half : ℕ × ℕ) (list : List Candidate) (part : Part) → ((place : ℕ) → IsPlaceOf half place → IsPlaceOf middle place)
+    → IsPart fixes allowed middle list part → IsPart fixes allowed half list part
 part-half fixes allowed middle half list part inside is = record {
   ordered = is.ordered;
   within = is.within;
@@ -98,7 +112,8 @@ part-half fixes allowed middle half list part inside is = record {
 }
 
 -- a part stays while its candidates are kept
-pub part-kept : (fixes : List Fix) (allowed : Ends) (middle : ℕ × ℕ) (old new : List Candidate) (part : Part) → IsPart fixes allowed middle old part → Keeps part old new → IsPart fixes allowed middle new part
+pub part-kept : (fixes : List Fix) (allowed : Ends) (middle : ℕ × ℕ) (old new : List Candidate) (part : Part) → IsPart fixes allowed middle old part → Keeps part old new
+    → IsPart fixes allowed middle new part
 part-kept fixes allowed middle old new part is keeps = record {
   ordered = is.ordered;
   within = keeps.longer;
@@ -106,7 +121,9 @@ part-kept fixes allowed middle old new part is keeps = record {
   candidates = subst (λ (list : List Candidate). AreCandidates fixes allowed middle list part.from) (sym keeps.kept) is.candidates;
 }
 
-pub found-kept : (fixes : List Fix) (sides : Sides) (middle : ℕ × ℕ) (found : ℕ) (old_before new_before old_after new_after : List Candidate) (before after : Part) → Keeps before old_before new_before → Keeps after old_after new_after → AreFound fixes sides middle found (take before.to old_before) before.from (take after.to old_after) after.from → AreFound fixes sides middle found (take before.to new_before) before.from (take after.to new_after) after.from
+pub found-kept : (fixes : List Fix) (sides : Sides) (middle : ℕ × ℕ) (found : ℕ) (old_before new_before old_after new_after : List Candidate) (before after : Part) → Keeps before old_before new_before
+    → Keeps after old_after new_after → AreFound fixes sides middle found (take before.to old_before) before.from (take after.to old_after) after.from
+    → AreFound fixes sides middle found (take before.to new_before) before.from (take after.to new_after) after.from
 found-kept fixes sides middle found old_before new_before old_after new_after before after keeps_before keeps_after among better = (
   subst (λ (list : List Candidate). IsAmong list before.from better.second) (sym keeps_before.kept) (among better).0,
   subst (λ (list : List Candidate). IsAmong list after.from better.fourth) (sym keeps_after.kept) (among better).1,
@@ -119,7 +136,8 @@ keeps-through part next old between new less first second = record {
 }
 
 -- a middle span has no better choice where neither half has
-pub none-halves : (fixes : List Fix) (sides : Sides) (middle one other : ℕ × ℕ) (found more : ℕ) → AreHalvesOf middle one other → found ≤ more → ¬ IsBetter fixes sides one found → ¬ IsBetter fixes sides other more → ¬ IsBetter fixes sides middle more
+pub none-halves : (fixes : List Fix) (sides : Sides) (middle one other : ℕ × ℕ) (found more : ℕ) → AreHalvesOf middle one other → found ≤ more → ¬ IsBetter fixes sides one found
+    → ¬ IsBetter fixes sides other more → ¬ IsBetter fixes sides middle more
 none-halves fixes sides middle one other found more halves order not_one not_other better =
     let narrow : (half : ℕ × ℕ) → IsPlaceOf half better.third → IsBetter fixes sides half more = λ half inside. record {
       first = better.first;
@@ -137,23 +155,29 @@ none-halves fixes sides middle one other found more halves order not_one not_oth
     (λ (in_other : IsPlaceOf other better.third). not_other (narrow other in_other))
     (halves.parts better.third better.third_in)
 
-pub over-halves : (fixes : List Fix) (sides : Sides) (middle one other : ℕ × ℕ) (loss : ℤ) (found more : ℕ) (stop : Stop) → AreHalvesOf middle one other → found ≤ more → ¬ IsBetter fixes sides one found → IsHalted fixes sides other loss more stop → IsHalted fixes sides middle loss more stop
+pub over-halves : (fixes : List Fix) (sides : Sides) (middle one other : ℕ × ℕ) (loss : ℤ) (found more : ℕ) (stop : Stop) → AreHalvesOf middle one other → found ≤ more
+    → ¬ IsBetter fixes sides one found → IsHalted fixes sides other loss more stop → IsHalted fixes sides middle loss more stop
 over-halves fixes sides middle one other loss found more Done halves order not_one over = none-halves fixes sides middle one other found more halves order not_one over
 over-halves fixes sides middle one other loss found more (Low pair) halves order not_one over = over
 over-halves fixes sides middle one other loss found more GivenUp halves order not_one over = over
 
 -- a search of a half that isn't done is a search of the whole that isn't
-pub halted-part : (fixes : List Fix) (sides : Sides) (middle half : ℕ × ℕ) (loss : ℤ) (found : ℕ) (stop : Stop) → (stop ≡ Done → ⊥) → IsHalted fixes sides half loss found stop → IsHalted fixes sides middle loss found stop
+pub halted-part : (fixes : List Fix) (sides : Sides) (middle half : ℕ × ℕ) (loss : ℤ) (found : ℕ) (stop : Stop) → (stop ≡ Done → ⊥) → IsHalted fixes sides half loss found stop
+    → IsHalted fixes sides middle loss found stop
 halted-part fixes sides middle half loss found Done open_ over = absurd (open_ refl)
 halted-part fixes sides middle half loss found (Low pair) open_ over = over
 halted-part fixes sides middle half loss found GivenUp open_ over = over
 
-pub halted-after : (fixes : List Fix) (sides : Sides) (middle : ℕ × ℕ) (loss : ℤ) (found : ℕ) (low : Option Pair) → IsOver fixes sides middle loss found low → IsHalted fixes sides middle loss found (stop_after low)
+pub halted-after : (fixes : List Fix) (sides : Sides) (middle : ℕ × ℕ) (loss : ℤ) (found : ℕ) (low : Option Pair) → IsOver fixes sides middle loss found low
+    → IsHalted fixes sides middle loss found (stop_after low)
 halted-after fixes sides middle loss found None over = over
 halted-after fixes sides middle loss found (Some pair) over = over
 
 -- what was chosen at a single middle fix
-pub over-single : (fixes : List Fix) (sides : Sides) (middle : ℕ × ℕ) (loss : ℤ) (found more : ℕ) (search : Search) (before after : Part) (arms : Arms) (stop : Option Pair) → middle.0 ≡ middle.1 → search.best.total ≡ found → found ≤ more → IsNarrowed fixes sides middle search before after arms → MatchOption stop (arm_length fixes middle.0 arms.before.inner arms.before.end + arm_length fixes middle.0 arms.after.inner arms.after.end ≤ more) (IsLow fixes loss arms.before.end arms.after.end) → IsOver fixes sides middle loss more stop
+pub over-single : (fixes : List Fix) (sides : Sides) (middle : ℕ × ℕ) (loss : ℤ) (found more : ℕ) (search : Search) (before after : Part) (arms : Arms) (stop : Option Pair) → middle.0 ≡ middle.1
+    → search.best.total ≡ found → found ≤ more → IsNarrowed fixes sides middle search before after arms
+    → MatchOption stop (arm_length fixes middle.0 arms.before.inner arms.before.end + arm_length fixes middle.0 arms.after.inner arms.after.end ≤ more)
+    (IsLow fixes loss arms.before.end arms.after.end) → IsOver fixes sides middle loss more stop
 over-single fixes sides middle loss found more kept before after arms None single same order is chosen = λ better.
     let less = is.below (better-wider fixes sides middle middle more kept.best.total (λ place inside. inside) (omega arith) better) in
     absurd (omega (arith, less.0, less.1, better.more, (is.top_before.reached single is.before_some).1, (is.top_after.reached single is.after_some).1))
@@ -163,7 +187,8 @@ over-single fixes sides middle loss found more kept before after arms (Some pair
     record {
       first = subst (λ (n : ℕ). IsAllowed fixes sides.before n) (sym chosen.first_is) first;
       last = subst (λ (n : ℕ). IsAllowed fixes sides.after n) (sym chosen.last_is) last;
-      low = subst (λ (n : ℕ). loss <ℤ (altitude_at fixes n -ℤ altitude_at fixes pair.last)) (sym chosen.first_is) (subst (λ (n : ℕ). loss <ℤ (altitude_at fixes arms.before.end -ℤ altitude_at fixes n)) (sym chosen.last_is) chosen.low);
+      low = subst (λ (n : ℕ). loss <ℤ (altitude_at fixes n -ℤ altitude_at fixes pair.last)) (sym chosen.first_is)
+          (subst (λ (n : ℕ). loss <ℤ (altitude_at fixes arms.before.end -ℤ altitude_at fixes n)) (sym chosen.last_is) chosen.low);
     }
 
 -- all that is asked of a middle span and its candidates
@@ -173,7 +198,10 @@ pub record IsReady (fixes : List Fix) (sides : Sides) (middle : ℕ × ℕ) (fou
   pub below : AreBelow fixes sides middle found before.most after.most
   pub among : AreFound fixes sides middle found (take before.to before_list) before.from (take after.to after_list) after.from
 
-pub ready-narrowed : (fixes : List Fix) (sides : Sides) (middle : ℕ × ℕ) (search : Search) (before after : Part) (arms : Arms) (to_before to_after : ℕ) → to_before ≡ length search.before.candidates.items → to_after ≡ length search.after.candidates.items → middle.0 < middle.1 → IsNarrowed fixes sides middle search before after arms → IsReady fixes sides middle search.best.total search.before.candidates.items search.after.candidates.items (record { from = before.to; to = to_before; most = arms.before.most }) (record { from = after.to; to = to_after; most = arms.after.most })
+pub ready-narrowed : (fixes : List Fix) (sides : Sides) (middle : ℕ × ℕ) (search : Search) (before after : Part) (arms : Arms) (to_before to_after : ℕ)
+    → to_before ≡ length search.before.candidates.items → to_after ≡ length search.after.candidates.items → middle.0 < middle.1 → IsNarrowed fixes sides middle search before after arms
+    → IsReady fixes sides middle search.best.total search.before.candidates.items search.after.candidates.items (record { from = before.to; to = to_before; most = arms.before.most })
+    (record { from = after.to; to = to_after; most = arms.after.most })
 ready-narrowed fixes sides middle search before after arms to_before to_after before_is after_is wide is =
     let list_before = search.before.candidates.items in
     let list_after = search.after.candidates.items in
@@ -191,12 +219,15 @@ ready-narrowed fixes sides middle search before after arms to_before to_after be
       );
     }
 
-pub ready-half : (fixes : List Fix) (sides : Sides) (middle half : ℕ × ℕ) (found more : ℕ) (old_before new_before old_after new_after : List Candidate) (before after : Part) → ((place : ℕ) → IsPlaceOf half place → IsPlaceOf middle place) → found ≤ more → Keeps before old_before new_before → Keeps after old_after new_after → IsReady fixes sides middle found old_before old_after before after → IsReady fixes sides half more new_before new_after before after
+pub ready-half : (fixes : List Fix) (sides : Sides) (middle half : ℕ × ℕ) (found more : ℕ) (old_before new_before old_after new_after : List Candidate) (before after : Part)
+    → ((place : ℕ) → IsPlaceOf half place → IsPlaceOf middle place) → found ≤ more → Keeps before old_before new_before → Keeps after old_after new_after
+    → IsReady fixes sides middle found old_before old_after before after → IsReady fixes sides half more new_before new_after before after
 ready-half fixes sides middle half found more old_before new_before old_after new_after before after inside order keeps_before keeps_after ready = record {
   part_before = part-half fixes sides.before middle half new_before before inside (part-kept fixes sides.before middle old_before new_before before ready.part_before keeps_before);
   part_after = part-half fixes sides.after middle half new_after after inside (part-kept fixes sides.after middle old_after new_after after ready.part_after keeps_after);
   below = below-half fixes sides middle half found more before.most after.most inside order ready.below;
-  among = found-half fixes sides middle half found more (take before.to new_before) (take after.to new_after) before.from after.from inside order (found-kept fixes sides middle found old_before new_before old_after new_after before after keeps_before keeps_after ready.among);
+  among = found-half fixes sides middle half found more (take before.to new_before) (take after.to new_after) before.from after.from inside order
+      (found-kept fixes sides middle found old_before new_before old_after new_after before after keeps_before keeps_after ready.among);
 }
 
 pub keeps-all : (part : Part) (list : List Candidate) → part.to ≤ length list → Keeps part list list

@@ -9,16 +9,17 @@ use Rattle.gl_hull.specs.Near.{IsPlaceOf}
 use Rattle.gl_free.specs.declared.arm.Arm.{Arm}
 use Rattle.gl_free.specs.declared.candidate.Candidate.{Candidate}
 use Rattle.gl_free.specs.declared.ends.Ends.{Ends}
-use Rattle.gl_free.specs.Arms.{IsArm, IsTop, arm_length}
-use Rattle.gl_free.specs.Candidates.{Grows, IsAmong, IsCandidate, Sifts, Starts}
-use Rattle.gl_free.specs.Ends.{IsPast, Stands}
-use Rattle.gl_free.specs.Farthest.{IsFarthest}
-use Rattle.gl_free.specs.Places.{IsMost, leg}
+use Rattle.gl_free.specs.Code.Arms.{IsArm, IsTop, arm_length}
+use Rattle.gl_free.specs.Code.Candidates.{Grows, IsAmong, IsCandidate, Sifts, Starts}
+use Rattle.gl_free.specs.Code.Ends.{IsPast, Stands}
+use Rattle.gl_free.specs.Code.Farthest.{IsFarthest}
+use Rattle.gl_free.specs.Code.Places.{IsMost, leg}
 use Rattle.gl_free.proofs.PlaceLemmas.{leg-limited}
 use Rattle.gl_free.proofs.ReachLemmas.{single-stands}
 
 -- a list that grew keeps what it had
-pub grown-at : (fixes : List Fix) (allowed : Ends) (middle : ℕ × ℕ) (old new : List Candidate) (k : ℕ) (d : Candidate) → Grows fixes allowed middle old new → k < length old → get_or new k d ≡ get_or old k d
+pub grown-at : (fixes : List Fix) (allowed : Ends) (middle : ℕ × ℕ) (old new : List Candidate) (k : ℕ) (d : Candidate) → Grows fixes allowed middle old new → k < length old
+    → get_or new k d ≡ get_or old k d
 grown-at fixes allowed middle old new k d grows below =
     sym (get_or-take (length old) new k d below) ∙ ap (λ (list : List Candidate). get_or list k d) grows.kept
 
@@ -29,7 +30,8 @@ grows-none fixes allowed middle list = record {
   added = λ k d low high. absurd (omega arith);
 }
 
-grows-through : (fixes : List Fix) (allowed : Ends) (middle : ℕ × ℕ) (old between new : List Candidate) → Grows fixes allowed middle old between → Grows fixes allowed middle between new → Grows fixes allowed middle old new
+grows-through : (fixes : List Fix) (allowed : Ends) (middle : ℕ × ℕ) (old between new : List Candidate) → Grows fixes allowed middle old between → Grows fixes allowed middle between new
+    → Grows fixes allowed middle old new
 grows-through fixes allowed middle old between new first second = record {
   longer = omega (arith, first.longer, second.longer);
   kept = sym (take-take (length old) (length between) new first.longer) ∙ ap (take (length old)) second.kept ∙ first.kept;
@@ -39,7 +41,8 @@ grows-through fixes allowed middle old between new first second = record {
       (cases_lt k (length between));
 }
 
-grows-pushed : (fixes : List Fix) (allowed : Ends) (middle : ℕ × ℕ) (old : List Candidate) (candidate : Candidate) → IsCandidate fixes allowed middle candidate → Grows fixes allowed middle old (old ++ candidate ∷ [])
+grows-pushed : (fixes : List Fix) (allowed : Ends) (middle : ℕ × ℕ) (old : List Candidate) (candidate : Candidate) → IsCandidate fixes allowed middle candidate
+    → Grows fixes allowed middle old (old ++ candidate ∷ [])
 grows-pushed fixes allowed middle old candidate is = record {
   longer = omega (arith, length-append old (candidate ∷ []));
   kept = take-append_seam old (candidate ∷ []);
@@ -85,7 +88,8 @@ abbrev pub AreShort : List Fix → Ends → ℕ × ℕ → ℕ × ℕ → ℕ �
 AreShort fixes allowed middle span most =
     (inner end third : ℕ) → IsPlaceOf span inner → IsPlaceOf middle third → IsArm fixes allowed third inner end → arm_length fixes third inner end < most
 
-pub short-candidate : (fixes : List Fix) (allowed : Ends) (middle : ℕ × ℕ) (candidate : Candidate) → IsCandidate fixes allowed middle candidate → AreShort fixes allowed middle (ends candidate.span) candidate.most
+pub short-candidate : (fixes : List Fix) (allowed : Ends) (middle : ℕ × ℕ) (candidate : Candidate) → IsCandidate fixes allowed middle candidate
+    → AreShort fixes allowed middle (ends candidate.span) candidate.most
 short-candidate fixes allowed middle candidate is inner end third inside in_middle arm =
     omega (arith, is.farthest.above end inner inside arm.is_end, is.at_most inner third inside in_middle)
 
@@ -95,7 +99,8 @@ pub record IsExact (fixes : List Fix) (allowed : Ends) (middle : ℕ × ℕ) (ca
   pub stands : Stands allowed.side candidate.span.lo middle.0
   pub most : candidate.most ≡ candidate.far.value + leg fixes candidate.span.lo middle.0
 
-pub top-taken : (fixes : List Fix) (allowed : Ends) (middle : ℕ × ℕ) (candidate : Candidate) → IsCandidate fixes allowed middle candidate → (middle.0 ≡ middle.1 → IsExact fixes allowed middle candidate) → IsTop fixes allowed middle (record { most = candidate.most; inner = candidate.span.lo; end = candidate.far.place })
+pub top-taken : (fixes : List Fix) (allowed : Ends) (middle : ℕ × ℕ) (candidate : Candidate) → IsCandidate fixes allowed middle candidate
+    → (middle.0 ≡ middle.1 → IsExact fixes allowed middle candidate) → IsTop fixes allowed middle (record { most = candidate.most; inner = candidate.span.lo; end = candidate.far.place })
 top-taken fixes allowed middle candidate is exact = record {
   inner_in = omega (arith, is.within, candidate.span.ordered);
   limited = is.limited;
@@ -106,7 +111,10 @@ top-taken fixes allowed middle candidate is exact = record {
 }
 
 -- a candidate that is kept
-pub sifts-kept : (fixes : List Fix) (allowed : Ends) (middle : ℕ × ℕ) (need : ℕ) (candidate : Candidate) (old new : List Candidate) (arm after : Arm) → middle.0 ≤ middle.1 → IsTop fixes allowed middle arm → IsCandidate fixes allowed middle candidate → (middle.0 ≡ middle.1 → IsExact fixes allowed middle candidate) → (middle.0 ≡ middle.1 → new ≡ old) → (middle.0 < middle.1 → new ≡ old ++ candidate ∷ []) → (arm.most < candidate.most → after ≡ record { most = candidate.most; inner = candidate.span.lo; end = candidate.far.place }) → (candidate.most ≤ arm.most → after ≡ arm) → Sifts fixes allowed middle need (IsPlaceOf (ends candidate.span)) old new arm.most after
+pub sifts-kept : (fixes : List Fix) (allowed : Ends) (middle : ℕ × ℕ) (need : ℕ) (candidate : Candidate) (old new : List Candidate) (arm after : Arm) → middle.0 ≤ middle.1
+    → IsTop fixes allowed middle arm → IsCandidate fixes allowed middle candidate → (middle.0 ≡ middle.1 → IsExact fixes allowed middle candidate) → (middle.0 ≡ middle.1 → new ≡ old)
+    → (middle.0 < middle.1 → new ≡ old ++ candidate ∷ []) → (arm.most < candidate.most → after ≡ record { most = candidate.most; inner = candidate.span.lo; end = candidate.far.place })
+    → (candidate.most ≤ arm.most → after ≡ arm) → Sifts fixes allowed middle need (IsPlaceOf (ends candidate.span)) old new arm.most after
 sifts-kept fixes allowed middle need candidate old new arm after order top is exact same pushed greater not_greater =
     let taken : Arm = record { most = candidate.most; inner = candidate.span.lo; end = candidate.far.place } in
     let raised : (arm.most ≤ after.most) × (candidate.most ≤ after.most) = ⊎_elim
@@ -128,7 +136,9 @@ sifts-kept fixes allowed middle need candidate old new arm after order top is ex
     }
 
 -- places of a kind are gone over in two parts
-pub sifts-parts : (fixes : List Fix) (allowed : Ends) (middle : ℕ × ℕ) (need : ℕ) (kind one other : ℕ → Type 0) (old between new : List Candidate) (least : ℕ) (first second : Arm) → ((inner : ℕ) → kind inner → one inner ⊎ other inner) → Sifts fixes allowed middle need one old between least first → Sifts fixes allowed middle need other between new first.most second → Sifts fixes allowed middle need kind old new least second
+pub sifts-parts : (fixes : List Fix) (allowed : Ends) (middle : ℕ × ℕ) (need : ℕ) (kind one other : ℕ → Type 0) (old between new : List Candidate) (least : ℕ) (first second : Arm)
+    → ((inner : ℕ) → kind inner → one inner ⊎ other inner) → Sifts fixes allowed middle need one old between least first → Sifts fixes allowed middle need other between new first.most second
+    → Sifts fixes allowed middle need kind old new least second
 sifts-parts fixes allowed middle need kind one other old between new least first second parts before after = record {
   grows = grows-through fixes allowed middle old between new before.grows after.grows;
   top = after.top;
@@ -151,7 +161,9 @@ halves-parts lo middle next hi place is inside = ⊎_elim
     (cases_lt middle place)
 
 -- what is made of a span, its farthest end and the leg to the middle
-pub candidate-made : (fixes : List Fix) (allowed : Ends) (middle : ℕ × ℕ) (candidate : Candidate) (most : ℕ) → candidate.span.hi < length fixes → 0 < candidate.far.value → IsFarthest fixes allowed (ends candidate.span) candidate.far → IsMost (leg fixes) (ends candidate.span) middle most → candidate.most ≡ candidate.far.value + most → most < 1099511627776 → IsCandidate fixes allowed middle candidate
+pub candidate-made : (fixes : List Fix) (allowed : Ends) (middle : ℕ × ℕ) (candidate : Candidate) (most : ℕ) → candidate.span.hi < length fixes → 0 < candidate.far.value
+    → IsFarthest fixes allowed (ends candidate.span) candidate.far → IsMost (leg fixes) (ends candidate.span) middle most → candidate.most ≡ candidate.far.value + most → most < 1099511627776
+    → IsCandidate fixes allowed middle candidate
 candidate-made fixes allowed middle candidate most within some farthest legs is limited = record {
   within = within;
   some_end = some;
@@ -160,7 +172,9 @@ candidate-made fixes allowed middle candidate most within some farthest legs is 
   limited = omega (arith, farthest.limited);
 }
 
-pub exact-made : (fixes : List Fix) (allowed : Ends) (middle : ℕ × ℕ) (candidate : Candidate) (most : ℕ) → (IsPast allowed.side (ends candidate.span) middle → ⊥) → candidate.span.hi + middle.0 ≤ middle.1 + candidate.span.lo → IsMost (leg fixes) (ends candidate.span) middle most → candidate.most ≡ candidate.far.value + most → middle.0 ≡ middle.1 → IsExact fixes allowed middle candidate
+pub exact-made : (fixes : List Fix) (allowed : Ends) (middle : ℕ × ℕ) (candidate : Candidate) (most : ℕ) → (IsPast allowed.side (ends candidate.span) middle → ⊥)
+    → candidate.span.hi + middle.0 ≤ middle.1 + candidate.span.lo → IsMost (leg fixes) (ends candidate.span) middle most → candidate.most ≡ candidate.far.value + most → middle.0 ≡ middle.1
+    → IsExact fixes allowed middle candidate
 exact-made fixes allowed middle candidate most not_past narrow legs is one =
     let single : candidate.span.lo ≡ candidate.span.hi = omega (arith, candidate.span.ordered) in
     record {
@@ -170,7 +184,8 @@ exact-made fixes allowed middle candidate most not_past narrow legs is one =
     }
 
 -- what is among the first candidates is among all but the last of them, or in the last one
-pub among-next : (list : List Candidate) (at from inner : ℕ) (candidate : Candidate) → at < length list → get_or list at candidate ≡ candidate → IsAmong (take (at + 1) list) from inner → IsAmong (take at list) from inner ⊎ IsPlaceOf (ends candidate.span) inner
+pub among-next : (list : List Candidate) (at from inner : ℕ) (candidate : Candidate) → at < length list → get_or list at candidate ≡ candidate → IsAmong (take (at + 1) list) from inner
+    → IsAmong (take at list) from inner ⊎ IsPlaceOf (ends candidate.span) inner
 among-next list at from inner candidate below is among =
     let size = length-take (at + 1) list in
     let found : get_or list among.at among.candidate ≡ among.candidate = sym (get_or-take (at + 1) list among.at among.candidate (omega (arith, among.high))) ∙ among.there in
@@ -198,7 +213,9 @@ one-at candidate d zero below = refl
 one-at candidate d (suc k) below = absurd (omega arith)
 
 -- the whole is the only candidate at the start
-starts-one : (fixes : List Fix) (allowed : Ends) (candidate : Candidate) → candidate.span.lo ≡ 0 → candidate.span.hi + 1 ≡ length fixes → 0 < candidate.far.value → IsFarthest fixes allowed (ends candidate.span) candidate.far → candidate.most ≡ 2199023255552 → Starts fixes allowed (ends candidate.span) (candidate ∷ []) (record { from = 0; to = 1; most = 2199023255552 })
+starts-one : (fixes : List Fix) (allowed : Ends) (candidate : Candidate) → candidate.span.lo ≡ 0 → candidate.span.hi + 1 ≡ length fixes → 0 < candidate.far.value
+    → IsFarthest fixes allowed (ends candidate.span) candidate.far → candidate.most ≡ 2199023255552
+    → Starts fixes allowed (ends candidate.span) (candidate ∷ []) (record { from = 0; to = 1; most = 2199023255552 })
 starts-one fixes allowed candidate first last some farthest most = record {
   is_part = record {
     ordered = omega arith;
@@ -223,13 +240,16 @@ starts-one fixes allowed candidate first last some farthest most = record {
   shorter = λ inner end third is_arm. omega (arith, leg-limited fixes end inner, leg-limited fixes inner third);
 }
 
-pub starts-whole : (fixes : List Fix) (allowed : Ends) (candidate : Candidate) (list : List Candidate) → list ≡ candidate ∷ [] → candidate.span.lo ≡ 0 → candidate.span.hi + 1 ≡ length fixes → 0 < candidate.far.value → IsFarthest fixes allowed (ends candidate.span) candidate.far → candidate.most ≡ 2199023255552 → Starts fixes allowed (ends candidate.span) list (record { from = 0; to = 1; most = 2199023255552 })
+pub starts-whole : (fixes : List Fix) (allowed : Ends) (candidate : Candidate) (list : List Candidate) → list ≡ candidate ∷ [] → candidate.span.lo ≡ 0 → candidate.span.hi + 1 ≡ length fixes
+    → 0 < candidate.far.value → IsFarthest fixes allowed (ends candidate.span) candidate.far → candidate.most ≡ 2199023255552
+    → Starts fixes allowed (ends candidate.span) list (record { from = 0; to = 1; most = 2199023255552 })
 starts-whole fixes allowed candidate list is first last some farthest most =
     subst (λ (l : List Candidate). Starts fixes allowed (ends candidate.span) l (record { from = 0; to = 1; most = 2199023255552 })) (sym is)
     (starts-one fixes allowed candidate first last some farthest most)
 
 -- nothing was gone over yet
-pub sifts-empty : (fixes : List Fix) (allowed : Ends) (middle : ℕ × ℕ) (need : ℕ) (kind : ℕ → Type 0) (list : List Candidate) → 0 < length fixes → ((inner : ℕ) → kind inner → ⊥) → Sifts fixes allowed middle need kind list list 0 (record { most = 0; inner = 0; end = 0 })
+pub sifts-empty : (fixes : List Fix) (allowed : Ends) (middle : ℕ × ℕ) (need : ℕ) (kind : ℕ → Type 0) (list : List Candidate) → 0 < length fixes → ((inner : ℕ) → kind inner → ⊥)
+    → Sifts fixes allowed middle need kind list list 0 (record { most = 0; inner = 0; end = 0 })
 sifts-empty fixes allowed middle need kind list some none = record {
   grows = grows-none fixes allowed middle list;
   top = record { inner_in = some; limited = omega arith; reached = λ one more. absurd (omega arith) };

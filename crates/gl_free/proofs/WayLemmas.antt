@@ -14,7 +14,7 @@ use Rattle.gl_igc.specs.declared.fix.Fix.{Fix}
 use Rattle.gl_box.specs.Cell.{ends}
 use Rattle.gl_hull.specs.Box.{Box, IsInside, fixes_in, hull_of, point_box}
 use Rattle.gl_hull.specs.Chords.{IsGreatestChord}
-use Rattle.gl_hull.specs.Laws.Held.{named}
+use Rattle.gl_hull.proofs.Held.{named, point_box-inside}
 use Rattle.gl_places.specs.declared.by_place.ByPlace.{ByPlace}
 use Rattle.gl_places.specs.ByPlace.{IsByPlace}
 use Rattle.gl_places.proofs.Orders.{hulls_long, numbered_fix, numbers_below, numbers_long, placed}
@@ -24,10 +24,10 @@ use Rattle.gl_free.specs.declared.way.Most.{Most}
 use Rattle.gl_free.specs.declared.way.Target.{Target}
 use Rattle.gl_free.specs.declared.side.Side.{Side}
 use Rattle.gl_free.specs.declared.side.Side.TheVariants.{Before, After}
-use Rattle.gl_free.specs.Ends.{IsPast, Stands}
-use Rattle.gl_free.specs.Places.{chord, leg}
+use Rattle.gl_free.specs.Code.Ends.{IsPast, Stands}
+use Rattle.gl_free.specs.Code.Places.{chord, leg}
 use Rattle.gl_free.proofs.PlaceLemmas.{chord-is, held}
-use Rattle.gl_free.specs.Ways.{AreAtMost, IsBranch, IsKnown, IsTarget, IsThere, IsWay, Lengthens, onward, way_to}
+use Rattle.gl_free.specs.Code.Ways.{AreAtMost, IsBranch, IsKnown, IsTarget, IsThere, IsWay, Lengthens, onward, way_to}
 
 -- the fix with a number has its place in a span, before another place
 pub record IsThereBelow (numbers : List ℕ) (from before number : ℕ) : Type 0 where
@@ -38,7 +38,8 @@ pub record IsThereBelow (numbers : List ℕ) (from before number : ℕ) : Type 0
   pub is : get_or numbers place 0 ≡ number
 
 -- a chord whose root and the second term over a longer one are no more than a length
-pub within-two : (square length second : ℕ) → length < 32000000 → second ≡ length * (length * length) / 8192 / 1189149638671875 → square < (length - second + 1) * (length - second + 1) → written_distance square ≤ length
+pub within-two : (square length second : ℕ) → length < 32000000 → second ≡ length * (length * length) / 8192 / 1189149638671875 → square < (length - second + 1) * (length - second + 1)
+    → written_distance square ≤ length
 unfolding written_distance second_term_of
 within-two square length second short is below =
     let root = floor_root square in
@@ -61,13 +62,16 @@ within-two square length second short is below =
     (cases_lt length second)
 
 -- what has its place in a span has it in one of the halves
-pub there-parts : (numbers : List ℕ) (span low high : ℕ × ℕ) (number : ℕ) → low.0 ≡ span.0 → high.0 ≡ low.1 + 1 → high.1 ≡ span.1 → IsThere numbers span number → IsThere numbers low number ⊎ IsThere numbers high number
+pub there-parts : (numbers : List ℕ) (span low high : ℕ × ℕ) (number : ℕ) → low.0 ≡ span.0 → high.0 ≡ low.1 + 1 → high.1 ≡ span.1 → IsThere numbers span number
+    → IsThere numbers low number ⊎ IsThere numbers high number
 there-parts numbers span low high number first next last there = ⊎_elim
     (λ (above : low.1 < there.place). inr (record { place = there.place; inside = (omega arith, omega (arith, there.inside.1)); within = there.within; is = there.is }))
     (λ (below : there.place ≤ low.1). inl (record { place = there.place; inside = (omega (arith, there.inside.0), below); within = there.within; is = there.is }))
     (cases_lt low.1 there.place)
 
-pub branch-joined : (numbers ways : List ℕ) (low high joined : Branch) → low.span.lo ≡ joined.span.lo → high.span.lo ≡ low.span.hi + 1 → high.span.hi ≡ joined.span.hi → IsBranch numbers ways low → IsBranch numbers ways high → joined.numbers.lo ≤ low.numbers.lo → joined.numbers.lo ≤ high.numbers.lo → low.numbers.hi ≤ joined.numbers.hi → high.numbers.hi ≤ joined.numbers.hi → low.most ≤ joined.most → high.most ≤ joined.most → IsBranch numbers ways joined
+pub branch-joined : (numbers ways : List ℕ) (low high joined : Branch) → low.span.lo ≡ joined.span.lo → high.span.lo ≡ low.span.hi + 1 → high.span.hi ≡ joined.span.hi → IsBranch numbers ways low
+    → IsBranch numbers ways high → joined.numbers.lo ≤ low.numbers.lo → joined.numbers.lo ≤ high.numbers.lo → low.numbers.hi ≤ joined.numbers.hi → high.numbers.hi ≤ joined.numbers.hi
+    → low.most ≤ joined.most → high.most ≤ joined.most → IsBranch numbers ways joined
 branch-joined numbers ways low high joined first next last is_low is_high lo_low lo_high hi_low hi_high most_low most_high number there = ⊎_elim
     (λ (below : IsThere numbers (ends low.span) number).
     let is = is_low number below in
@@ -78,7 +82,8 @@ branch-joined numbers ways low high joined first next last is_low is_high lo_low
     (there-parts numbers (ends joined.span) (ends low.span) (ends high.span) number first next last there)
 
 -- nothing was found, since no way by a fix of the kind is longer
-pub lengthens-none : (fixes : List Fix) (ways : List ℕ) (target : Target) (kind : ℕ → Type 0) (old : Longest) → IsKnown old → ((from : ℕ) → kind from → IsWay ways target from → onward fixes ways target from ≤ old.length) → Lengthens fixes ways target kind old old
+pub lengthens-none : (fixes : List Fix) (ways : List ℕ) (target : Target) (kind : ℕ → Type 0) (old : Longest) → IsKnown old
+    → ((from : ℕ) → kind from → IsWay ways target from → onward fixes ways target from ≤ old.length) → Lengthens fixes ways target kind old old
 lengthens-none fixes ways target kind old known above = record {
   longer = omega arith;
   known = known;
@@ -87,7 +92,8 @@ lengthens-none fixes ways target kind old known above = record {
 }
 
 -- fixes of a kind are gone over in two parts
-pub lengthens-parts : (fixes : List Fix) (ways : List ℕ) (target : Target) (kind one other : ℕ → Type 0) (old between new : Longest) → ((from : ℕ) → kind from → one from ⊎ other from) → Lengthens fixes ways target one old between → Lengthens fixes ways target other between new → Lengthens fixes ways target kind old new
+pub lengthens-parts : (fixes : List Fix) (ways : List ℕ) (target : Target) (kind one other : ℕ → Type 0) (old between new : Longest) → ((from : ℕ) → kind from → one from ⊎ other from)
+    → Lengthens fixes ways target one old between → Lengthens fixes ways target other between new → Lengthens fixes ways target kind old new
 lengthens-parts fixes ways target kind one other old between new parts first second = record {
   longer = omega (arith, first.longer, second.longer);
   known = second.known;
@@ -99,14 +105,17 @@ lengthens-parts fixes ways target kind one other old between new parts first sec
 }
 
 -- no way by a fix of a span is longer than what is more than all of them
-pub beaten-above : (fixes : List Fix) (numbers ways : List ℕ) (target : Target) (span : ℕ × ℕ) (most : Most) (longest : ℕ) → AreAtMost fixes numbers ways target span most → (0 < most.way → most.way + written_distance most.chord ≤ longest) → (from : ℕ) → IsThere numbers span from → IsWay ways target from → onward fixes ways target from ≤ longest
+pub beaten-above : (fixes : List Fix) (numbers ways : List ℕ) (target : Target) (span : ℕ × ℕ) (most : Most) (longest : ℕ) → AreAtMost fixes numbers ways target span most
+    → (0 < most.way → most.way + written_distance most.chord ≤ longest) → (from : ℕ) → IsThere numbers span from → IsWay ways target from → onward fixes ways target from ≤ longest
 unfolding leg
 beaten-above fixes numbers ways target span most longest at_most beaten from there way =
     let is = at_most from there way in
     omega (arith, is.0, way.some, beaten (omega (arith, is.0, way.some)), written_distance-mono (chord fixes from target.number) most.chord is.1)
 
 -- the way by a fix is taken
-pub lengthens-taken : (fixes : List Fix) (ways : List ℕ) (target : Target) (from way square far : ℕ) (old new : Longest) → from < length ways → 0 < way → way ≡ way_to ways from → Stands target.side from target.number → square ≡ chord fixes from target.number → far ≡ written_distance square → old.length ≤ way + far → new.length ≡ way + far → new.from ≡ from → new.way ≡ way → new.chord ≡ square → Lengthens fixes ways target (λ number. number ≡ from) old new
+pub lengthens-taken : (fixes : List Fix) (ways : List ℕ) (target : Target) (from way square far : ℕ) (old new : Longest) → from < length ways → 0 < way → way ≡ way_to ways from
+    → Stands target.side from target.number → square ≡ chord fixes from target.number → far ≡ written_distance square → old.length ≤ way + far → new.length ≡ way + far → new.from ≡ from
+    → new.way ≡ way → new.chord ≡ square → Lengthens fixes ways target (λ number. number ≡ from) old new
 unfolding leg
 lengthens-taken fixes ways target from way square far old new within some way_is stands square_is far_is order length_is from_is new_way new_square =
     let leg_is : far ≡ leg fixes from target.number = far_is ∙ ap written_distance square_is in
@@ -123,7 +132,8 @@ lengthens-taken fixes ways target from way square far old new within some way_is
     }
 
 -- the way by a fix is no longer than what was found
-pub lengthens-beaten : (fixes : List Fix) (ways : List ℕ) (target : Target) (from way square : ℕ) (old : Longest) → IsKnown old → way ≡ way_to ways from → square ≡ chord fixes from target.number → (0 < way → way + written_distance square ≤ old.length) → Lengthens fixes ways target (λ number. number ≡ from) old old
+pub lengthens-beaten : (fixes : List Fix) (ways : List ℕ) (target : Target) (from way square : ℕ) (old : Longest) → IsKnown old → way ≡ way_to ways from → square ≡ chord fixes from target.number
+    → (0 < way → way + written_distance square ≤ old.length) → Lengthens fixes ways target (λ number. number ≡ from) old old
 unfolding leg
 lengthens-beaten fixes ways target from way square old known way_is square_is beaten = lengthens-none fixes ways target (λ number. number ≡ from) old known
     (λ number is is_way.
@@ -131,7 +141,8 @@ lengthens-beaten fixes ways target from way square old known way_is square_is be
     let leg_is : written_distance square ≡ leg fixes from target.number = ap written_distance square_is in
     subst (λ (n : ℕ). onward fixes ways target n ≤ old.length) (sym is) (omega (arith, beaten some, leg_is, way_is)))
 
-pub lengthens-kind : (fixes : List Fix) (ways : List ℕ) (target : Target) (kind one : ℕ → Type 0) (old new : Longest) → ((from : ℕ) → kind from → one from) → Lengthens fixes ways target one old new → Lengthens fixes ways target kind old new
+pub lengthens-kind : (fixes : List Fix) (ways : List ℕ) (target : Target) (kind one : ℕ → Type 0) (old new : Longest) → ((from : ℕ) → kind from → one from) → Lengthens fixes ways target one old new
+    → Lengthens fixes ways target kind old new
 lengthens-kind fixes ways target kind one old new each is = record {
   longer = is.longer;
   known = is.known;
@@ -150,27 +161,24 @@ pub past-none : (side : Side) (span of_ : ℕ × ℕ) (from to : ℕ) → span.0
 past-none Before span of_ from to lo hi first last past stands = omega (arith, past, stands)
 past-none After span of_ from to lo hi first last past stands = omega (arith, past, stands)
 
-inside-itself : (point : Vec3) → IsInside (point_box point) point
-inside-itself point = record {
-  x = (omega (arith, ints), omega (arith, ints));
-  y = (omega (arith, ints), omega (arith, ints));
-  z = (omega (arith, ints), omega (arith, ints));
-}
-
 -- no chord from a fix of a span of the order by place is greater than that of its hull
-pub chord-by_place : (fixes : List Fix) (by_place : ByPlace) (span : ℕ × ℕ) (from : ℕ) (target : Target) (one other : Box) (most : ℕ) → IsByPlace fixes by_place → span.1 < length fixes → from < length fixes → IsThere by_place.numbers.items span from → IsTarget fixes target → one ≡ hull_of (fixes_in by_place.hulls span) → other ≡ point_box target.at → IsGreatestChord one other most → chord fixes from target.number ≤ most
+pub chord-by_place : (fixes : List Fix) (by_place : ByPlace) (span : ℕ × ℕ) (from : ℕ) (target : Target) (one other : Box) (most : ℕ) → IsByPlace fixes by_place → span.1 < length fixes
+    → from < length fixes → IsThere by_place.numbers.items span from → IsTarget fixes target → one ≡ hull_of (fixes_in by_place.hulls span) → other ≡ point_box target.at
+    → IsGreatestChord one other most → chord fixes from target.number ≤ most
 chord-by_place fixes by_place span from target one other most is within below there is_target one_is other_is greatest =
     let f = named fixes from below in
     let long = hulls_long fixes by_place is in
     let at : slice_get by_place.hulls there.place ≡ Some f.0 = numbered_fix fixes by_place is there.place f.0 (omega (arith, long, there.inside.1, within)) (ap (slice_get fixes) there.is ∙ f.1) in
     let inside : IsInside one f.0.at = subst (λ (box : Box). IsInside box f.0.at) (sym one_is) (held by_place.hulls span there.place f.0 there.inside (omega (arith, long, within)) at).inside in
-    let here : IsInside other target.at = subst (λ (box : Box). IsInside box target.at) (sym other_is) (inside-itself target.at) in
+    let here : IsInside other target.at = subst (λ (box : Box). IsInside box target.at) (sym other_is) (point_box-inside target.at) in
     let less = greatest.greatest f.0.at target.at inside here in
-    let same : chord fixes from target.number ≡ squared_chord f.0.at target.at = chord-is fixes from target.number f.0 is_target.fix f.1 is_target.there ∙ ap (squared_chord f.0.at) (sym is_target.at) in
+    let same : chord fixes from target.number ≡ squared_chord f.0.at target.at = chord-is fixes from target.number f.0 is_target.fix f.1 is_target.there
+    ∙ ap (squared_chord f.0.at) (sym is_target.at) in
     omega (arith, less, same)
 
 -- each fix has its place in the span of all
-pub all-there : (fixes : List Fix) (by_place : ByPlace) (span : ℕ × ℕ) (from : ℕ) → IsByPlace fixes by_place → span.0 ≡ 0 → span.1 + 1 ≡ length fixes → from < length fixes → IsThere by_place.numbers.items span from
+pub all-there : (fixes : List Fix) (by_place : ByPlace) (span : ℕ × ℕ) (from : ℕ) → IsByPlace fixes by_place → span.0 ≡ 0 → span.1 + 1 ≡ length fixes → from < length fixes
+    → IsThere by_place.numbers.items span from
 all-there fixes by_place span from is first last below =
     let at = placed fixes by_place is from below in
     record {
@@ -191,7 +199,9 @@ below-none numbers from number there = omega (arith, there.low, there.high)
 pub scan-init : (fixes : List Fix) (ways numbers : List ℕ) (target : Target) (from : ℕ) (old : Longest) → IsKnown old → Lengthens fixes ways target (IsThereBelow numbers from from) old old
 scan-init fixes ways numbers target from old known = lengthens-none fixes ways target (IsThereBelow numbers from from) old known (λ number there way. absurd (below-none numbers from number there))
 
-pub scan-next : (fixes : List Fix) (ways numbers : List ℕ) (target : Target) (from at number : ℕ) (old between new : Longest) → get_or numbers at 0 ≡ number → Lengthens fixes ways target (IsThereBelow numbers from at) old between → Lengthens fixes ways target (λ other. other ≡ number) between new → Lengthens fixes ways target (IsThereBelow numbers from (at + 1)) old new
+pub scan-next : (fixes : List Fix) (ways numbers : List ℕ) (target : Target) (from at number : ℕ) (old between new : Longest) → get_or numbers at 0 ≡ number
+    → Lengthens fixes ways target (IsThereBelow numbers from at) old between → Lengthens fixes ways target (λ other. other ≡ number) between new
+    → Lengthens fixes ways target (IsThereBelow numbers from (at + 1)) old new
 scan-next fixes ways numbers target from at number old between new is first second =
     lengthens-parts fixes ways target (IsThereBelow numbers from (at + 1)) (IsThereBelow numbers from at) (λ other. other ≡ number) old between new
     (λ other there. ⊎_elim
@@ -202,18 +212,22 @@ scan-next fixes ways numbers target from at number old between new is first seco
     (cases_lt there.place at))
     first second
 
-pub scan-all : (fixes : List Fix) (ways numbers : List ℕ) (target : Target) (span : ℕ × ℕ) (next : ℕ) (old new : Longest) → next ≡ span.1 + 1 → Lengthens fixes ways target (IsThereBelow numbers span.0 next) old new → Lengthens fixes ways target (IsThere numbers span) old new
+pub scan-all : (fixes : List Fix) (ways numbers : List ℕ) (target : Target) (span : ℕ × ℕ) (next : ℕ) (old new : Longest) → next ≡ span.1 + 1
+    → Lengthens fixes ways target (IsThereBelow numbers span.0 next) old new → Lengthens fixes ways target (IsThere numbers span) old new
 scan-all fixes ways numbers target span next old new is =
     lengthens-kind fixes ways target (IsThere numbers span) (IsThereBelow numbers span.0 next) old new
     (λ number there. record { place = there.place; low = there.inside.0; high = omega (arith, there.inside.1); within = there.within; is = there.is })
 
 -- what is said of a branch of which nothing is known
-pub branch-unknown : (fixes : List Fix) (by_place : ByPlace) (ways : List ℕ) (branch : Branch) → IsByPlace fixes by_place → length fixes ≤ 90000 → length ways ≡ length fixes → All (λ way. way ≤ 1099511627776) ways → branch.numbers.lo ≡ 0 → branch.numbers.hi ≡ 90000 → branch.most ≡ 1099511627776 → IsBranch by_place.numbers.items ways branch
+pub branch-unknown : (fixes : List Fix) (by_place : ByPlace) (ways : List ℕ) (branch : Branch) → IsByPlace fixes by_place → length fixes ≤ 90000 → length ways ≡ length fixes
+    → All (λ way. way ≤ 1099511627776) ways → branch.numbers.lo ≡ 0 → branch.numbers.hi ≡ 90000 → branch.most ≡ 1099511627776 → IsBranch by_place.numbers.items ways branch
 branch-unknown fixes by_place ways branch is few long limited lo hi most number there =
     let below : number < length fixes = subst (λ (n : ℕ). n < length fixes) there.is (numbers_below fixes by_place is there.place 0 there.within) in
     (omega arith, omega (arith, below), omega (arith, limited number 0 (omega (arith, below))))
 
-pub branches-unknown : (fixes : List Fix) (by_place : ByPlace) (ways : List ℕ) (branch : Branch) (count : ℕ) (branches : List Branch) → IsByPlace fixes by_place → length fixes ≤ 90000 → length ways ≡ length fixes → All (λ way. way ≤ 1099511627776) ways → branch.numbers.lo ≡ 0 → branch.numbers.hi ≡ 90000 → branch.most ≡ 1099511627776 → branches ≡ replicate count branch → All (IsBranch by_place.numbers.items ways) branches
+pub branches-unknown : (fixes : List Fix) (by_place : ByPlace) (ways : List ℕ) (branch : Branch) (count : ℕ) (branches : List Branch) → IsByPlace fixes by_place → length fixes ≤ 90000
+    → length ways ≡ length fixes → All (λ way. way ≤ 1099511627776) ways → branch.numbers.lo ≡ 0 → branch.numbers.hi ≡ 90000 → branch.most ≡ 1099511627776 → branches ≡ replicate count branch
+    → All (IsBranch by_place.numbers.items ways) branches
 branches-unknown fixes by_place ways branch count branches is few long limited lo hi most all =
     subst (λ (bs : List Branch). All (IsBranch by_place.numbers.items ways) bs) (sym all)
     (All-replicate (IsBranch by_place.numbers.items ways) count branch (branch-unknown fixes by_place ways branch is few long limited lo hi most))

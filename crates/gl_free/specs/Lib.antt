@@ -1,15 +1,4 @@
-pub mod Arms
-pub mod Candidates
-pub mod Choices
-pub mod Ends
-pub mod Farthest
-pub mod Halves
-pub mod Places
-pub mod Ranges
-pub mod Reach
-pub mod Search
-pub mod Stops
-pub mod Ways
+pub mod Code
 pub use Rattle.gl_box.specs.Cell
 pub use Rattle.gl_box.specs.Tuple
 pub use Rattle.gl_hull.specs.Near

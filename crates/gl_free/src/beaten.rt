@@ -1,7 +1,7 @@
 ghost use Rattle.std.specs.Prelude.{◌+◌, ◌<◌, ◌≤◌, IsTrue};
 ghost use Rattle.std.specs.Bool.{OnFalse};
 ghost use Rattle.gl_sphere.specs.Distance.{written_distance};
-ghost use Rattle.gl_free.specs.Ways.{IsKnown};
+ghost use Rattle.gl_free.specs.Code.Ways.{IsKnown};
 
 use crate::way::{Longest, Most};
 use gl_sphere::dist;

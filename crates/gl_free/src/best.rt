@@ -1,9 +1,9 @@
 ghost use Rattle.std.specs.Prelude.{◌<◌, ◌≤◌, ℕ, length, IfOk, Some};
 ghost use Rattle.gl_box.specs.Tuple.{places_of};
 ghost use Rattle.gl_goal.specs.FreeGoal.{rule_of};
-ghost use Rattle.gl_goal.specs.Rule.{IsOptimum, IsReached};
-ghost use Rattle.gl_free.specs.Places.{altitude_at};
-ghost use Rattle.gl_free.specs.Ranges.{IsIn};
+ghost use Rattle.gl_goal.specs.Goal.{IsOptimum, IsReached};
+ghost use Rattle.gl_free.specs.Code.Places.{altitude_at};
+ghost use Rattle.gl_free.specs.Code.Ranges.{IsIn};
 
 use crate::altitudes::Altitudes;
 use crate::flank::Flank;

@@ -1,10 +1,10 @@
 ghost use Rattle.std.specs.Prelude.{◌≡◌, ◌↔◌, ◌+◌, ◌≤◌, IsTrue, length, MatchOption};
 ghost use Rattle.gl_box.specs.Tuple.{places_of};
 ghost use Rattle.gl_goal.specs.FreeGoal.{rule_of};
-ghost use Rattle.gl_goal.specs.Rule.{IsLegal, IsTuple, value};
-ghost use Rattle.gl_free.specs.Arms.{arm_length};
-ghost use Rattle.gl_free.specs.Choices.{AreInOrder, IsLow};
-ghost use Rattle.gl_free.specs.Search.{IsValid};
+ghost use Rattle.gl_goal.specs.Goal.{IsLegal, IsTuple, value};
+ghost use Rattle.gl_free.specs.Code.Arms.{arm_length};
+ghost use Rattle.gl_free.specs.Code.Choices.{AreInOrder, IsLow};
+ghost use Rattle.gl_free.specs.Code.Search.{IsValid};
 
 use crate::arm::Arms;
 use crate::pair::Pair;

@@ -1,8 +1,8 @@
 ghost use Rattle.std.specs.Prelude.{◌≡◌, ◌+◌, ◌*◌, ◌<◌, ◌≤◌, IsTrue, length};
 ghost use Rattle.gl_box.specs.Cell.{ends};
-ghost use Rattle.gl_free.specs.Farthest.{IsFarthest, IsNode, IsReachedBy};
-ghost use Rattle.gl_free.specs.Places.{chord};
-ghost use Rattle.gl_free.specs.Reach.{IsReach, Raises};
+ghost use Rattle.gl_free.specs.Code.Farthest.{IsFarthest, IsNode, IsReachedBy};
+ghost use Rattle.gl_free.specs.Code.Places.{chord};
+ghost use Rattle.gl_free.specs.Code.Reach.{IsReach, Raises};
 
 use crate::ends::Ends;
 use crate::node::{Node, halves};

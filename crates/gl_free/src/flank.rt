@@ -2,9 +2,9 @@ ghost use Rattle.std.specs.Prelude.{◌≡◌, ◌+◌, ◌*◌, ◌<◌, ◌≤
 ghost use Rattle.gl_box.specs.Cell.{ends};
 ghost use Rattle.gl_igc.specs.declared.fix.Fix.{Fix};
 ghost use Rattle.gl_hull.specs.Near.{IsPlaceOf};
-ghost use Rattle.gl_free.specs.Arms.{IsTop};
-ghost use Rattle.gl_free.specs.Candidates.{IsAmong, IsCandidate, IsFlank, IsPart, Sifts, Starts};
-ghost use Rattle.gl_free.specs.Farthest.{IsBeyond, IsFarthest, IsNode};
+ghost use Rattle.gl_free.specs.Code.Arms.{IsTop};
+ghost use Rattle.gl_free.specs.Code.Candidates.{IsAmong, IsCandidate, IsFlank, IsPart, Sifts, Starts};
+ghost use Rattle.gl_free.specs.Code.Farthest.{IsBeyond, IsFarthest, IsNode};
 
 use crate::arm::{Arm, Part};
 use crate::candidate::{Candidate, Inner};

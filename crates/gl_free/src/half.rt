@@ -1,8 +1,8 @@
 ghost use Rattle.std.specs.Prelude.{◌≡◌, ℕ, ◌+◌, ◌<◌, ◌≤◌, ◌≤ℤ◌, ◌^◌, All, IfOk, length};
 ghost use Rattle.gl_places.specs.ByPlace.{IsByPlace};
-ghost use Rattle.gl_free.specs.Arms.{IsArm, arm_length};
-ghost use Rattle.gl_free.specs.Halves.{AreEnds, AreFarthest, AreWaysBy, IsHalf, IsLongestArm};
-ghost use Rattle.gl_free.specs.Ways.{IsTarget, IsTree};
+ghost use Rattle.gl_free.specs.Code.Arms.{IsArm, arm_length};
+ghost use Rattle.gl_free.specs.Code.Halves.{AreEnds, AreFarthest, AreWaysBy, IsHalf, IsLongestArm};
+ghost use Rattle.gl_free.specs.Code.Ways.{IsTarget, IsTree};
 
 use crate::arm::Arm;
 use crate::ends::Ends;
@@ -133,7 +133,8 @@ impl Half {
         })
     }
 
-    /// The longest arm to a middle fix, if it is longer than the floor. `guess` may be the number of
+    /// The longest arm to a middle fix, if it is longer than the floor. `guess` may be the number
+    /// of
     /// its inner fix.
     pub(crate) fn arm(
         &self,

@@ -1,7 +1,7 @@
 ghost use Rattle.std.specs.Prelude.{◌≡◌, ◌-◌, ◌<◌, ◌≤◌, ◌^◌, IfOk, MatchOption, OnOk, length};
 ghost use Rattle.gl_goal.specs.FreeGoal.{rule_of};
-ghost use Rattle.gl_free.specs.Halves.{AreAmong, AreHalves, AreLongest};
-ghost use Rattle.gl_free.specs.Search.{AreSides, IsBetter, IsOver, IsValid};
+ghost use Rattle.gl_free.specs.Code.Halves.{AreAmong, AreHalves, AreLongest};
+ghost use Rattle.gl_free.specs.Code.Search.{AreSides, IsBetter, IsOver, IsValid};
 
 use crate::arm::{Arm, Arms};
 use crate::choice::choose;
@@ -56,7 +56,8 @@ impl Halves {
         Some(Arms { before, after })
     }
 
-    /// Chooses the longest arms to a middle fix, if that is better than what was found. Answers ends
+    /// Chooses the longest arms to a middle fix, if that is better than what was found. Answers
+    /// ends
     /// of which the last is too low.
     fn choose_at(
         &self,

@@ -1,7 +1,7 @@
 ghost use Rattle.std.specs.Prelude.{◌≡◌, ◌↔◌, ◌+◌, ◌<◌, ◌≤◌, ◌^◌, IsTrue, length};
 ghost use Rattle.gl_box.specs.Cell.{ends};
-ghost use Rattle.gl_free.specs.Farthest.{IsNode};
-ghost use Rattle.gl_free.specs.Places.{IsMost, chord, leg};
+ghost use Rattle.gl_free.specs.Code.Farthest.{IsNode};
+ghost use Rattle.gl_free.specs.Code.Places.{IsMost, chord, leg};
 
 use gl_box::Span;
 use gl_hull::{Hull, Hulls, max_sq};

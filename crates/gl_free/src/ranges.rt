@@ -1,8 +1,8 @@
 ghost use Rattle.std.specs.Prelude.{◌≡◌, ◌+◌, ◌<◌, ◌≤◌, [], ◌∷◌, ◌++◌, pos, neg_ℤ, ◌+ℤ◌, ◌-ℤ◌, ◌<ℤ◌, ◌≤ℤ◌, length, sum_by, OnOk};
 ghost use Rattle.gl_goal.specs.FreeGoal.{rule_of};
-ghost use Rattle.gl_free.specs.Places.{altitude_at};
-ghost use Rattle.gl_free.specs.Ranges.{AreLeft, IsSplit, turns_of};
-ghost use Rattle.gl_free.specs.Search.{AreFlanks, IsValid};
+ghost use Rattle.gl_free.specs.Code.Places.{altitude_at};
+ghost use Rattle.gl_free.specs.Code.Ranges.{AreLeft, IsSplit, turns_of};
+ghost use Rattle.gl_free.specs.Code.Search.{AreFlanks, IsValid};
 
 use crate::altitudes::Altitudes;
 use crate::pair::Pair;

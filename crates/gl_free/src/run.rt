@@ -1,8 +1,8 @@
 ghost use Rattle.std.specs.Prelude.{◌≡◌, ◌<◌, ◌≤◌, pos, ◌-ℤ◌, ◌≤ℤ◌, length, IfOk, OnOk};
 ghost use Rattle.std.specs.Int.{int_min};
 ghost use Rattle.gl_goal.specs.FreeGoal.{rule_of};
-ghost use Rattle.gl_free.specs.Ranges.{IsRun};
-ghost use Rattle.gl_free.specs.Search.{AreFlanks, AreSides, IsValid};
+ghost use Rattle.gl_free.specs.Code.Ranges.{IsRun};
+ghost use Rattle.gl_free.specs.Code.Search.{AreFlanks, AreSides, IsValid};
 
 use crate::altitudes::Altitudes;
 use crate::ends::{Ends, Sides};

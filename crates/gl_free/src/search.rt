@@ -1,10 +1,10 @@
 ghost use Rattle.std.specs.Prelude.{◌≡◌, ◌+◌, ◌<◌, ◌≤◌, ◌^◌, length, take, IfOk, OnOk, MatchOption};
 ghost use Rattle.gl_box.specs.Cell.{ends};
 ghost use Rattle.gl_goal.specs.FreeGoal.{rule_of};
-ghost use Rattle.gl_free.specs.Arms.{IsTop};
-ghost use Rattle.gl_free.specs.Candidates.{IsPart};
-ghost use Rattle.gl_free.specs.Farthest.{IsNode};
-ghost use Rattle.gl_free.specs.Search.{AreBelow, AreFlanks, AreFound, AreSides, AreHalvesOf, IsBetter, IsHalted, IsNarrowed, IsValid, Keeps};
+ghost use Rattle.gl_free.specs.Code.Arms.{IsTop};
+ghost use Rattle.gl_free.specs.Code.Candidates.{IsPart};
+ghost use Rattle.gl_free.specs.Code.Farthest.{IsNode};
+ghost use Rattle.gl_free.specs.Code.Search.{AreBelow, AreFlanks, AreFound, AreSides, AreHalvesOf, IsBetter, IsHalted, IsNarrowed, IsValid, Keeps};
 
 use crate::arm::{Arms, Part};
 use crate::choice::choose;

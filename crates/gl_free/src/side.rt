@@ -1,6 +1,6 @@
 ghost use Rattle.std.specs.Prelude.{◌↔◌, IsTrue};
 ghost use Rattle.gl_box.specs.Cell.{ends};
-ghost use Rattle.gl_free.specs.Ends.{IsInside, IsPast};
+ghost use Rattle.gl_free.specs.Code.Ends.{IsInside, IsPast};
 
 use gl_box::Span;
 

@@ -1,5 +1,5 @@
 ghost use Rattle.std.specs.Prelude.{◌≡◌, ◌↔◌, IsTrue};
-ghost use Rattle.gl_free.specs.Stops.{stop_after};
+ghost use Rattle.gl_free.specs.Code.Search.{stop_after};
 
 use crate::pair::Pair;
 

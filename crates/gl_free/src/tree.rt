@@ -1,7 +1,7 @@
 ghost use Rattle.std.specs.Prelude.{◌≡◌, ℕ, ◌+◌, ◌*◌, ◌<◌, ◌≤◌, ◌^◌, All, IfOk, length, vec_len};
 ghost use Rattle.gl_box.specs.Cell.{ends};
 ghost use Rattle.gl_places.specs.ByPlace.{IsByPlace};
-ghost use Rattle.gl_free.specs.Ways.{AreAtMost, IsBranch, IsFound, IsKnown, IsTarget, IsThere, IsTree, IsWay, Lengthens, onward, way_to};
+ghost use Rattle.gl_free.specs.Code.Ways.{AreAtMost, IsBranch, IsFound, IsKnown, IsTarget, IsThere, IsTree, IsWay, Lengthens, onward, way_to};
 
 use crate::beaten::is_beaten;
 use crate::branch::Branch;

@@ -1,6 +1,6 @@
 ghost use Rattle.std.specs.Prelude.{◌<◌, IfOk};
 ghost use Rattle.gl_goal.specs.FreeGoal.{rule_of};
-ghost use Rattle.gl_free.specs.Search.{IsValid};
+ghost use Rattle.gl_free.specs.Code.Search.{IsValid};
 
 use crate::choice::{keep, tuple_of};
 use crate::stages::{MOST_PLACES, Stages, Way};

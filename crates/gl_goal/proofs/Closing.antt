@@ -10,11 +10,12 @@ use Rattle.gl_sphere.specs.declared.place.Vec3.{Vec3}
 use Rattle.gl_sphere.specs.Distance.{arc_over, floor_root, fourth_term_of, second_term_of, squared_chord, squared_gap, third_term_of, written_distance}
 use Rattle.gl_igc.specs.declared.fix.Fix.{Fix}
 use Rattle.gl_hull.specs.Box.{Box, IsInside, fixes_in, hull_of}
-use Rattle.gl_hull.specs.Laws.Held.{hull_of-holds, named}
+use Rattle.gl_hull.proofs.Held.{hull_of-holds, named}
 use Rattle.gl_hull.specs.Near.{IsLastNear, IsLastNearBox, IsNear, IsNearBox, IsNoneNear, IsNoneNearBox}
 use Rattle.gl_goal.specs.Chain.{distance}
-use Rattle.gl_goal.specs.Reach.{Closes, IsNoneBehind, IsReach}
-use Rattle.gl_goal.specs.Laws.Reach.{Closes-mono}
+use Rattle.gl_goal.specs.Reach.{Closes, IsReach}
+use Rattle.gl_goal.specs.Code.Round.{IsNoneBehind}
+use Rattle.gl_goal.proofs.Reaches.{Closes-mono}
 
 squared_gap-self : (a : ℤ) → squared_gap a a ≡ 0
 unfolding squared_gap
@@ -80,7 +81,8 @@ least-before fixes closing place reach least within is least_is = record {
       omega (arith, is.greatest c sooner);
 }
 
-pub least-reach : (fixes : List Fix) (closing place least : ℕ) (before : Option ℕ) → place < length fixes → MatchOption before (place ≡ 0) (IsReach fixes closing (place - 1)) → least ≡ max (unwrap_or before 0) place → IsLeastReach fixes closing place least
+pub least-reach : (fixes : List Fix) (closing place least : ℕ) (before : Option ℕ) → place < length fixes → MatchOption before (place ≡ 0) (IsReach fixes closing (place - 1))
+    → least ≡ max (unwrap_or before 0) place → IsLeastReach fixes closing place least
 least-reach fixes closing place least None within first least_is = record {
   own = omega arith;
   within = omega arith;
@@ -91,19 +93,22 @@ least-reach fixes closing place least (Some reach) within is least_is =
     least-before fixes closing place reach least within is least_is
 
 -- what closes beyond the least reach is near the fix at the place itself
-own-near : (fixes : List Fix) (closing place least c : ℕ) (fix : Fix) → slice_get fixes place ≡ Some fix → IsLeastReach fixes closing place least → least < c → (found : Closes fixes closing place c) → IsNear fixes fix.at closing found.to
+own-near : (fixes : List Fix) (closing place least c : ℕ) (fix : Fix) → slice_get fixes place ≡ Some fix → IsLeastReach fixes closing place least → least < c → (found : Closes fixes closing place c)
+    → IsNear fixes fix.at closing found.to
 own-near fixes closing place least c fix there is beyond found =
     let at_place : found.from ≡ place =
     ⊎_elim
     (λ (before : found.from < place). absurd (omega (arith, is.earlier c found before)))
     (λ (after : place ≤ found.from). omega (arith, found.from_in))
     (cases_lt found.from place) in
-    let same : found.start ≡ fix = sym (get_or_from_slice_get fixes found.from found.start fix found.start_is) ∙ ap (λ n. get_or fixes n fix) at_place ∙ get_or_from_slice_get fixes place fix fix there in
+    let same : found.start ≡ fix = sym (get_or_from_slice_get fixes found.from found.start fix found.start_is) ∙ ap (λ n. get_or fixes n fix) at_place
+    ∙ get_or_from_slice_get fixes place fix fix there in
     let P : Fix → Type 0 = λ f. distance f.at found.finish.at ≤ closing in
     record { fix = found.finish; there = found.finish_is; near = subst P same found.near }
 
 -- where no fix behind an end is near, and none up to it, there is no farther reach
-reach-none : (fixes : List Fix) (closing place least end : ℕ) (fix : Fix) → slice_get fixes place ≡ Some fix → IsNoneBehind fixes closing end place → IsLeastReach fixes closing place least → IsNoneNear fixes fix.at closing (least + 1, end) → IsReach fixes closing place least
+reach-none : (fixes : List Fix) (closing place least end : ℕ) (fix : Fix) → slice_get fixes place ≡ Some fix → IsNoneBehind fixes closing end place → IsLeastReach fixes closing place least
+    → IsNoneNear fixes fix.at closing (least + 1, end) → IsReach fixes closing place least
 reach-none fixes closing place least end fix there behind is none = record {
   within = is.within;
   closes = is.closes;
@@ -120,12 +125,14 @@ reach-none fixes closing place least end fix there behind is none = record {
 }
 
 -- nothing is beyond the least reach where the end isn't
-pub reach-least : (fixes : List Fix) (closing place least end : ℕ) → place < length fixes → IsNoneBehind fixes closing end place → end ≤ least → IsLeastReach fixes closing place least → IsReach fixes closing place least
+pub reach-least : (fixes : List Fix) (closing place least end : ℕ) → place < length fixes → IsNoneBehind fixes closing end place → end ≤ least → IsLeastReach fixes closing place least
+    → IsReach fixes closing place least
 reach-least fixes closing place least end within behind short is =
     let fix = named fixes place within in
     reach-none fixes closing place least end fix.0 fix.1 behind is (λ beyond inside near. absurd (omega (arith, short, inside.0, inside.1)))
 
-reach-some : (fixes : List Fix) (closing place least end reach : ℕ) (fix : Fix) → slice_get fixes place ≡ Some fix → end < length fixes → IsNoneBehind fixes closing end place → IsLeastReach fixes closing place least → IsLastNear fixes fix.at closing (least + 1, end) reach → IsReach fixes closing place reach
+reach-some : (fixes : List Fix) (closing place least end reach : ℕ) (fix : Fix) → slice_get fixes place ≡ Some fix → end < length fixes → IsNoneBehind fixes closing end place
+    → IsLeastReach fixes closing place least → IsLastNear fixes fix.at closing (least + 1, end) reach → IsReach fixes closing place reach
 reach-some fixes closing place least end reach fix there within behind is near = record {
   within = omega (arith, near.within.1);
   closes = record {
@@ -151,14 +158,17 @@ reach-some fixes closing place least end reach fix there within behind is near =
       (cases_lt reach c);
 }
 
-pub reach-found : (fixes : List Fix) (closing place least end : ℕ) (fix : Fix) (found : Option ℕ) → slice_get fixes place ≡ Some fix → end < length fixes → IsNoneBehind fixes closing end place → IsLeastReach fixes closing place least → MatchOption found (IsNoneNear fixes fix.at closing (least + 1, end)) (IsLastNear fixes fix.at closing (least + 1, end)) → IsReach fixes closing place (unwrap_or found least)
+pub reach-found : (fixes : List Fix) (closing place least end : ℕ) (fix : Fix) (found : Option ℕ) → slice_get fixes place ≡ Some fix → end < length fixes → IsNoneBehind fixes closing end place
+    → IsLeastReach fixes closing place least → MatchOption found (IsNoneNear fixes fix.at closing (least + 1, end)) (IsLastNear fixes fix.at closing (least + 1, end))
+    → IsReach fixes closing place (unwrap_or found least)
 reach-found fixes closing place least end fix None there within behind is none =
     reach-none fixes closing place least end fix there behind is none
 reach-found fixes closing place least end fix (Some reach) there within behind is near =
     reach-some fixes closing place least end reach fix there within behind is near
 
 -- what is near a fix of a stretch is near the hull of the stretch
-stretch-near : (fixes : List Fix) (closing lo hi place later : ℕ) (box : Box) (fix : Fix) → box ≡ hull_of (fixes_in fixes (lo, hi)) → hi < length fixes → lo ≤ place → place ≤ hi → slice_get fixes place ≡ Some fix → IsNear fixes fix.at closing later → IsNearBox fixes box closing later
+stretch-near : (fixes : List Fix) (closing lo hi place later : ℕ) (box : Box) (fix : Fix) → box ≡ hull_of (fixes_in fixes (lo, hi)) → hi < length fixes → lo ≤ place → place ≤ hi
+    → slice_get fixes place ≡ Some fix → IsNear fixes fix.at closing later → IsNearBox fixes box closing later
 stretch-near fixes closing lo hi place later box fix is within low high there near =
     let held = hull_of-holds fixes (lo, hi) place fix low high within (get_or_from_slice_get fixes place fix fix there) in
     let P : Box → Type 0 = λ b. IsInside b fix.at in
@@ -170,26 +180,32 @@ none_behind-last fixes closing last place is_last fix there later after near =
     absurd (omega (arith, after, slice_get_within fixes later near.fix near.there))
 
 -- behind the last place whose fix is near the hull of a stretch, none is near a fix of the stretch
-pub none_behind-found : (fixes : List Fix) (closing lo hi last : ℕ) (box : Box) (found : Option ℕ) → box ≡ hull_of (fixes_in fixes (lo, hi)) → hi < last → last + 1 ≡ length fixes → MatchOption found (IsNoneNearBox fixes box closing (hi + 1, last)) (IsLastNearBox fixes box closing (hi + 1, last)) → (place : ℕ) → lo ≤ place → place ≤ hi → IsNoneBehind fixes closing (unwrap_or found hi) place
+pub none_behind-found : (fixes : List Fix) (closing lo hi last : ℕ) (box : Box) (found : Option ℕ) → box ≡ hull_of (fixes_in fixes (lo, hi)) → hi < last → last + 1 ≡ length fixes
+    → MatchOption found (IsNoneNearBox fixes box closing (hi + 1, last)) (IsLastNearBox fixes box closing (hi + 1, last)) → (place : ℕ) → lo ≤ place → place ≤ hi
+    → IsNoneBehind fixes closing (unwrap_or found hi) place
 none_behind-found fixes closing lo hi last box None is before is_last none = λ place low high fix there later after near.
-    none later (omega (arith, after), omega (arith, is_last, slice_get_within fixes later near.fix near.there)) (stretch-near fixes closing lo hi place later box fix is (omega arith) low high there near)
+    none later (omega (arith, after), omega (arith, is_last, slice_get_within fixes later near.fix near.there))
+    (stretch-near fixes closing lo hi place later box fix is (omega arith) low high there near)
 none_behind-found fixes closing lo hi last box (Some end) is before is_last found = λ place low high fix there later after near.
     found.last later after (omega (arith, is_last, slice_get_within fixes later near.fix near.there)) (stretch-near fixes closing lo hi place later box fix is (omega arith) low high there near)
 
 -- the place that was found is one of the list
-pub found-within : (fixes : List Fix) (closing hi last : ℕ) (box : Box) (found : Option ℕ) → hi < last → last + 1 ≡ length fixes → MatchOption found (IsNoneNearBox fixes box closing (hi + 1, last)) (IsLastNearBox fixes box closing (hi + 1, last)) → unwrap_or found hi < length fixes
+pub found-within : (fixes : List Fix) (closing hi last : ℕ) (box : Box) (found : Option ℕ) → hi < last → last + 1 ≡ length fixes
+    → MatchOption found (IsNoneNearBox fixes box closing (hi + 1, last)) (IsLastNearBox fixes box closing (hi + 1, last)) → unwrap_or found hi < length fixes
 found-within fixes closing hi last box None before is_last none = omega (arith, before, is_last)
 found-within fixes closing hi last box (Some end) before is_last found =
     omega (arith, found.within.1, is_last)
 
 -- what was known of the places up to the next stretch, under other names
-pub none_behind-same : (fixes : List Fix) (closing place was_next was_end next end : ℕ) → next ≡ was_next → end ≡ was_end → ((k : ℕ) → place ≤ k → k < was_next → IsNoneBehind fixes closing was_end k) → (k : ℕ) → place ≤ k → k < next → IsNoneBehind fixes closing end k
+pub none_behind-same : (fixes : List Fix) (closing place was_next was_end next end : ℕ) → next ≡ was_next → end ≡ was_end → ((k : ℕ) → place ≤ k → k < was_next → IsNoneBehind fixes closing was_end k)
+    → (k : ℕ) → place ≤ k → k < next → IsNoneBehind fixes closing end k
 none_behind-same fixes closing place was_next was_end next end next_is end_is known k low below =
     let P : ℕ → Type 0 = λ n. IsNoneBehind fixes closing n k in
     subst P (sym end_is) (known k low (omega (arith, below)))
 
 -- one more place, and its reach
-pub reaches_more : (fixes : List Fix) (closing place reach : ℕ) (reaches more : List ℕ) → more ≡ reaches ++ reach ∷ [] → length reaches ≡ place → ((k : ℕ) → k < place → IsReach fixes closing k (get_or reaches k 0)) → IsReach fixes closing place reach → (k : ℕ) → k < place + 1 → IsReach fixes closing k (get_or more k 0)
+pub reaches_more : (fixes : List Fix) (closing place reach : ℕ) (reaches more : List ℕ) → more ≡ reaches ++ reach ∷ [] → length reaches ≡ place
+    → ((k : ℕ) → k < place → IsReach fixes closing k (get_or reaches k 0)) → IsReach fixes closing place reach → (k : ℕ) → k < place + 1 → IsReach fixes closing k (get_or more k 0)
 reaches_more fixes closing place reach reaches more pushed sized each is =
     let P : ℕ → Type 0 = λ k. IsReach fixes closing k (get_or more k 0) in
     let there : get_or more place 0 ≡ reach = (λ i. get_or (pushed i) (sym sized i) 0) ∙ get_or-append_seam reaches reach [] 0 in

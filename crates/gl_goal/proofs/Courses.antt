@@ -5,13 +5,13 @@ use Rattle.gl_sphere.specs.declared.place.Vec3.{Vec3}
 use Rattle.gl_igc.specs.declared.fix.Fix.{Fix}
 use Rattle.gl_hull.specs.Box.{Box, point_box}
 use Rattle.gl_box.specs.Cell.{Covers}
-use Rattle.gl_box.specs.Laws.Held.{length-covers}
-use Rattle.gl_goal.specs.Rule.{IsTuple, chosen, whole_cell}
+use Rattle.gl_box.proofs.Held.{length-covers}
+use Rattle.gl_goal.specs.Goal.{IsTuple, chosen, whole_cell}
 use Rattle.gl_goal.specs.Chain.{distance, fixes_at, greatest_distance, greatest_legs, hulls_of, last_of, least_distance, legs, points_of}
 use Rattle.gl_goal.specs.Lists.{AreLists}
 use Rattle.gl_goal.specs.Out.{all_but_last, greatest_way_out, way_out}
-use Rattle.gl_goal.specs.Laws.Chain.{greatest_legs-last, legs-last, length-points}
-use Rattle.gl_goal.specs.Laws.Order.{length-whole}
+use Rattle.gl_goal.specs.Lemmas.Chain.{greatest_legs-last, legs-last, length-points}
+use Rattle.gl_goal.proofs.Order.{length-whole}
 
 pub length-hulls_of : (fixes : List Fix) (lists : List (List ℕ)) (spans : List (ℕ × ℕ)) → length spans ≡ length lists → length (hulls_of fixes lists spans) ≡ length lists
 length-hulls_of fixes [] spans sized = refl
@@ -29,7 +29,9 @@ last-found first (y ∷ z ∷ xs) x is =
     last-found y (z ∷ xs) x (ap (slice_get (y ∷ z ∷ xs)) at ∙ is)
 
 -- the way of an area task: the legs through all fixes and the one to the finish
-pub course-flown : (fixes : List Fix) (lists : List (List ℕ)) (tuple : List ℕ) (start finish : Vec3) (count flown leg : ℕ) (end : Vec3) → AreLists fixes lists → IsTuple lists tuple → count ≡ length lists → flown ≡ legs (start ∷ take count (points_of (fixes_at fixes (chosen lists tuple)))) → end ≡ last_of start (take count (points_of (fixes_at fixes (chosen lists tuple)))) → leg ≡ distance end finish → flown + leg ≡ legs (start ∷ points_of (fixes_at fixes (chosen lists tuple)) ++ finish ∷ [])
+pub course-flown : (fixes : List Fix) (lists : List (List ℕ)) (tuple : List ℕ) (start finish : Vec3) (count flown leg : ℕ) (end : Vec3) → AreLists fixes lists → IsTuple lists tuple
+    → count ≡ length lists → flown ≡ legs (start ∷ take count (points_of (fixes_at fixes (chosen lists tuple)))) → end ≡ last_of start (take count (points_of (fixes_at fixes (chosen lists tuple))))
+    → leg ≡ distance end finish → flown + leg ≡ legs (start ∷ points_of (fixes_at fixes (chosen lists tuple)) ++ finish ∷ [])
 course-flown fixes lists tuple start finish count flown leg end are fits all flown_is end_is leg_is =
     let points = points_of (fixes_at fixes (chosen lists tuple)) in
     let whole = all-taken points count (omega (arith, length-points fixes lists tuple are.named fits)) in
@@ -40,7 +42,10 @@ course-flown fixes lists tuple start finish count flown leg end are fits all flo
       legs-last start points finish,
     )
 
-pub course-bound : (fixes : List Fix) (lists : List (List ℕ)) (spans : List (ℕ × ℕ)) (start finish : Vec3) (count most leg : ℕ) (first last end : Box) → Covers (whole_cell lists) spans → count ≡ length lists → first ≡ point_box start → last ≡ point_box finish → most ≡ greatest_legs (first ∷ take count (hulls_of fixes lists spans)) → end ≡ last_of first (take count (hulls_of fixes lists spans)) → leg ≡ greatest_distance end last → most + leg ≡ greatest_legs (point_box start ∷ hulls_of fixes lists spans ++ point_box finish ∷ [])
+pub course-bound : (fixes : List Fix) (lists : List (List ℕ)) (spans : List (ℕ × ℕ)) (start finish : Vec3) (count most leg : ℕ) (first last end : Box) → Covers (whole_cell lists) spans
+    → count ≡ length lists → first ≡ point_box start → last ≡ point_box finish → most ≡ greatest_legs (first ∷ take count (hulls_of fixes lists spans))
+    → end ≡ last_of first (take count (hulls_of fixes lists spans)) → leg ≡ greatest_distance end last
+    → most + leg ≡ greatest_legs (point_box start ∷ hulls_of fixes lists spans ++ point_box finish ∷ [])
 course-bound fixes lists spans start finish count most leg first last end covers all first_is last_is most_is end_is leg_is =
     let boxes = hulls_of fixes lists spans in
     let sized : length spans ≡ length lists = omega (arith, length-covers (whole_cell lists) spans covers, length-whole lists) in
@@ -55,7 +60,10 @@ course-bound fixes lists spans start finish count most leg first last end covers
     )
 
 -- the way of an outlanding: the legs through all fixes but the last, and what that gains
-pub way_out-flown : (fixes : List Fix) (lists : List (List ℕ)) (tuple : List ℕ) (start target : Vec3) (count flown rest left : ℕ) (end y : Vec3) → AreLists fixes lists → IsTuple lists tuple → count ≡ length lists → flown ≡ legs (start ∷ take (count - 1) (points_of (fixes_at fixes (chosen lists tuple)))) → end ≡ last_of start (take (count - 1) (points_of (fixes_at fixes (chosen lists tuple)))) → slice_get (points_of (fixes_at fixes (chosen lists tuple))) (count - 1) ≡ Some y → rest ≡ distance y target → left ≡ distance end target → flown + (left - rest) ≡ way_out start target (points_of (fixes_at fixes (chosen lists tuple)))
+pub way_out-flown : (fixes : List Fix) (lists : List (List ℕ)) (tuple : List ℕ) (start target : Vec3) (count flown rest left : ℕ) (end y : Vec3) → AreLists fixes lists → IsTuple lists tuple
+    → count ≡ length lists → flown ≡ legs (start ∷ take (count - 1) (points_of (fixes_at fixes (chosen lists tuple))))
+    → end ≡ last_of start (take (count - 1) (points_of (fixes_at fixes (chosen lists tuple)))) → slice_get (points_of (fixes_at fixes (chosen lists tuple))) (count - 1) ≡ Some y
+    → rest ≡ distance y target → left ≡ distance end target → flown + (left - rest) ≡ way_out start target (points_of (fixes_at fixes (chosen lists tuple)))
 way_out-flown fixes lists tuple start target count flown rest left end y are fits all flown_is end_is y_is rest_is left_is =
     let points = points_of (fixes_at fixes (chosen lists tuple)) in
     let sized : count ≡ length points = omega (arith, length-points fixes lists tuple are.named fits) in
@@ -68,7 +76,10 @@ way_out-flown fixes lists tuple start target count flown rest left end y are fit
       rest_is ∙ ap (λ (at : Vec3). distance at target) (sym last),
     )
 
-pub way_out-bound : (fixes : List Fix) (lists : List (List ℕ)) (spans : List (ℕ × ℕ)) (start target : Vec3) (count most rest left : ℕ) (first aim end y : Box) → AreLists fixes lists → Covers (whole_cell lists) spans → count ≡ length lists → first ≡ point_box start → aim ≡ point_box target → most ≡ greatest_legs (first ∷ take (count - 1) (hulls_of fixes lists spans)) → end ≡ last_of first (take (count - 1) (hulls_of fixes lists spans)) → slice_get (hulls_of fixes lists spans) (count - 1) ≡ Some y → rest ≡ least_distance y aim → left ≡ greatest_distance end aim → most + (left - rest) ≡ greatest_way_out (point_box start) (point_box target) (hulls_of fixes lists spans)
+pub way_out-bound : (fixes : List Fix) (lists : List (List ℕ)) (spans : List (ℕ × ℕ)) (start target : Vec3) (count most rest left : ℕ) (first aim end y : Box) → AreLists fixes lists
+    → Covers (whole_cell lists) spans → count ≡ length lists → first ≡ point_box start → aim ≡ point_box target → most ≡ greatest_legs (first ∷ take (count - 1) (hulls_of fixes lists spans))
+    → end ≡ last_of first (take (count - 1) (hulls_of fixes lists spans)) → slice_get (hulls_of fixes lists spans) (count - 1) ≡ Some y → rest ≡ least_distance y aim → left ≡ greatest_distance end aim
+    → most + (left - rest) ≡ greatest_way_out (point_box start) (point_box target) (hulls_of fixes lists spans)
 way_out-bound fixes lists spans start target count most rest left first aim end y are covers all first_is aim_is most_is end_is y_is rest_is left_is =
     let boxes = hulls_of fixes lists spans in
     let lengths : length spans ≡ length lists = omega (arith, length-covers (whole_cell lists) spans covers, length-whole lists) in

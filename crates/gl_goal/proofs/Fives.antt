@@ -4,15 +4,16 @@ use Rattle.std.proofs.lemmas.List.{get_or-take, length-take}
 use Rattle.gl_box.specs.Cell.{Covers, ends, spans_of}
 use Rattle.gl_box.specs.Tuple.{places_of}
 use Rattle.gl_box.specs.Halves.{span_at}
-use Rattle.gl_box.specs.Laws.Held.{covers_at, length-covers}
-use Rattle.gl_box.specs.Laws.Spans.{get_or-places_of, length-places_of, length-spans_of, span_at-spans_of}
+use Rattle.gl_box.proofs.Held.{covers_at, length-covers}
+use Rattle.gl_box.proofs.Spans.{get_or-places_of, length-places_of, length-spans_of, span_at-spans_of}
 use Rattle.gl_box.specs.declared.cell.Cell.{Cell}
 use Rattle.gl_box.specs.declared.span.Span.{Span}
 use Rattle.gl_box.specs.declared.tuple.Tuple.{Tuple}
-use Rattle.gl_goal.specs.Rule.{IsTuple, chosen, fix_at, whole_cell}
+use Rattle.gl_goal.specs.Goal.{IsTuple, chosen, fix_at, whole_cell}
 use Rattle.gl_goal.specs.Free.{five_axes, numbers_between}
-use Rattle.gl_goal.specs.Laws.Free.{get_or-numbers_from, length-numbers_between}
-use Rattle.gl_goal.specs.Laws.Order.{length-whole, length-tuple, span_at-whole}
+use Rattle.gl_goal.specs.Lemmas.Free.{get_or-numbers_from, length-numbers_between}
+use Rattle.gl_goal.proofs.Order.{length-whole, span_at-whole}
+use Rattle.gl_goal.specs.Lemmas.Points.{length-tuple}
 
 pub five_axis : (first last k : ℕ) → k < 5 → get_or (five_axes first last) k [] ≡ numbers_between first last
 five_axis first last zero below = refl
@@ -37,7 +38,8 @@ pub record AreFive (first last : ℕ) (tuple : List ℕ) : Type 0 where
 inside : (first last place : ℕ) → first ≤ last → place < length (numbers_between first last) → place < suc (last - first)
 inside first last place order below = omega (arith, length-numbers_between first last)
 
-five_within : (first last a b c d e : ℕ) → first + a ≤ last → first + b ≤ last → first + c ≤ last → first + d ≤ last → first + e ≤ last → (k : ℕ) → k < 5 → first + get_or (a ∷ b ∷ c ∷ d ∷ e ∷ []) k 0 ≤ last
+five_within : (first last a b c d e : ℕ) → first + a ≤ last → first + b ≤ last → first + c ≤ last → first + d ≤ last → first + e ≤ last → (k : ℕ) → k < 5
+    → first + get_or (a ∷ b ∷ c ∷ d ∷ e ∷ []) k 0 ≤ last
 five_within first last a b c d e ha hb hc hd he zero below = ha
 five_within first last a b c d e ha hb hc hd he (suc zero) below = hb
 five_within first last a b c d e ha hb hc hd he (suc (suc zero)) below = hc
@@ -103,13 +105,16 @@ take-five (p ∷ q ∷ r ∷ s ∷ []) a b c d e long = absurd (omega arith)
 take-five (p ∷ q ∷ r ∷ s ∷ t ∷ xs) a b c d e long = refl
 
 -- the spans of a cell, as the code reads them
-pub five-spans : (first last : ℕ) (cell : Cell) (a b c d e : Span) → Covers (whole_cell (five_axes first last)) (spans_of cell) → spans_of cell ≡ ends (get_or cell.spans 0 a) ∷ ends (get_or cell.spans 1 b) ∷ ends (get_or cell.spans 2 c) ∷ ends (get_or cell.spans 3 d) ∷ ends (get_or cell.spans 4 e) ∷ []
+pub five-spans : (first last : ℕ) (cell : Cell) (a b c d e : Span) → Covers (whole_cell (five_axes first last)) (spans_of cell)
+    → spans_of cell ≡ ends (get_or cell.spans 0 a) ∷ ends (get_or cell.spans 1 b) ∷ ends (get_or cell.spans 2 c) ∷ ends (get_or cell.spans 3 d) ∷ ends (get_or cell.spans 4 e) ∷ []
 five-spans first last cell a b c d e covers =
     ap (λ (n : ℕ). map ends (take n cell.spans)) (five-axes first last cell covers)
     ∙ ap (map ends) (take-five cell.spans a b c d e (omega (arith, cell.ten_spans)))
 
 -- the numbers of the fixes of a tuple, as the code finds them
-pub five-chosen : (first last : ℕ) (tuple : Tuple) → first ≤ last → IsTuple (five_axes first last) (places_of tuple) → chosen (five_axes first last) (places_of tuple) ≡ (first + get_or tuple.places 0 0) ∷ (first + get_or tuple.places 1 0) ∷ (first + get_or tuple.places 2 0) ∷ (first + get_or tuple.places 3 0) ∷ (first + get_or tuple.places 4 0) ∷ []
+pub five-chosen : (first last : ℕ) (tuple : Tuple) → first ≤ last → IsTuple (five_axes first last) (places_of tuple)
+    → chosen (five_axes first last) (places_of tuple) ≡ (first + get_or tuple.places 0 0) ∷ (first + get_or tuple.places 1 0) ∷ (first + get_or tuple.places 2 0) ∷ (first + get_or tuple.places 3 0)
+    ∷ (first + get_or tuple.places 4 0) ∷ []
 five-chosen first last tuple order fits =
     let at : (k : ℕ) → k < 5 → first + get_or (places_of tuple) k 0 ≡ first + get_or tuple.places k 0 = λ k below. ap (λ (n : ℕ). first + n) (five-place first last tuple k fits below) in
     (five_places first last (places_of tuple) order fits).chosen
@@ -128,7 +133,8 @@ All-numbers a b c d e last ha hb hc hd he (suc (suc (suc (suc zero)))) other bel
 All-numbers a b c d e last ha hb hc hd he (suc (suc (suc (suc (suc k))))) other below = absurd (omega arith)
 
 -- a span that the code comes to among the first five
-pub five-item : (first last : ℕ) (cell : Cell) (k : ℕ) (span : Span) → Covers (whole_cell (five_axes first last)) (spans_of cell) → k < 5 → span ≡ get_or (take 5 cell.spans) k span → span_at (spans_of cell) k ≡ ends span
+pub five-item : (first last : ℕ) (cell : Cell) (k : ℕ) (span : Span) → Covers (whole_cell (five_axes first last)) (spans_of cell) → k < 5 → span ≡ get_or (take 5 cell.spans) k span
+    → span_at (spans_of cell) k ≡ ends span
 five-item first last cell k span covers below is =
     five-span_at first last cell k span covers below ∙ ap ends (sym (get_or-take 5 cell.spans k span below) ∙ sym is)
 

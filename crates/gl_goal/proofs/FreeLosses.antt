@@ -9,29 +9,34 @@ use Rattle.gl_box.specs.declared.span.Span.{Span}
 use Rattle.gl_igc.specs.declared.fix.Fix.{Fix}
 use Rattle.gl_hull.specs.Box.{Box, fixes_in, hull_of}
 use Rattle.gl_goal.specs.declared.free.FreeGoal.{FreeGoal}
-use Rattle.gl_goal.specs.Rule.{IsInTimeOrder, IsLegal, IsTuple, chosen, whole_cell}
+use Rattle.gl_goal.specs.Goal.{IsInTimeOrder, IsLegal, IsTuple, chosen, whole_cell}
 use Rattle.gl_goal.specs.Chain.{fixes_at, hulls_of}
 use Rattle.gl_goal.specs.Free.{five_axes, free_goal, least_loss, loss_over, numbers_from}
 use Rattle.gl_goal.specs.FreeGoal.{rule_of}
-use Rattle.gl_goal.specs.Laws.Chain.{named}
+use Rattle.gl_goal.specs.Lemmas.Chain.{named}
 use Rattle.gl_goal.proofs.Fives.{AreFive, five_places}
 use Rattle.gl_goal.proofs.FreeHulls.{hulls_of-five}
 
-fixes_at-five : (fixes : List Fix) (a b c d e : ℕ) (fa fb fc fd fe : Fix) → slice_get fixes a ≡ Some fa → slice_get fixes b ≡ Some fb → slice_get fixes c ≡ Some fc → slice_get fixes d ≡ Some fd → slice_get fixes e ≡ Some fe → fixes_at fixes (a ∷ b ∷ c ∷ d ∷ e ∷ []) ≡ fa ∷ fb ∷ fc ∷ fd ∷ fe ∷ []
+fixes_at-five : (fixes : List Fix) (a b c d e : ℕ) (fa fb fc fd fe : Fix) → slice_get fixes a ≡ Some fa → slice_get fixes b ≡ Some fb → slice_get fixes c ≡ Some fc → slice_get fixes d ≡ Some fd
+    → slice_get fixes e ≡ Some fe → fixes_at fixes (a ∷ b ∷ c ∷ d ∷ e ∷ []) ≡ fa ∷ fb ∷ fc ∷ fd ∷ fe ∷ []
 fixes_at-five fixes a b c d e fa fb fc fd fe ha hb hc hd he =
     λ i. cons_option (ha i) (cons_option (hb i) (cons_option (hc i) (cons_option (hd i) (cons_option (he i) []))))
 
 -- the loss over the fixes of a tuple, by the first and the last of them
-loss-five : (g : FreeGoal) (tuple : List ℕ) (fa fe : Fix) → AreFive g.first g.last tuple → slice_get g.fixes.items (g.first + get_or tuple 0 0) ≡ Some fa → slice_get g.fixes.items (g.first + get_or tuple 4 0) ≡ Some fe → loss_over (fixes_at g.fixes.items (chosen (five_axes g.first g.last) tuple)) ≡ fa.alt -ℤ fe.alt
+loss-five : (g : FreeGoal) (tuple : List ℕ) (fa fe : Fix) → AreFive g.first g.last tuple → slice_get g.fixes.items (g.first + get_or tuple 0 0) ≡ Some fa
+    → slice_get g.fixes.items (g.first + get_or tuple 4 0) ≡ Some fe → loss_over (fixes_at g.fixes.items (chosen (five_axes g.first g.last) tuple)) ≡ fa.alt -ℤ fe.alt
 loss-five g tuple fa fe five ha he =
-    let at : (k : ℕ) → k < 5 → (fix : Fix) × (slice_get g.fixes.items (g.first + get_or tuple k 0) ≡ Some fix) = λ k below. named g.fixes.items (g.first + get_or tuple k 0) (omega (arith, five.within k below, g.within)) in
+    let at : (k : ℕ) → k < 5 → (fix : Fix) × (slice_get g.fixes.items (g.first + get_or tuple k 0) ≡ Some fix) =
+    λ k below. named g.fixes.items (g.first + get_or tuple k 0) (omega (arith, five.within k below, g.within)) in
     let b = at 1 (omega arith) in
     let c = at 2 (omega arith) in
     let d = at 3 (omega arith) in
     ap loss_over (ap (fixes_at g.fixes.items) five.chosen ∙ fixes_at-five g.fixes.items _ _ _ _ _ fa b.0 c.0 d.0 fe ha b.1 c.1 d.1 he)
 
 -- a tuple in time order is legal exactly where the last fix isn't too low
-pub legal-by_loss : (g : FreeGoal) (tuple numbers : List ℕ) (fa fe : Fix) → IsTuple (five_axes g.first g.last) tuple → numbers ≡ chosen (five_axes g.first g.last) tuple → IsInTimeOrder numbers → slice_get g.fixes.items (get_or numbers 0 0) ≡ Some fa → slice_get g.fixes.items (get_or numbers 4 0) ≡ Some fe → (IsTrue (int_le (fa.alt -ℤ fe.alt) g.loss) → IsLegal (rule_of g) tuple) × (IsLegal (rule_of g) tuple → IsTrue (int_le (fa.alt -ℤ fe.alt) g.loss))
+pub legal-by_loss : (g : FreeGoal) (tuple numbers : List ℕ) (fa fe : Fix) → IsTuple (five_axes g.first g.last) tuple → numbers ≡ chosen (five_axes g.first g.last) tuple → IsInTimeOrder numbers
+    → slice_get g.fixes.items (get_or numbers 0 0) ≡ Some fa → slice_get g.fixes.items (get_or numbers 4 0) ≡ Some fe
+    → (IsTrue (int_le (fa.alt -ℤ fe.alt) g.loss) → IsLegal (rule_of g) tuple) × (IsLegal (rule_of g) tuple → IsTrue (int_le (fa.alt -ℤ fe.alt) g.loss))
 unfolding free_goal
 legal-by_loss g tuple numbers fa fe fits is order ha he =
     let five = five_places g.first g.last tuple g.in_order fits in
@@ -45,7 +50,9 @@ legal-by_loss g tuple numbers fa fe fits is order ha he =
     )
 
 -- what a cell's fixes lose at least, by the hulls of its first and its last span
-pub least_loss-five : (g : FreeGoal) (cell : Cell) (a e : Span) (p t : Box) → Covers (whole_cell (five_axes g.first g.last)) (spans_of cell) → p ≡ hull_of (fixes_in g.hulls (ends (get_or cell.spans 0 a))) → t ≡ hull_of (fixes_in g.hulls (ends (get_or cell.spans 4 e))) → least_loss (hulls_of g.fixes.items (five_axes g.first g.last) (spans_of cell)) ≡ p.alt.0 -ℤ t.alt.1
+pub least_loss-five : (g : FreeGoal) (cell : Cell) (a e : Span) (p t : Box) → Covers (whole_cell (five_axes g.first g.last)) (spans_of cell)
+    → p ≡ hull_of (fixes_in g.hulls (ends (get_or cell.spans 0 a))) → t ≡ hull_of (fixes_in g.hulls (ends (get_or cell.spans 4 e)))
+    → least_loss (hulls_of g.fixes.items (five_axes g.first g.last) (spans_of cell)) ≡ p.alt.0 -ℤ t.alt.1
 least_loss-five g cell a e p t covers p_is t_is =
     ap least_loss (sym (hulls_of-five g cell a a a a e p _ _ _ t covers p_is refl refl refl t_is))
 

@@ -2,9 +2,13 @@ mod Courses
 mod FreeSeen
 mod Triangles
 pub mod Closing
+pub mod Existence
 pub mod Fives
 pub mod FreeHulls
 pub mod FreeLosses
 pub mod Listed
+pub mod Optimum
+pub mod Order
+pub mod Reaches
 pub mod Seen
 pub mod Tuples

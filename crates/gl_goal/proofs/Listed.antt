@@ -4,7 +4,7 @@ use Rattle.std.specs.Prelude.{All}
 use Rattle.std.specs.Arc.{arc_value}
 use Rattle.std.specs.List.Sorted.{IsStrictlyIncreasing}
 use Rattle.std.proofs.lemmas.List.{drop_more, get_or-map, length-append, length-map, map-append, take_more}
-use Rattle.std.proofs.lemmas.List.Elements.{All-append}
+use Rattle.std.proofs.lemmas.List.Elements.{All-append, All-tail}
 use Rattle.std.proofs.lemmas.Option.{get_or_from_slice_get, slice_get-get_or, slice_get_within}
 use Rattle.gl_sphere.specs.declared.place.Vec3.{Vec3}
 use Rattle.gl_igc.specs.declared.fix.Fix.{Fix}
@@ -12,19 +12,20 @@ use Rattle.gl_hull.specs.Box.{Box, fixes_in, hull_of}
 use Rattle.gl_box.specs.Cell.{Covers, ends, spans_of}
 use Rattle.gl_box.specs.Halves.{span_at}
 use Rattle.gl_box.specs.Tuple.{places_of}
-use Rattle.gl_box.specs.Laws.Held.{covers_at, length-covers}
-use Rattle.gl_box.specs.Laws.Spans.{get_or-places_of, length-places_of, length-spans_of, span_at-spans_of}
+use Rattle.gl_box.proofs.Held.{covers_at, length-covers}
+use Rattle.gl_box.proofs.Spans.{get_or-places_of, length-places_of, length-spans_of, span_at-spans_of}
 use Rattle.gl_box.specs.declared.cell.Cell.{Cell}
 use Rattle.gl_box.specs.declared.span.Span.{Span}
 use Rattle.gl_box.specs.declared.tuple.Tuple.{Tuple}
 use Rattle.gl_goal.specs.declared.axis.Axis.{Axis}
-use Rattle.gl_goal.specs.Rule.{IsDisordered, IsInTimeOrder, IsTuple, chosen, fix_at, whole_cell}
+use Rattle.gl_goal.specs.Goal.{IsDisordered, IsInTimeOrder, IsTuple, chosen, fix_at, whole_cell}
 use Rattle.gl_goal.specs.Chain.{distance, fixes_at, greatest_distance, greatest_legs, hulls_of, last_of, legs, points_of}
-use Rattle.gl_goal.specs.Lists.{AreLists, AreNamed, Listed}
-use Rattle.gl_goal.specs.Hulled.{AreHulled, IsHulled, lists_of}
-use Rattle.gl_goal.specs.Laws.Chain.{fixes_at-cons, greatest_legs-last, legs-last, length-fixes_at, named_at}
+use Rattle.gl_goal.specs.Lists.{AreLists, AreNamed}
+use Rattle.gl_goal.specs.Code.Lists.{Listed, AreHulled, IsHulled, lists_of}
+use Rattle.gl_goal.specs.Lemmas.Chain.{fixes_at-cons, greatest_legs-last, legs-last, length-fixes_at, named_at}
 use Rattle.gl_goal.proofs.Seen.{IsSeen, seen_past}
-use Rattle.gl_goal.specs.Laws.Order.{get_or-chosen, length-chosen, length-tuple, length-whole, place_within, span_at-whole}
+use Rattle.gl_goal.specs.Lemmas.Points.{get_or-chosen, length-chosen, length-tuple, place_within}
+use Rattle.gl_goal.proofs.Order.{length-whole, span_at-whole}
 
 rising-least : (xs : List ℕ) (k : ℕ) → IsStrictlyIncreasing xs → k < length xs → k ≤ get_or xs k 0
 rising-least xs zero rising below = omega arith
@@ -50,7 +51,8 @@ axis-most fixes axes k axis are is below =
     let inside : k < length (lists_of axes) = omega (arith, length-map axes (λ (a : Axis). a.numbers.items)) in
     omega (arith, rising-most fixes (get_or (lists_of axes) k []) (are.lists.rising k [] inside) (are.lists.named k [] inside), are.most_fixes, ap length list)
 
-pub axis-hulled : (fixes : List Fix) (axes : List Axis) (k : ℕ) (axis : Axis) → AreHulled fixes axes → axis ≡ get_or axes k axis → k < length axes → arc_value axis.hulls ≡ fixes_at fixes (get_or (lists_of axes) k [])
+pub axis-hulled : (fixes : List Fix) (axes : List Axis) (k : ℕ) (axis : Axis) → AreHulled fixes axes → axis ≡ get_or axes k axis → k < length axes
+    → arc_value axis.hulls ≡ fixes_at fixes (get_or (lists_of axes) k [])
 axis-hulled fixes axes k axis are is below =
     subst (IsHulled fixes) (sym is) (are.hulled k axis below) ∙ ap (fixes_at fixes) (sym (axis-list axes k axis is below))
 
@@ -82,7 +84,8 @@ cell-axes lists cell covers =
     omega (arith, length-covers (whole_cell lists) (spans_of cell) covers, length-whole lists, length-spans_of cell)
 
 -- each span ends at a place of its list
-pub cell-within : (lists : List (List ℕ)) (cell : Cell) (k : ℕ) (span : Span) → All (λ list. 0 < length list) lists → Covers (whole_cell lists) (spans_of cell) → k < length lists → (get_or cell.spans k span).hi < length (get_or lists k [])
+pub cell-within : (lists : List (List ℕ)) (cell : Cell) (k : ℕ) (span : Span) → All (λ list. 0 < length list) lists → Covers (whole_cell lists) (spans_of cell) → k < length lists
+    → (get_or cell.spans k span).hi < length (get_or lists k [])
 cell-within lists cell k span some covers below =
     let at = covers_at (whole_cell lists) (spans_of cell) k covers (omega (arith, length-whole lists)) in
     let top = ap (λ (s : ℕ × ℕ). s.1) (span_at-whole lists k below) in
@@ -90,21 +93,30 @@ cell-within lists cell k span some covers below =
     omega (arith, at.1, top, read, some k [] below)
 
 -- the hulls over a list end where the list ends
-pub hull-within : (fixes : List Fix) (axes : List Axis) (lists : List (List ℕ)) (cell : Cell) (k : ℕ) (span : Span) (axis : Axis) → AreHulled fixes axes → lists_of axes ≡ lists → axis ≡ get_or axes k axis → Covers (whole_cell lists) (spans_of cell) → k < length lists → (get_or cell.spans k span).hi < length (arc_value axis.hulls)
+pub hull-within : (fixes : List Fix) (axes : List Axis) (lists : List (List ℕ)) (cell : Cell) (k : ℕ) (span : Span) (axis : Axis) → AreHulled fixes axes → lists_of axes ≡ lists
+    → axis ≡ get_or axes k axis → Covers (whole_cell lists) (spans_of cell) → k < length lists → (get_or cell.spans k span).hi < length (arc_value axis.hulls)
 hull-within fixes axes lists cell k span axis are same is covers below =
     let inside : k < length (lists_of axes) = omega (arith, ap length same) in
     let within : k < length axes = omega (arith, length-map axes (λ (a : Axis). a.numbers.items)) in
     let P : List (List ℕ) → Type 0 = λ ls. Covers (whole_cell ls) (spans_of cell) in
     let hulled = axis-hulled fixes axes k axis are is within in
-    omega (arith, cell-within (lists_of axes) cell k span are.lists.some_number (subst P (sym same) covers) inside, ap length hulled, length-fixes_at fixes (get_or (lists_of axes) k []) (are.lists.named k [] inside))
+    omega (
+      arith,
+      cell-within (lists_of axes) cell k span are.lists.some_number (subst P (sym same) covers) inside,
+      ap length hulled,
+      length-fixes_at fixes (get_or (lists_of axes) k []) (are.lists.named k [] inside),
+    )
 
-hulls_of-get : (fixes : List Fix) (lists : List (List ℕ)) (spans : List (ℕ × ℕ)) (k : ℕ) → k < length lists → length spans ≡ length lists → slice_get (hulls_of fixes lists spans) k ≡ Some (hull_of (fixes_in (fixes_at fixes (get_or lists k [])) (span_at spans k)))
+hulls_of-get : (fixes : List Fix) (lists : List (List ℕ)) (spans : List (ℕ × ℕ)) (k : ℕ) → k < length lists → length spans ≡ length lists
+    → slice_get (hulls_of fixes lists spans) k ≡ Some (hull_of (fixes_in (fixes_at fixes (get_or lists k [])) (span_at spans k)))
 hulls_of-get fixes [] spans k below sized = absurd (omega arith)
 hulls_of-get fixes (list ∷ lists) [] k below sized = absurd (omega arith)
 hulls_of-get fixes (list ∷ lists) (span ∷ spans) zero below sized = refl
 hulls_of-get fixes (list ∷ lists) (span ∷ spans) (suc k) below sized = hulls_of-get fixes lists spans k (omega arith) (omega arith)
 
-hull-of_axis : (fixes : List Fix) (axes : List Axis) (cell : Cell) (k : ℕ) (span : Span) (axis : Axis) (box : Box) → AreHulled fixes axes → axis ≡ get_or axes k axis → Covers (whole_cell (lists_of axes)) (spans_of cell) → k < length axes → box ≡ hull_of (fixes_in (arc_value axis.hulls) (ends (get_or cell.spans k span))) → slice_get (hulls_of fixes (lists_of axes) (spans_of cell)) k ≡ Some box
+hull-of_axis : (fixes : List Fix) (axes : List Axis) (cell : Cell) (k : ℕ) (span : Span) (axis : Axis) (box : Box) → AreHulled fixes axes → axis ≡ get_or axes k axis
+    → Covers (whole_cell (lists_of axes)) (spans_of cell) → k < length axes → box ≡ hull_of (fixes_in (arc_value axis.hulls) (ends (get_or cell.spans k span)))
+    → slice_get (hulls_of fixes (lists_of axes) (spans_of cell)) k ≡ Some box
 hull-of_axis fixes axes cell k span axis box are is covers within box_is =
     let lists = lists_of axes in
     let below : k < length lists = omega (arith, length-map axes (λ (a : Axis). a.numbers.items)) in
@@ -116,7 +128,9 @@ hull-of_axis fixes axes cell k span axis box are is covers within box_is =
     ∙ ap Some (sym box_is)
 
 -- the hull of an axis of a cell
-pub hull-at : (fixes : List Fix) (axes : List Axis) (listed : Listed) (cell : Cell) (k : ℕ) (span : Span) (axis : Axis) (box : Box) → listed_of fixes axes ≡ listed → AreHulled fixes axes → axis ≡ get_or axes k axis → Covers (whole_cell listed.lists) (spans_of cell) → k < length listed.lists → box ≡ hull_of (fixes_in (arc_value axis.hulls) (ends (get_or cell.spans k span))) → slice_get (hulls_of listed.fixes listed.lists (spans_of cell)) k ≡ Some box
+pub hull-at : (fixes : List Fix) (axes : List Axis) (listed : Listed) (cell : Cell) (k : ℕ) (span : Span) (axis : Axis) (box : Box) → listed_of fixes axes ≡ listed → AreHulled fixes axes
+    → axis ≡ get_or axes k axis → Covers (whole_cell listed.lists) (spans_of cell) → k < length listed.lists → box ≡ hull_of (fixes_in (arc_value axis.hulls) (ends (get_or cell.spans k span)))
+    → slice_get (hulls_of listed.fixes listed.lists (spans_of cell)) k ≡ Some box
 hull-at fixes axes listed cell k span axis box same are is covers below box_is =
     let within = listed-axis fixes axes listed k same below in
     let P : Listed → Type 0 = λ l. Covers (whole_cell l.lists) (spans_of cell) in
@@ -136,10 +150,8 @@ pub axes-most : (lists : List (List ℕ)) (tuple : Tuple) → IsTuple lists (pla
 axes-most lists tuple fits =
     omega (arith, length-tuple lists (places_of tuple) fits, length-places_of tuple, tuple.ten_axes)
 
-next_list : (P : List ℕ → Type 0) (list : List ℕ) (lists : List (List ℕ)) → All P (list ∷ lists) → All P lists
-next_list P list lists all k d below = all (suc k) d (omega arith)
-
-points-get : (fixes : List Fix) (lists : List (List ℕ)) (tuple : List ℕ) (k : ℕ) (fix : Fix) → All (AreNamed fixes) lists → IsTuple lists tuple → k < length lists → slice_get fixes (fix_at lists k (get_or tuple k 0)) ≡ Some fix → slice_get (points_of (fixes_at fixes (chosen lists tuple))) k ≡ Some fix.at
+points-get : (fixes : List Fix) (lists : List (List ℕ)) (tuple : List ℕ) (k : ℕ) (fix : Fix) → All (AreNamed fixes) lists → IsTuple lists tuple → k < length lists
+    → slice_get fixes (fix_at lists k (get_or tuple k 0)) ≡ Some fix → slice_get (points_of (fixes_at fixes (chosen lists tuple))) k ≡ Some fix.at
 points-get fixes [] tuple k fix all fits below is = absurd (omega arith)
 points-get fixes (list ∷ lists) [] k fix all fits below is = absurd fits
 points-get fixes (list ∷ lists) (place ∷ places) zero fix all fits below is =
@@ -147,10 +159,12 @@ points-get fixes (list ∷ lists) (place ∷ places) zero fix all fits below is 
 points-get fixes (list ∷ lists) (place ∷ places) (suc k) fix all fits below is =
     let first = named_at fixes list place (all 0 [] (omega arith)) fits.0 in
     ap (λ (fs : List Fix). slice_get (points_of fs) (suc k)) (fixes_at-cons fixes (get_or list place 0) (chosen lists places) first.0 first.1)
-    ∙ points-get fixes lists places k fix (next_list (AreNamed fixes) list lists all) fits.1 (omega arith) is
+    ∙ points-get fixes lists places k fix (All-tail (AreNamed fixes) list lists all) fits.1 (omega arith) is
 
 -- the point of the fix that a tuple chooses on an axis
-pub point-at : (fixes : List Fix) (lists : List (List ℕ)) (tuple : Tuple) (k number : ℕ) (fix : Fix) → All (AreNamed fixes) lists → IsTuple lists (places_of tuple) → k < length lists → number ≡ fix_at lists k (get_or tuple.places k 0) → number < length fixes → fix ≡ get_or fixes number fix → slice_get (points_of (fixes_at fixes (chosen lists (places_of tuple)))) k ≡ Some fix.at
+pub point-at : (fixes : List Fix) (lists : List (List ℕ)) (tuple : Tuple) (k number : ℕ) (fix : Fix) → All (AreNamed fixes) lists → IsTuple lists (places_of tuple) → k < length lists
+    → number ≡ fix_at lists k (get_or tuple.places k 0) → number < length fixes → fix ≡ get_or fixes number fix
+    → slice_get (points_of (fixes_at fixes (chosen lists (places_of tuple)))) k ≡ Some fix.at
 point-at fixes lists tuple k number fix all fits below number_is inside fix_is =
     let place = tuple-place lists tuple k fits below in
     let same : fix_at lists k (get_or (places_of tuple) k 0) ≡ number = ap (fix_at lists k) place ∙ sym number_is in
@@ -170,11 +184,9 @@ pub record IsWay (start : Vec3) (points : List Vec3) (count flown : ℕ) (end : 
   pub ends_at : end ≡ last_of start (take count points)
   pub most : flown ≤ count * 1_099_511_627_776
 
-pub way_begins : (start : Vec3) (points : List Vec3) → IsWay start points 0 0 start
-way_begins start points = record { legs_are = refl; ends_at = refl; most = omega arith }
-
 -- one point more
-pub way_more : (start : Vec3) (points : List Vec3) (count flown : ℕ) (end next : Vec3) (leg : ℕ) → IsWay start points count flown end → slice_get points count ≡ Some next → leg ≡ distance end next → leg < 2 ^ 40 → IsWay start points (count + 1) (flown + leg) next
+pub way_more : (start : Vec3) (points : List Vec3) (count flown : ℕ) (end next : Vec3) (leg : ℕ) → IsWay start points count flown end → slice_get points count ≡ Some next → leg ≡ distance end next
+    → leg < 2 ^ 40 → IsWay start points (count + 1) (flown + leg) next
 way_more start points count flown end next leg way there leg_is short =
     let longer = take-get points count next there in
     let passed = take count points in
@@ -190,15 +202,19 @@ pub record IsGreatestWay (start : Box) (boxes : List Box) (count flown : ℕ) (e
   pub ends_at : end ≡ last_of start (take count boxes)
   pub most : flown ≤ count * 1_099_511_627_776
 
-pub greatest_way_begins : (start : Box) (boxes : List Box) → IsGreatestWay start boxes 0 0 start
-greatest_way_begins start boxes = record { legs_are = refl; ends_at = refl; most = omega arith }
-
-pub greatest_way_more : (start : Box) (boxes : List Box) (count flown : ℕ) (end next : Box) (leg : ℕ) → IsGreatestWay start boxes count flown end → slice_get boxes count ≡ Some next → leg ≡ greatest_distance end next → leg < 2 ^ 40 → IsGreatestWay start boxes (count + 1) (flown + leg) next
+pub greatest_way_more : (start : Box) (boxes : List Box) (count flown : ℕ) (end next : Box) (leg : ℕ) → IsGreatestWay start boxes count flown end → slice_get boxes count ≡ Some next
+    → leg ≡ greatest_distance end next → leg < 2 ^ 40 → IsGreatestWay start boxes (count + 1) (flown + leg) next
 greatest_way_more start boxes count flown end next leg way there leg_is short =
     let longer = take-get boxes count next there in
     let passed = take count boxes in
     record {
-      legs_are = omega (arith, way.legs_are, leg_is ∙ ap (λ (at : Box). greatest_distance at next) way.ends_at, greatest_legs-last start passed next, ap (λ (bs : List Box). greatest_legs (start ∷ bs)) longer);
+      legs_are = omega (
+        arith,
+        way.legs_are,
+        leg_is ∙ ap (λ (at : Box). greatest_distance at next) way.ends_at,
+        greatest_legs-last start passed next,
+        ap (λ (bs : List Box). greatest_legs (start ∷ bs)) longer,
+      );
       ends_at = sym (ap (last_of start) longer ∙ last_of-last start passed next);
       most = omega (arith, way.most);
     }
@@ -215,19 +231,9 @@ IsSameOrder numbers before count =
     (IsInTimeOrder numbers → IsInTimeOrder (before ∷ drop count numbers))
     × (IsInTimeOrder (before ∷ drop count numbers) → IsInTimeOrder numbers)
 
-order_begins : (numbers : List ℕ) → IsInTimeOrder numbers → IsInTimeOrder (0 ∷ numbers)
-order_begins [] order = tt
-order_begins (number ∷ numbers) order = (omega arith, order)
-
-order_ends : (numbers : List ℕ) → IsInTimeOrder (0 ∷ numbers) → IsInTimeOrder numbers
-order_ends [] order = tt
-order_ends (number ∷ numbers) order = order.1
-
-pub same_order : (numbers : List ℕ) → IsSameOrder numbers 0 0
-same_order numbers = (order_begins numbers, order_ends numbers)
-
 -- the number that a tuple chooses on an axis
-pub chosen-at : (lists : List (List ℕ)) (tuple : Tuple) (k number : ℕ) → IsTuple lists (places_of tuple) → k < length lists → number ≡ fix_at lists k (get_or tuple.places k 0) → drop k (chosen lists (places_of tuple)) ≡ number ∷ drop (k + 1) (chosen lists (places_of tuple))
+pub chosen-at : (lists : List (List ℕ)) (tuple : Tuple) (k number : ℕ) → IsTuple lists (places_of tuple) → k < length lists → number ≡ fix_at lists k (get_or tuple.places k 0)
+    → drop k (chosen lists (places_of tuple)) ≡ number ∷ drop (k + 1) (chosen lists (places_of tuple))
 chosen-at lists tuple k number fits below is =
     let numbers = chosen lists (places_of tuple) in
     let inside : k < length numbers = omega (arith, length-chosen lists (places_of tuple) fits) in
@@ -238,7 +244,8 @@ order_at_next : (numbers rest : List ℕ) (count before number : ℕ) → drop c
 order_at_next numbers rest count before number is order =
     let P : List ℕ → Type 0 = λ ns. IsInTimeOrder (before ∷ ns) in subst P is order
 
-pub order_more : (numbers rest : List ℕ) (count before number : ℕ) → drop count numbers ≡ number ∷ rest → before ≤ number → IsSameOrder numbers before count → (IsInTimeOrder numbers → IsInTimeOrder (number ∷ rest)) × (IsInTimeOrder (number ∷ rest) → IsInTimeOrder numbers)
+pub order_more : (numbers rest : List ℕ) (count before number : ℕ) → drop count numbers ≡ number ∷ rest → before ≤ number → IsSameOrder numbers before count
+    → (IsInTimeOrder numbers → IsInTimeOrder (number ∷ rest)) × (IsInTimeOrder (number ∷ rest) → IsInTimeOrder numbers)
 order_more numbers rest count before number is fits same =
     let P : List ℕ → Type 0 = λ ns. IsInTimeOrder (before ∷ ns) in
     (λ order. (order_at_next numbers rest count before number is (same.0 order)).1, λ order. same.1 (subst P (sym is) (fits, order)))
@@ -259,22 +266,26 @@ first_fix lists cell k = fix_at lists k (span_at (spans_of cell) k).0
 abbrev pub last_fix : List (List ℕ) → Cell → ℕ → ℕ
 last_fix lists cell k = fix_at lists k (span_at (spans_of cell) k).1
 
-pub first_fix-at : (lists : List (List ℕ)) (cell : Cell) (k : ℕ) (span : Span) (number : ℕ) → Covers (whole_cell lists) (spans_of cell) → k < length lists → number ≡ fix_at lists k (get_or cell.spans k span).lo → first_fix lists cell k ≡ number
+pub first_fix-at : (lists : List (List ℕ)) (cell : Cell) (k : ℕ) (span : Span) (number : ℕ) → Covers (whole_cell lists) (spans_of cell) → k < length lists
+    → number ≡ fix_at lists k (get_or cell.spans k span).lo → first_fix lists cell k ≡ number
 first_fix-at lists cell k span number covers below is =
     ap (λ (s : ℕ × ℕ). fix_at lists k s.0) (cell-span lists cell k span covers below) ∙ sym is
 
-pub last_fix-at : (lists : List (List ℕ)) (cell : Cell) (k : ℕ) (span : Span) (number : ℕ) → Covers (whole_cell lists) (spans_of cell) → k < length lists → number ≡ fix_at lists k (get_or cell.spans k span).hi → last_fix lists cell k ≡ number
+pub last_fix-at : (lists : List (List ℕ)) (cell : Cell) (k : ℕ) (span : Span) (number : ℕ) → Covers (whole_cell lists) (spans_of cell) → k < length lists
+    → number ≡ fix_at lists k (get_or cell.spans k span).hi → last_fix lists cell k ≡ number
 last_fix-at lists cell k span number covers below is =
     ap (λ (s : ℕ × ℕ). fix_at lists k s.1) (cell-span lists cell k span covers below) ∙ sym is
 
 -- a span that ends before an earlier one begins disorders the cell
-pub lists_past : (lists : List (List ℕ)) (cell : Cell) (count latest : ℕ) → IsSeen (first_fix lists cell) (last_fix lists cell) count latest → count < length lists → last_fix lists cell count < latest → IsDisordered lists (spans_of cell)
+pub lists_past : (lists : List (List ℕ)) (cell : Cell) (count latest : ℕ) → IsSeen (first_fix lists cell) (last_fix lists cell) count latest → count < length lists → last_fix lists cell count < latest
+    → IsDisordered lists (spans_of cell)
 lists_past lists cell count latest seen below past =
     let at = seen_past (first_fix lists cell) (last_fix lists cell) count latest seen past in
     record { earlier = at.0; later = count; apart = at.1; within = below; above = at.2 }
 
 -- where all were seen the cell isn't disordered
-pub lists_seen : (lists : List (List ℕ)) (cell : Cell) (count latest : ℕ) → IsSeen (first_fix lists cell) (last_fix lists cell) count latest → length lists ≤ count → IsDisordered lists (spans_of cell) → ⊥
+pub lists_seen : (lists : List (List ℕ)) (cell : Cell) (count latest : ℕ) → IsSeen (first_fix lists cell) (last_fix lists cell) count latest → length lists ≤ count → IsDisordered lists (spans_of cell)
+    → ⊥
 lists_seen lists cell count latest seen all disordered =
     absurd (omega (arith, disordered.above, seen.ordered disordered.earlier disordered.later disordered.apart (omega (arith, disordered.within))))
 
@@ -307,7 +318,8 @@ next-listed fixes before after all list are is =
 next_lists : {V : Type 0} (f : V → List ℕ) (before : List (List ℕ)) (old more : List V) (v : V) (all : List (List ℕ)) → before ++ map f old ≡ all → old ≡ v ∷ more → before ++ f v ∷ map f more ≡ all
 next_lists f before old more v all is steps = ap (λ vs. before ++ map f vs) (sym steps) ∙ is
 
-pub item-listed : {V : Type 0} (f : V → List ℕ) (fixes : List Fix) (before : List (List ℕ)) (old more : List V) (v : V) (all : List (List ℕ)) → AreLists fixes all → before ++ map f old ≡ all → old ≡ v ∷ more → IsListed fixes (f v)
+pub item-listed : {V : Type 0} (f : V → List ℕ) (fixes : List Fix) (before : List (List ℕ)) (old more : List V) (v : V) (all : List (List ℕ)) → AreLists fixes all → before ++ map f old ≡ all
+    → old ≡ v ∷ more → IsListed fixes (f v)
 item-listed f fixes before old more v all are is steps =
     next-listed fixes before (map f more) all (f v) are (next_lists f before old more v all is steps)
 
@@ -315,9 +327,11 @@ then_rest : (before after : List (List ℕ)) (list : List ℕ) → (before ++ li
 then_rest [] after list = refl
 then_rest (first ∷ before) after list = ap (λ (ls : List (List ℕ)). first ∷ ls) (then_rest before after list)
 
-pub item-taken : {V : Type 0} (f : V → List ℕ) (axes pushed : List Axis) (axis : Axis) (old more : List V) (v : V) (all : List (List ℕ)) → pushed ≡ axes ++ axis ∷ [] → axis.numbers.items ≡ f v → lists_of axes ++ map f old ≡ all → old ≡ v ∷ more → lists_of pushed ++ map f more ≡ all
+pub item-taken : {V : Type 0} (f : V → List ℕ) (axes pushed : List Axis) (axis : Axis) (old more : List V) (v : V) (all : List (List ℕ)) → pushed ≡ axes ++ axis ∷ [] → axis.numbers.items ≡ f v
+    → lists_of axes ++ map f old ≡ all → old ≡ v ∷ more → lists_of pushed ++ map f more ≡ all
 item-taken f axes pushed axis old more v all pushed_is list_is is steps =
-    let lists : lists_of pushed ≡ lists_of axes ++ f v ∷ [] = ap lists_of pushed_is ∙ map-append (λ (a : Axis). a.numbers.items) axes (axis ∷ []) ∙ ap (λ (l : List ℕ). lists_of axes ++ l ∷ []) list_is in
+    let lists : lists_of pushed ≡ lists_of axes ++ f v ∷ [] = ap lists_of pushed_is ∙ map-append (λ (a : Axis). a.numbers.items) axes (axis ∷ [])
+    ∙ ap (λ (l : List ℕ). lists_of axes ++ l ∷ []) list_is in
     ap (λ (ls : List (List ℕ)). ls ++ map f more) lists ∙ then_rest (lists_of axes) (map f more) (f v) ∙ next_lists f (lists_of axes) old more v all is steps
 
 single-hulled : (fixes : List Fix) (axis : Axis) → IsHulled fixes axis → All (IsHulled fixes) (axis ∷ [])

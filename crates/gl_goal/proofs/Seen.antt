@@ -1,5 +1,5 @@
 -- What is known of the ends of spans that were gone over.
-use Rattle.std.proofs.Common.{◌≡◌, ◌∙◌, ap, refl, ℕ, ◌+◌, ◌<◌, ◌≤◌, ◌⊎◌, inl, inr, ⊎_elim, max, arith}
+use Rattle.std.proofs.Common.{◌≡◌, ◌∙◌, ap, ℕ, ◌+◌, ◌<◌, ◌≤◌, ◌⊎◌, inl, inr, ⊎_elim, max, arith}
 use Rattle.std.proofs.lemmas.Bool.{cases_lt}
 
 -- of the first `count` spans `latest` is the highest low end, 0 where there is none, and none of them ends before an earlier begins
@@ -8,15 +8,9 @@ pub record IsSeen (low high : ℕ → ℕ) (count latest : ℕ) : Type 0 where
   pub reached : (latest ≡ 0) ⊎ ((k : ℕ) × (k < count) × (low k ≡ latest))
   pub ordered : (i j : ℕ) → i < j → j < count → low i ≤ high j
 
-pub nothing_seen : (low high : ℕ → ℕ) → IsSeen low high 0 0
-nothing_seen low high = record {
-  highest = λ k below. absurd (omega arith);
-  reached = inl refl;
-  ordered = λ i j apart below. absurd (omega arith);
-}
-
 -- one span more, that doesn't end before `latest`
-pub seen_more : (low high : ℕ → ℕ) (count latest lo hi next : ℕ) → IsSeen low high count latest → low count ≡ lo → high count ≡ hi → latest ≤ hi → next ≡ max latest lo → IsSeen low high (count + 1) next
+pub seen_more : (low high : ℕ → ℕ) (count latest lo hi next : ℕ) → IsSeen low high count latest → low count ≡ lo → high count ≡ hi → latest ≤ hi → next ≡ max latest lo
+    → IsSeen low high (count + 1) next
 seen_more low high count latest lo hi next seen lo_is hi_is fits is = record {
   highest = λ k below. ⊎_elim
       (λ (past : k < count). omega (arith, seen.highest k past))

@@ -7,27 +7,28 @@ use Rattle.std.proofs.lemmas.Bool.{cases_Bool, leb-true, le-leb, leb-false}
 use Rattle.std.proofs.lemmas.List.{get_or_default}
 use Rattle.gl_box.specs.Cell.{Covers, spans_of}
 use Rattle.gl_box.specs.Tuple.{places_of}
-use Rattle.gl_box.specs.Laws.Held.{length-covers}
+use Rattle.gl_box.proofs.Held.{length-covers}
 use Rattle.gl_box.specs.declared.cell.Cell.{Cell}
 use Rattle.gl_box.specs.declared.span.Span.{Span}
 use Rattle.gl_box.specs.declared.tuple.Tuple.{Tuple}
 use Rattle.gl_hull.specs.Box.{Box}
 use Rattle.gl_igc.specs.declared.fix.Fix.{Fix}
 use Rattle.gl_goal.specs.Chain.{hulls_of}
-use Rattle.gl_goal.specs.Rule.{IsTuple, chosen, whole_cell}
-use Rattle.gl_goal.specs.Laws.Order.{length-whole}
+use Rattle.gl_goal.specs.Goal.{IsTuple, chosen, whole_cell}
+use Rattle.gl_goal.proofs.Order.{length-whole}
 use Rattle.gl_goal.proofs.Courses.{length-hulls_of}
 use Rattle.gl_goal.proofs.Listed.{cell-within, place-within, tuple-place}
 use Rattle.gl_goal.specs.declared.triangle.TriangleGoal.{TriangleGoal}
 use Rattle.gl_goal.specs.Closing.{TellReach}
 use Rattle.gl_goal.specs.Free.{fixes_between, numbers_between}
-use Rattle.gl_goal.specs.Reach.{AreReaches, IsReach}
+use Rattle.gl_goal.specs.Code.Round.{AreReaches}
+use Rattle.gl_goal.specs.Reach.{IsReach}
 use Rattle.gl_goal.specs.Triangle.{closes, three_axes}
-use Rattle.gl_goal.specs.Laws.Chain.{length-fixes_at}
-use Rattle.gl_goal.specs.Laws.Closing.{closes-found, closes-shown}
-use Rattle.gl_goal.specs.Laws.Free.{length-numbers_between, numbers_between-named}
-use Rattle.gl_goal.specs.Laws.Triangle.{three-place, three_axis}
-use Rattle.gl_goal.specs.Laws.Reach.{closes_within_reach}
+use Rattle.gl_goal.specs.Lemmas.Chain.{length-fixes_at}
+use Rattle.gl_goal.specs.Lemmas.Closing.{closes-found, closes-shown}
+use Rattle.gl_goal.specs.Lemmas.Free.{length-numbers_between, numbers_between-named}
+use Rattle.gl_goal.specs.Lemmas.Triangle.{three-place, three_axis}
+use Rattle.gl_goal.proofs.Reaches.{closes_within_reach}
 
 -- how many fixes there are from the first to the last number
 pub length-between : (fixes : List Fix) (first last : ℕ) → first ≤ last → last < length fixes → length (fixes_between fixes first last) ≡ suc (last - first)
@@ -101,11 +102,14 @@ pub end-in : (g : TriangleGoal) (cell : Cell) (k : ℕ) (span : Span) → Covers
 end-in g cell k span covers below =
     let axes = three_axes g.first g.last in
     let three = ap length (three_axis g.first g.last k below) ∙ length-numbers_between g.first g.last in
-    let some : All (λ (axis : List ℕ). 0 < length axis) axes = λ j other inside. omega (arith, ap length (get_or_default axes j other [] inside), ap length (three_axis g.first g.last j inside), length-numbers_between g.first g.last) in
+    let some : All (λ (axis : List ℕ). 0 < length axis) axes = λ j other inside. omega
+    (arith, ap length (get_or_default axes j other [] inside), ap length (three_axis g.first g.last j inside), length-numbers_between g.first g.last) in
     omega (arith, cell-within axes cell k span some covers below, three)
 
 -- the hulls of the three spans
-pub three_hulls : (g : TriangleGoal) (cell : Cell) (a b c : Box) → Covers (whole_cell g.lists.lists) (spans_of cell) → slice_get (hulls_of g.lists.fixes g.lists.lists (spans_of cell)) 0 ≡ Some a → slice_get (hulls_of g.lists.fixes g.lists.lists (spans_of cell)) 1 ≡ Some b → slice_get (hulls_of g.lists.fixes g.lists.lists (spans_of cell)) 2 ≡ Some c → a ∷ b ∷ c ∷ [] ≡ hulls_of g.lists.fixes g.lists.lists (spans_of cell)
+pub three_hulls : (g : TriangleGoal) (cell : Cell) (a b c : Box) → Covers (whole_cell g.lists.lists) (spans_of cell) → slice_get (hulls_of g.lists.fixes g.lists.lists (spans_of cell)) 0 ≡ Some a
+    → slice_get (hulls_of g.lists.fixes g.lists.lists (spans_of cell)) 1 ≡ Some b → slice_get (hulls_of g.lists.fixes g.lists.lists (spans_of cell)) 2 ≡ Some c
+    → a ∷ b ∷ c ∷ [] ≡ hulls_of g.lists.fixes g.lists.lists (spans_of cell)
 three_hulls g cell a b c covers first second third =
     let sized : length (spans_of cell) ≡ length g.lists.lists = omega (arith, length-covers (whole_cell g.lists.lists) (spans_of cell) covers, length-whole g.lists.lists) in
     three-listed (hulls_of g.lists.fixes g.lists.lists (spans_of cell)) a b c (length-hulls_of g.lists.fixes g.lists.lists (spans_of cell) sized ∙ ap length g.axes) first second third

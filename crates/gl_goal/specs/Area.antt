@@ -4,12 +4,12 @@ use Rattle.gl_sphere.specs.declared.place.Vec3.{Vec3}
 use Rattle.gl_igc.specs.declared.fix.Fix.{Fix}
 use Rattle.gl_hull.specs.Box.{point_box}
 use Rattle.gl_goal.specs.Chain.{fixes_at, greatest_legs, hulls_of, legs, points_of}
-use Rattle.gl_goal.specs.Rule.{Rule}
+use Rattle.gl_goal.specs.Goal.{Goal}
 
 -- The goal of an area task over lists of fixes, one for each area: any fixes in time order, worth
 -- the legs from the start point through them to the finish point, less `off`, and not below 0. No
 -- cell is shut, and the bound of a cell is the greatest legs, less `off`.
-unfoldable pub area_goal : List Fix → List (List ℕ) → Vec3 → Vec3 → ℕ → Rule
+unfoldable pub area_goal : List Fix → List (List ℕ) → Vec3 → Vec3 → ℕ → Goal
 area_goal fixes lists start finish off = record {
   axes = lists;
   allows = λ numbers. true;

@@ -1,10 +1,10 @@
 use Rattle.gl_goal.specs.declared.area.AreaGoal.{AreaGoal}
 use Rattle.gl_goal.specs.Area.{area_goal}
 use Rattle.gl_goal.specs.Lists.{AreLists}
-use Rattle.gl_goal.specs.Rule.{Rule}
+use Rattle.gl_goal.specs.Goal.{Goal}
 
 -- the goal that the fields of an `AreaGoal` stand for
-abbrev pub area_rule : AreaGoal → Rule
+abbrev pub area_rule : AreaGoal → Goal
 area_rule g = area_goal g.lists.fixes g.lists.lists g.start g.finish g.off
 
 -- its lists are well formed

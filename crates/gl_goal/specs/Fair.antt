@@ -29,7 +29,8 @@ some_above share legs = list_any (λ leg. nat_lt share (100 * leg)) legs
 abbrev pub by_28_percent : List ℕ → Bool
 by_28_percent legs = none_below (28 * sum legs) legs
 
--- the rule of large triangles: together the legs are 750 kilometres or longer, and no leg is shorter
+-- the rule of large triangles: together the legs are 750 kilometres or longer, and no leg is
+-- shorter
 -- than 25 percent of them or longer than 45 percent
 abbrev pub by_25_to_45_percent : List ℕ → Bool
 by_25_to_45_percent legs =
@@ -45,7 +46,8 @@ abbrev pub never_28_percent : List ℕ → List ℕ → Bool
 never_28_percent least greatest = some_below (28 * sum least) greatest
 
 -- the rule of large triangles is ruled out: the greatest legs together are shorter than
--- 750 kilometres, or one of them is shorter than 25 percent of the least ones together, or one of the
+-- 750 kilometres, or one of them is shorter than 25 percent of the least ones together, or one of
+-- the
 -- least is longer than 45 percent of the greatest ones together
 abbrev pub never_25_to_45_percent : List ℕ → List ℕ → Bool
 never_25_to_45_percent least greatest =
@@ -59,13 +61,15 @@ is_none_fair least greatest =
     nat_eq (sum greatest) 0
     || (never_28_percent least greatest && never_25_to_45_percent least greatest)
 
--- the most that legs can be together of which none is shorter than so many percent: no more than the
+-- the most that legs can be together of which none is shorter than so many percent: no more than
+-- the
 -- greatest, and no more than that each of these is so many percent of it
 abbrev pub most_from : ℕ → List ℕ → ℕ
 most_from percent greatest =
     fold min (sum greatest) (map (λ leg. 100 * leg / percent) greatest)
 
--- The most that fair legs can be together: by the rule of 28 percent where no legs from 25 percent on
+-- The most that fair legs can be together: by the rule of 28 percent where no legs from 25 percent
+-- on
 -- make a large triangle, else by 25 percent.
 unfoldable pub most_of_fair : List ℕ → ℕ
 most_of_fair greatest =

@@ -4,7 +4,7 @@ use Rattle.std.specs.Prelude.{ℕ, zero, suc, ◌-◌, List, [], ◌∷◌, ℤ,
 use Rattle.gl_igc.specs.declared.fix.Fix.{Fix}
 use Rattle.gl_hull.specs.Box.{Box}
 use Rattle.gl_goal.specs.Chain.{fixes_at, greatest_legs, hulls_of, last_of, legs, points_of}
-use Rattle.gl_goal.specs.Rule.{Rule}
+use Rattle.gl_goal.specs.Goal.{Goal}
 
 -- how much lower the last of some fixes is than the first, in metres
 abbrev pub loss_over : List Fix → ℤ
@@ -38,7 +38,7 @@ five_axes first last =
 -- The goal of the free distance over the fixes from the first to the last number, with a greatest
 -- loss in metres. A cell is shut where its fixes lose more, and its bound is the sum of the
 -- greatest legs.
-unfoldable pub free_goal : List Fix → ℕ → ℕ → ℤ → Rule
+unfoldable pub free_goal : List Fix → ℕ → ℕ → ℤ → Goal
 free_goal fixes first last loss = record {
   axes = five_axes first last;
   allows = λ numbers. int_le (loss_over (fixes_at fixes numbers)) loss;

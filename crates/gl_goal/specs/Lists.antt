@@ -15,8 +15,3 @@ pub record AreLists (fixes : List Fix) (lists : List (List ℕ)) : Type 0 where
   pub some_number : All (λ list. 0 < length list) lists
   pub rising : All IsStrictlyIncreasing lists
   pub named : All (AreNamed fixes) lists
-
--- fixes, and lists of numbers that name them
-pub record Listed : Type 0 where
-  pub fixes : List Fix
-  pub lists : List (List ℕ)

@@ -5,7 +5,7 @@ use Rattle.gl_sphere.specs.declared.place.Vec3.{Vec3}
 use Rattle.gl_igc.specs.declared.fix.Fix.{Fix}
 use Rattle.gl_hull.specs.Box.{Box, point_box}
 use Rattle.gl_goal.specs.Chain.{distance, fixes_at, greatest_distance, greatest_legs, hulls_of, last_of, least_distance, legs, points_of}
-use Rattle.gl_goal.specs.Rule.{Rule}
+use Rattle.gl_goal.specs.Goal.{Goal}
 
 -- all of some points or boxes but the last
 abbrev pub all_but_last : {X : Type 0} → List X → List X
@@ -35,7 +35,7 @@ greatest_way_out start target boxes =
 -- last fix: any fixes in time order, worth what is fixed, the legs from the start point through the
 -- fixes but the last, and how much nearer to the target the last fix is than the one before it, or
 -- than the start point. No cell is shut, and the bound of a cell is the most that this can be.
-unfoldable pub out_goal : List Fix → List (List ℕ) → Vec3 → ℕ → Vec3 → Rule
+unfoldable pub out_goal : List Fix → List (List ℕ) → Vec3 → ℕ → Vec3 → Goal
 out_goal fixes lists start fixed target = record {
   axes = lists;
   allows = λ numbers. true;

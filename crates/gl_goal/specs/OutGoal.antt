@@ -1,10 +1,10 @@
 use Rattle.gl_goal.specs.declared.outlanding.OutGoal.{OutGoal}
 use Rattle.gl_goal.specs.Out.{out_goal}
 use Rattle.gl_goal.specs.Lists.{AreLists}
-use Rattle.gl_goal.specs.Rule.{Rule}
+use Rattle.gl_goal.specs.Goal.{Goal}
 
 -- the goal that the fields of an `OutGoal` stand for
-abbrev pub out_rule : OutGoal → Rule
+abbrev pub out_rule : OutGoal → Goal
 out_rule g = out_goal g.lists.fixes g.lists.lists g.start g.fixed g.target
 
 -- its lists are well formed

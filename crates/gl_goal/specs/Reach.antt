@@ -1,7 +1,6 @@
 -- How far a flight that closes can reach.
-use Rattle.std.specs.Prelude.{◌≡◌, ℕ, ◌≤◌, ◌<◌, List, length, Some, slice_get, slice_index}
+use Rattle.std.specs.Prelude.{◌≡◌, ℕ, ◌≤◌, ◌<◌, List, length, Some, slice_get}
 use Rattle.gl_igc.specs.declared.fix.Fix.{Fix}
-use Rattle.gl_hull.specs.Near.{IsNear}
 use Rattle.gl_goal.specs.Chain.{distance}
 
 -- A flight over some fixes closes from the place `a` or an earlier one to the place `c` or a later
@@ -22,15 +21,3 @@ pub record IsReach (fixes : List Fix) (closing place reach : ℕ) : Type 0 where
   pub within : reach < length fixes
   pub closes : Closes fixes closing place reach
   pub greatest : (c : ℕ) → Closes fixes closing place c → c ≤ reach
-
--- the reach of each place
-pub record AreReaches (fixes : List Fix) (closing : ℕ) (reaches : List ℕ) : Type 0 where
-  pub sized : length reaches ≡ length fixes
-  pub each : (place : ℕ) → place < length fixes
-      → IsReach fixes closing place (slice_index reaches place)
-
--- no fix behind the place `end` is at most `closing` centimetres from the fix at another place
-abbrev pub IsNoneBehind : List Fix → ℕ → ℕ → ℕ → Type 0
-IsNoneBehind fixes closing end place =
-    (fix : Fix) → slice_get fixes place ≡ Some fix
-    → (later : ℕ) → end < later → ¬ IsNear fixes fix.at closing later

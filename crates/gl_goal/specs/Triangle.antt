@@ -1,4 +1,5 @@
--- The triangle: three fixes in time order with fair legs, on a flight that closes past the first and
+-- The triangle: three fixes in time order with fair legs, on a flight that closes past the first
+-- and
 -- the third of them, worth the three legs.
 use Rattle.std.specs.Prelude.{ℕ, ◌+◌, ◌-◌, Bool, not, ◌&&◌, ◌||◌, nat_le, List, [], ◌∷◌, take, drop, slice_index}
 use Rattle.std.specs.List.{list_any, sum}
@@ -7,7 +8,7 @@ use Rattle.gl_igc.specs.declared.fix.Fix.{Fix}
 use Rattle.gl_goal.specs.Chain.{distance, fixes_at, greatest_distance, hulls_of, least_distance, points_of}
 use Rattle.gl_goal.specs.Fair.{is_fair, is_none_fair, most_of_fair}
 use Rattle.gl_goal.specs.Free.{fixes_between, numbers_between}
-use Rattle.gl_goal.specs.Rule.{Rule}
+use Rattle.gl_goal.specs.Goal.{Goal}
 
 -- how far each of three is from the next, all the way round
 abbrev pub around : {X : Type 0} → (X → X → ℕ) → List X → List ℕ
@@ -17,7 +18,8 @@ around far (a ∷ b ∷ []) = []
 around far (a ∷ b ∷ c ∷ []) = far a b ∷ far b c ∷ far c a ∷ []
 around far (a ∷ b ∷ c ∷ d ∷ others) = []
 
--- A flight closes past the places a and c of its fixes: a fix at a or before and a fix at c or later
+-- A flight closes past the places a and c of its fixes: a fix at a or before and a fix at c or
+-- later
 -- are at most so far apart, in centimetres.
 unfoldable pub closes : List Fix → ℕ → ℕ → ℕ → Bool
 closes fixes closing a c =
@@ -31,7 +33,7 @@ three_axes first last = let all = numbers_between first last in all ∷ all ∷ 
 -- The goal of the triangle over the fixes from the first to the last number, which are the flight
 -- that has to close. A cell is shut where none of its legs are fair, or where the flight doesn't
 -- close past the last of its first fixes and the first of its third ones.
-unfoldable pub triangle_goal : List Fix → ℕ → ℕ → ℕ → Rule
+unfoldable pub triangle_goal : List Fix → ℕ → ℕ → ℕ → Goal
 triangle_goal fixes first last closing = record {
   axes = three_axes first last;
   allows = λ numbers.

@@ -1,4 +1,5 @@
-ghost use Rattle.gl_goal.specs.AnyGoal.{any_goal-is_goal, any_legs, any_rule};
+ghost use Rattle.gl_goal.specs.Lemmas.AnyGoal.{any_goal-is_goal};
+ghost use Rattle.gl_goal.specs.AnyGoal.{any_legs, any_rule};
 
 use crate::any::AnyGoal;
 use crate::goal::Goal;

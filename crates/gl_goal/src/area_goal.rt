@@ -2,8 +2,8 @@ ghost use Rattle.std.specs.Prelude.{◌≡◌, ◌≤◌, length, map, IfOk};
 ghost use Rattle.gl_goal.specs.Area.{area_goal};
 ghost use Rattle.gl_goal.specs.AreaGoal.{area_lists, area_rule};
 ghost use Rattle.gl_goal.specs.Lists.{AreLists};
-ghost use Rattle.gl_goal.specs.Rule.{IsGoal};
-ghost use Rattle.gl_goal.specs.Laws.Area.{area_goal-is_goal};
+ghost use Rattle.gl_goal.specs.Goal.{IsGoal};
+ghost use Rattle.gl_goal.specs.Lemmas.Area.{area_goal-is_goal};
 
 use crate::area::AreaGoal;
 use crate::goal::Goal;

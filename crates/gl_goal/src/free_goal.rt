@@ -4,10 +4,10 @@ ghost use Rattle.gl_box.specs.Tuple.{places_of};
 ghost use Rattle.gl_hull.specs.Hull.{box_of};
 ghost use Rattle.gl_goal.specs.Chain.{hulls_of};
 ghost use Rattle.gl_goal.specs.Free.{five_axes, fixes_between, free_goal};
-ghost use Rattle.gl_goal.specs.Rule.{IsGoal, IsInTimeOrder, IsLegal, IsTuple, chosen, whole_cell};
+ghost use Rattle.gl_goal.specs.Goal.{IsGoal, IsInTimeOrder, IsLegal, IsTuple, chosen, whole_cell};
 ghost use Rattle.gl_goal.specs.FreeGoal.{rule_of};
 ghost use Rattle.gl_goal.specs.FreeLegs.{IsLeg, most_between};
-ghost use Rattle.gl_goal.specs.Laws.Free.{free_goal-is_goal};
+ghost use Rattle.gl_goal.specs.Lemmas.Free.{free_goal-is_goal};
 
 use crate::free::FreeGoal;
 use crate::goal::Goal;

@@ -2,7 +2,7 @@ ghost use Rattle.std.specs.Prelude.{◌≡◌, ◌<◌, ◌↔◌, IsTrue, ℕ, 
 ghost use Rattle.gl_box.specs.Tuple.{places_of};
 ghost use Rattle.gl_box.specs.Cell.{Covers, spans_of};
 ghost use Rattle.gl_goal.specs.declared.leg.Leg.{Leg};
-ghost use Rattle.gl_goal.specs.Rule.{Rule, IsDisordered, IsGoal, IsLegal, IsTuple, fix_at, value, whole_cell};
+ghost use Rattle.gl_goal.specs.Goal.{Goal, IsDisordered, IsGoal, IsLegal, IsTuple, fix_at, value, whole_cell};
 
 use crate::leg::Leg;
 use gl_box::{Cell, Tuple};
@@ -12,7 +12,7 @@ use gl_box::{Cell, Tuple};
 /// takes memory.
 pub trait Goal {
     /// The goal as the rules say it.
-    ghost rule: { Self → Rule };
+    ghost rule: { Self → Goal };
 
     /// The legs that a search has measured are legs of this goal, and there is room for one at
     /// least.

@@ -1,6 +1,6 @@
 ghost use Rattle.std.specs.Prelude.{◌≡◌, ◌<◌, ◌^◌, ◌*◌, ◌/◌, min, [], ◌∷◌};
 ghost use Rattle.gl_goal.specs.Fair.{is_fair, is_none_fair, most_of_fair};
-ghost use Rattle.gl_goal.specs.Round.{legs_of};
+ghost use Rattle.gl_goal.specs.Code.Round.{legs_of};
 
 use crate::round::Round;
 
@@ -49,7 +49,8 @@ pub(crate) fn are_fair(legs: &Round) -> bool
 /// Whether no legs between the least and the greatest ones are those of a triangle: the greatest
 /// have no length, or they rule out both rules. The rule of 28 percent is ruled out if one of the
 /// greatest is shorter than 28 percent of the least ones together; that of 25 to 45 percent if the
-/// greatest together are shorter than 750 km, or one of them is shorter than 25 percent of the least
+/// greatest together are shorter than 750 km, or one of them is shorter than 25 percent of the
+/// least
 /// ones together, or one of the least is longer than 45 percent of the greatest ones together.
 #[tactic(auto, unfolding(crate::specs::Fair::is_none_fair))]
 #[inline]

@@ -17,8 +17,7 @@ pub(crate) struct Lists {
 }
 
 impl Model for Lists {
-    ghost use Rattle.gl_goal.specs.Lists.{Listed};
-    ghost use Rattle.gl_goal.specs.Hulled.{AreHulled, lists_of};
+    ghost use Rattle.gl_goal.specs.Code.Lists.{Listed, AreHulled, lists_of};
 
     ghost Value = { Listed };
 
@@ -35,7 +34,7 @@ impl Axis {
     ghost use Rattle.std.specs.Arc.{arc_value};
     ghost use Rattle.std.specs.List.Sorted.{IsStrictlyIncreasing};
     ghost use Rattle.gl_goal.specs.Lists.{AreNamed};
-    ghost use Rattle.gl_goal.specs.Hulled.{IsHulled};
+    ghost use Rattle.gl_goal.specs.Code.Lists.{IsHulled};
 
     /// The axis with these numbers of fixes. The only error is want of memory.
     fn new(alloc: Global, fixes: &[Fix], numbers: Vec<u32>) -> Result<Axis, AllocError>
@@ -75,7 +74,7 @@ impl Lists {
     ghost use Rattle.gl_goal.specs.Chain.{fixes_at, greatest_legs, hulls_of, last_of, legs, points_of};
     ghost use Rattle.std.specs.List.Sorted.{IsStrictlyIncreasing};
     ghost use Rattle.gl_goal.specs.Lists.{AreLists, AreNamed};
-    ghost use Rattle.gl_goal.specs.Rule.{IsDisordered, IsInTimeOrder, IsTuple, chosen, fix_at, whole_cell};
+    ghost use Rattle.gl_goal.specs.Goal.{IsDisordered, IsInTimeOrder, IsTuple, chosen, fix_at, whole_cell};
 
     /// The lists with these numbers of fixes. The only error is want of memory.
     pub fn new(alloc: Global, fixes: &[Fix], lists: Vec<Vec<u32>>) -> Result<Lists, AllocError>

@@ -1,7 +1,7 @@
 ghost use Rattle.std.specs.Prelude.{◌≡◌, ◌<◌, ◌≤◌, IfOk};
 ghost use Rattle.gl_box.specs.Tuple.{places_of};
 ghost use Rattle.gl_goal.specs.Free.{numbers_between};
-ghost use Rattle.gl_goal.specs.Rule.{IsTuple, chosen};
+ghost use Rattle.gl_goal.specs.Goal.{IsTuple, chosen};
 
 use crate::goal::Goal;
 use gl_box::Tuple;

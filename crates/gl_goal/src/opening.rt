@@ -1,6 +1,6 @@
 ghost use Rattle.std.specs.Prelude.{◌≡◌, IfOk};
 ghost use Rattle.gl_box.specs.Cell.{spans_of};
-ghost use Rattle.gl_goal.specs.Rule.{whole_cell};
+ghost use Rattle.gl_goal.specs.Goal.{whole_cell};
 
 use crate::goal::Goal;
 use crate::leg::Leg;

@@ -2,8 +2,8 @@ ghost use Rattle.std.specs.Prelude.{◌≡◌, ◌<◌, ◌≤◌, ◌^◌, leng
 ghost use Rattle.gl_goal.specs.Out.{out_goal};
 ghost use Rattle.gl_goal.specs.OutGoal.{out_lists, out_rule};
 ghost use Rattle.gl_goal.specs.Lists.{AreLists};
-ghost use Rattle.gl_goal.specs.Rule.{IsGoal};
-ghost use Rattle.gl_goal.specs.Laws.Out.{out_goal-is_goal};
+ghost use Rattle.gl_goal.specs.Goal.{IsGoal};
+ghost use Rattle.gl_goal.specs.Lemmas.Out.{out_goal-is_goal};
 
 use crate::goal::Goal;
 use crate::leg::Leg;

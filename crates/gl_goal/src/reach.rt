@@ -1,5 +1,6 @@
 ghost use Rattle.std.specs.Prelude.{ℕ, ◌≡◌, ◌-◌, ◌≤◌, ◌<◌, length, IfOk, MatchOption};
-ghost use Rattle.gl_goal.specs.Reach.{AreReaches, IsNoneBehind, IsReach};
+ghost use Rattle.gl_goal.specs.Code.Round.{AreReaches, IsNoneBehind};
+ghost use Rattle.gl_goal.specs.Reach.{IsReach};
 
 use gl_box::Span;
 use gl_hull::Hulls;

@@ -15,7 +15,7 @@ impl Round {
     ghost use Rattle.std.specs.Prelude.{◌≡◌, ◌+◌};
     ghost use Rattle.std.specs.List.{sum};
     ghost use Rattle.gl_goal.specs.Fair.{none_above, none_below, some_above, some_below};
-    ghost use Rattle.gl_goal.specs.Round.{legs_of};
+    ghost use Rattle.gl_goal.specs.Code.Round.{legs_of};
 
     /// All three legs together.
     pub fn length(&self) -> u64

@@ -5,9 +5,11 @@ ghost use Rattle.gl_goal.specs.Triangle.{three_axes};
 
 use crate::lists::Lists;
 
-/// The triangle over some fixes of a recording: three fixes in time order with fair legs, worth these
+/// The triangle over some fixes of a recording: three fixes in time order with fair legs, worth
+/// these
 /// legs. By the rule of 28 percent none of the legs is shorter than 28 percent of all three; by the
-/// rule of large triangles all three are 750 km or longer, and each is 25 to 45 percent of them. The
+/// rule of large triangles all three are 750 km or longer, and each is 25 to 45 percent of them.
+/// The
 /// flight over these fixes has to close: a fix at the first of the three or before and one at the
 /// third or later are at most `closing` centimetres apart.
 #[derive(Debug, Drop)]

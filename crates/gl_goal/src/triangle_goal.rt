@@ -5,11 +5,11 @@ ghost use Rattle.gl_hull.specs.Hull.{box_of};
 ghost use Rattle.gl_goal.specs.Chain.{distance, fixes_at, greatest_distance, hulls_of, least_distance, points_of};
 ghost use Rattle.gl_goal.specs.Free.{fixes_between};
 ghost use Rattle.gl_goal.specs.Reach.{IsReach};
-ghost use Rattle.gl_goal.specs.Round.{legs_of};
-ghost use Rattle.gl_goal.specs.Rule.{IsGoal, IsTuple, chosen, whole_cell};
+ghost use Rattle.gl_goal.specs.Code.Round.{legs_of};
+ghost use Rattle.gl_goal.specs.Goal.{IsGoal, IsTuple, chosen, whole_cell};
 ghost use Rattle.gl_goal.specs.Triangle.{around, closes, three_axes, triangle_goal};
 ghost use Rattle.gl_goal.specs.TriangleGoal.{triangle_rule};
-ghost use Rattle.gl_goal.specs.Laws.Triangle.{triangle_goal-is_goal};
+ghost use Rattle.gl_goal.specs.Lemmas.Triangle.{triangle_goal-is_goal};
 
 use crate::goal::Goal;
 use crate::leg::Leg;

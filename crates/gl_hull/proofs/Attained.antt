@@ -11,7 +11,7 @@ use Rattle.gl_sphere.specs.Sphere.{radius}
 use Rattle.gl_hull.specs.Box.{Box, IsBetween}
 use Rattle.gl_hull.specs.Chords.{reach, gap, squared, greatest_chord, least_chord, IsChord, IsGreatestChord, IsLeastChord}
 use Rattle.gl_hull.specs.Hull.{box_of}
-use Rattle.gl_hull.specs.Laws.Chords.{squared_chord-at_most, squared_chord-at_least}
+use Rattle.gl_hull.proofs.ChordBounds.{squared_chord-at_most, squared_chord-at_least}
 use Rattle.gl_hull.specs.declared.hull.Hull.{Hull}
 
 -- two values between these ends differ by n
@@ -26,8 +26,20 @@ pub reach-attained : (one other : ℤ × ℤ) → one.0 ≤ℤ one.1 → other.0
 unfolding reach
 reach-attained one other h k =
     ⊎_elim
-    (λ (lt : unsigned_abs (one.1 -ℤ other.0) < unsigned_abs (other.1 -ℤ one.0)). record { from = one.0; to = other.1; from_between = (omega (arith, ints), h); to_between = (k, omega (arith, ints)); is = omega (arith, ints) })
-    (λ (ge : unsigned_abs (other.1 -ℤ one.0) ≤ unsigned_abs (one.1 -ℤ other.0)). record { from = one.1; to = other.0; from_between = (h, omega (arith, ints)); to_between = (omega (arith, ints), k); is = omega (arith, ints) })
+    (λ (lt : unsigned_abs (one.1 -ℤ other.0) < unsigned_abs (other.1 -ℤ one.0)). record {
+      from = one.0;
+      to = other.1;
+      from_between = (omega (arith, ints), h);
+      to_between = (k, omega (arith, ints));
+      is = omega (arith, ints);
+    })
+    (λ (ge : unsigned_abs (other.1 -ℤ one.0) ≤ unsigned_abs (one.1 -ℤ other.0)). record {
+      from = one.1;
+      to = other.0;
+      from_between = (h, omega (arith, ints));
+      to_between = (omega (arith, ints), k);
+      is = omega (arith, ints);
+    })
     (cases_lt (unsigned_abs (one.1 -ℤ other.0)) (unsigned_abs (other.1 -ℤ one.0)))
 
 before-or-not : (a b : ℤ) → (a <ℤ b) ⊎ (b ≤ℤ a)
@@ -94,13 +106,15 @@ squared_gap-is : (p q : ℤ) (n : ℕ) → unsigned_abs (p -ℤ q) ≡ n → squ
 unfolding squared_gap
 squared_gap-is p q n is = ap squared is
 
-squared_chord-is : (from to : Vec3) (x y z : ℕ) → unsigned_abs (from.x -ℤ to.x) ≡ x → unsigned_abs (from.y -ℤ to.y) ≡ y → unsigned_abs (from.z -ℤ to.z) ≡ z → squared_chord from to ≡ squared x + squared y + squared z
+squared_chord-is : (from to : Vec3) (x y z : ℕ) → unsigned_abs (from.x -ℤ to.x) ≡ x → unsigned_abs (from.y -ℤ to.y) ≡ y → unsigned_abs (from.z -ℤ to.z) ≡ z
+    → squared_chord from to ≡ squared x + squared y + squared z
 unfolding squared_chord
 squared_chord-is from to x y z x_is y_is z_is =
     omega (arith, squared_gap-is from.x to.x x x_is, squared_gap-is from.y to.y y y_is, squared_gap-is from.z to.z z z_is)
 
 -- the points whose components differ by these numbers
-chord-of : (a b : Hull) (x y z : ℕ) → IsDifference (box_of a).x (box_of b).x x → IsDifference (box_of a).y (box_of b).y y → IsDifference (box_of a).z (box_of b).z z → IsChord (box_of a) (box_of b) (squared x + squared y + squared z)
+chord-of : (a b : Hull) (x y z : ℕ) → IsDifference (box_of a).x (box_of b).x x → IsDifference (box_of a).y (box_of b).y y → IsDifference (box_of a).z (box_of b).z z
+    → IsChord (box_of a) (box_of b) (squared x + squared y + squared z)
 chord-of a b x y z along_x along_y along_z =
     let from : Vec3 = record {
       x = along_x.from;
@@ -129,12 +143,14 @@ chord-of a b x y z along_x along_y along_z =
 pub greatest_chord-attained : (a b : Hull) → IsChord (box_of a) (box_of b) (greatest_chord (box_of a) (box_of b))
 unfolding greatest_chord
 greatest_chord-attained a b =
-    chord-of a b _ _ _ (reach-attained (box_of a).x (box_of b).x a.x_ordered b.x_ordered) (reach-attained (box_of a).y (box_of b).y a.y_ordered b.y_ordered) (reach-attained (box_of a).z (box_of b).z a.z_ordered b.z_ordered)
+    chord-of a b _ _ _ (reach-attained (box_of a).x (box_of b).x a.x_ordered b.x_ordered) (reach-attained (box_of a).y (box_of b).y a.y_ordered b.y_ordered)
+    (reach-attained (box_of a).z (box_of b).z a.z_ordered b.z_ordered)
 
 pub least_chord-attained : (a b : Hull) → IsChord (box_of a) (box_of b) (least_chord (box_of a) (box_of b))
 unfolding least_chord
 least_chord-attained a b =
-    chord-of a b _ _ _ (gap-attained (box_of a).x (box_of b).x a.x_ordered b.x_ordered) (gap-attained (box_of a).y (box_of b).y a.y_ordered b.y_ordered) (gap-attained (box_of a).z (box_of b).z a.z_ordered b.z_ordered)
+    chord-of a b _ _ _ (gap-attained (box_of a).x (box_of b).x a.x_ordered b.x_ordered) (gap-attained (box_of a).y (box_of b).y a.y_ordered b.y_ordered)
+    (gap-attained (box_of a).z (box_of b).z a.z_ordered b.z_ordered)
 
 -- the chords, by the squares along each axis
 pub greatest_chord-is : (one other : Box) (x y z : ℕ) → x ≡ squared (reach one.x other.x) → y ≡ squared (reach one.y other.y) → z ≡ squared (reach one.z other.z) → x + y + z ≡ greatest_chord one other
@@ -146,7 +162,8 @@ unfolding least_chord
 least_chord-is one other x y z x_is y_is z_is = cc
 
 -- what is measured between extents with these ends
-pub between_ends : (f : ℤ × ℤ → ℤ × ℤ → ℕ) (lo hi from to : ℤ) (one other : ℤ × ℤ) (n : ℕ) → n ≡ squared (f (lo, hi) (from, to)) → lo ≡ one.0 → hi ≡ one.1 → from ≡ other.0 → to ≡ other.1 → n ≡ squared (f one other)
+pub between_ends : (f : ℤ × ℤ → ℤ × ℤ → ℕ) (lo hi from to : ℤ) (one other : ℤ × ℤ) (n : ℕ) → n ≡ squared (f (lo, hi) (from, to)) → lo ≡ one.0 → hi ≡ one.1 → from ≡ other.0 → to ≡ other.1
+    → n ≡ squared (f one other)
 between_ends f lo hi from to one other n is lo_is hi_is from_is to_is =
     is ∙ ap squared (λ i. f (lo_is i, hi_is i) (from_is i, to_is i))
 

@@ -12,7 +12,8 @@ use Rattle.gl_hull.specs.declared.entry.Entry.{Entry}
 same-ends : (a b d e : ℕ) → true ≡ (eqb a d && eqb b e) → (a ≡ d) × (b ≡ e)
 same-ends a b d e same = (grind (arith, nat_tests), grind (arith, nat_tests))
 
-pub entry-serves : (fixes seen : List Fix) (entry : Entry) (span : Span) → fixes ≡ seen → true ≡ (eqb entry.span.lo span.lo && eqb entry.span.hi span.hi) → IsEntry fixes entry → IsLeastBox (box_of entry.hull) (fixes_in seen (ends span))
+pub entry-serves : (fixes seen : List Fix) (entry : Entry) (span : Span) → fixes ≡ seen → true ≡ (eqb entry.span.lo span.lo && eqb entry.span.hi span.hi) → IsEntry fixes entry
+    → IsLeastBox (box_of entry.hull) (fixes_in seen (ends span))
 entry-serves fixes seen entry span view same is =
     let both = same-ends entry.span.lo entry.span.hi span.lo span.hi same in
     let P : List Fix → Type 0 = IsLeastBox (box_of entry.hull) in

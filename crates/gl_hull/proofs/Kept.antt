@@ -1,12 +1,12 @@
 -- What a machine keeps of the components of points and of their differences.
 use Rattle.std.proofs.Common.{◌≡◌, ◌<◌, ◌^◌, ℤ, pos, neg_ℤ, ◌≤ℤ◌, ◌-ℤ◌, to_z, of_z, w32, ap, sym, subst, ◌∙◌, arith}
-use Rattle.std.specs.Prelude.{unsigned_abs}
+use Rattle.std.specs.Prelude.{unsigned_abs, int_lt}
 use lib.Signed.{mag}
 use Rattle.std.specs.Int.{int_min, int_max}
 use Rattle.std.proofs.lemmas.Int.{ints, to_z-of_z, int_max_is}
 use Rattle.std.proofs.lemmas.Bool.{cond_both}
-use Rattle.std.specs.Prelude.{int_lt}
-use Rattle.gl_sphere.specs.Laws.Signs.{abs_at_most, gap_at_most}
+use Rattle.gl_sphere.specs.Lemmas.Signs.{abs_at_most}
+use Rattle.gl_sphere.proofs.Signs.{gap_at_most}
 use Rattle.gl_sphere.specs.Range.{IsWithin}
 use Rattle.gl_sphere.specs.Sphere.{radius}
 
@@ -50,10 +50,13 @@ altitude-within lo hi low ordered high =
     ((omega (arith, ints), omega (arith, ints)), (omega (arith, ints), omega (arith, ints)))
 
 -- the greater of two differences, as the machine finds it
-pub greater-kept : (a b d e r : ℤ) → IsWithin radius a → IsWithin radius b → IsWithin radius d → IsWithin radius e → r ≡ int_max (to_z w32 (of_z w32 (to_z w32 (of_z w32 a) -ℤ to_z w32 (of_z w32 b)))) (to_z w32 (of_z w32 (to_z w32 (of_z w32 d) -ℤ to_z w32 (of_z w32 e)))) → to_z w32 (of_z w32 r) ≡ int_max (a -ℤ b) (d -ℤ e)
+pub greater-kept : (a b d e r : ℤ) → IsWithin radius a → IsWithin radius b → IsWithin radius d → IsWithin radius e
+    → r ≡ int_max (to_z w32 (of_z w32 (to_z w32 (of_z w32 a) -ℤ to_z w32 (of_z w32 b)))) (to_z w32 (of_z w32 (to_z w32 (of_z w32 d) -ℤ to_z w32 (of_z w32 e))))
+    → to_z w32 (of_z w32 r) ≡ int_max (a -ℤ b) (d -ℤ e)
 greater-kept a b d e r a_in b_in d_in e_in is =
     let small : unsigned_abs (int_max (a -ℤ b) (d -ℤ e)) < 2 ^ 31 = omega (arith, ints, int_max_is (a -ℤ b) (d -ℤ e), gap_at_most a b radius a_in b_in, gap_at_most d e radius d_in e_in) in
-    ap (λ z. to_z w32 (of_z w32 z)) (is ∙ ap (λ z. int_max z (to_z w32 (of_z w32 (to_z w32 (of_z w32 d) -ℤ to_z w32 (of_z w32 e))))) (difference-kept a b a_in b_in) ∙ ap (int_max (a -ℤ b)) (difference-kept d e d_in e_in))
+    ap (λ z. to_z w32 (of_z w32 z)) (is ∙ ap (λ z. int_max z (to_z w32 (of_z w32 (to_z w32 (of_z w32 d) -ℤ to_z w32 (of_z w32 e))))) (difference-kept a b a_in b_in)
+    ∙ ap (int_max (a -ℤ b)) (difference-kept d e d_in e_in))
     ∙ small-kept (int_max (a -ℤ b) (d -ℤ e)) small
 
 -- a number that the machine holds

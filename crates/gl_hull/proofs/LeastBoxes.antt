@@ -4,7 +4,7 @@ use Rattle.std.specs.Prelude.{All, Contains}
 use Rattle.std.proofs.lemmas.Int.{ints}
 use Rattle.gl_igc.specs.declared.fix.Fix.{Fix}
 use Rattle.gl_hull.specs.Box.{AreEnds, Box, IsBetween, IsLeastBox, ends_of, hull_of}
-use Rattle.gl_hull.specs.Laws.Boxes.{ends_of-are_ends}
+use Rattle.gl_hull.proofs.Boxes.{ends_of-are_ends}
 
 -- what holds of each value holds of one that is among them
 of-reached : (P : ℤ → Type 0) (values : List ℤ) (value : ℤ) → All P values → Contains values value → P value
@@ -16,8 +16,10 @@ same-order a b h k = omega (arith, ints)
 -- two pairs of ends of the same values are the same
 AreEnds-unique : (one other : ℤ × ℤ) (values : List ℤ) → AreEnds one values → AreEnds other values → one ≡ other
 AreEnds-unique one other values h k =
-    let low : one.0 ≡ other.0 = same-order one.0 other.0 (of-reached (IsBetween one) values other.0 h.between k.lower_reached).0 (of-reached (IsBetween other) values one.0 k.between h.lower_reached).0 in
-    let high : one.1 ≡ other.1 = same-order one.1 other.1 (of-reached (IsBetween other) values one.1 k.between h.upper_reached).1 (of-reached (IsBetween one) values other.1 h.between k.upper_reached).1 in
+    let low : one.0 ≡ other.0 = same-order one.0 other.0 (of-reached (IsBetween one) values other.0 h.between k.lower_reached).0
+    (of-reached (IsBetween other) values one.0 k.between h.lower_reached).0 in
+    let high : one.1 ≡ other.1 = same-order one.1 other.1 (of-reached (IsBetween other) values one.1 k.between h.upper_reached).1
+    (of-reached (IsBetween one) values other.1 h.between k.upper_reached).1 in
     λ i. (low i, high i)
 
 some-of : (ends : ℤ × ℤ) (values : List ℤ) → AreEnds ends values → 0 < length values

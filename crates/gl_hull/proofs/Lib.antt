@@ -1,7 +1,10 @@
 pub mod Attained
+pub mod Boxes
+pub mod ChordBounds
 pub mod Ends
 pub mod Entries
 pub mod Gaps
+pub mod Held
 pub mod Kept
 pub mod LeastBoxes
 pub mod Nearest

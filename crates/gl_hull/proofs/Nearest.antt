@@ -11,9 +11,10 @@ use Rattle.gl_sphere.specs.Distance.{arc_over, floor_root, squared_chord, square
 use Rattle.gl_igc.specs.declared.fix.Fix.{Fix}
 use Rattle.gl_hull.specs.Box.{Box, IsBetween, IsInside, fixes_in, hull_of, point_box}
 use Rattle.gl_hull.specs.Chords.{IsChord, least_chord}
-use Rattle.gl_hull.specs.Near.{IsLastNear, IsLastNearBox, IsNear, IsNearBox, IsNoneNear, IsNoneNearBox, both}
-use Rattle.gl_hull.specs.Laws.Chords.{squared_chord-at_least}
-use Rattle.gl_hull.specs.Laws.Held.{fix_box, hull_of-holds, hull_of-single, named, point_box-inside}
+use Rattle.gl_hull.specs.Near.{IsLastNear, IsLastNearBox, IsNear, IsNearBox, IsNoneNear, IsNoneNearBox}
+use Rattle.gl_hull.specs.Code.Boxes.{both}
+use Rattle.gl_hull.proofs.ChordBounds.{squared_chord-at_least}
+use Rattle.gl_hull.proofs.Held.{fix_box, hull_of-holds, hull_of-single, named, point_box-inside}
 use Rattle.gl_hull.proofs.Spans.{fixes_in-single}
 
 -- what is known of the last place near a point that was found, if one was
@@ -46,7 +47,8 @@ longer-far square limit long =
     let root = IsRoot-floor_root square in
     ⊎_elim
     (λ (above : limit < floor_root square). omega (arith, above, arc-at_least (floor_root square)))
-    (λ (most : floor_root square ≤ limit). let p : (floor_root square + 1) * (floor_root square + 1) ≤ (limit + 1) * (limit + 1) = mul-le-mul (omega (arith, most)) (omega (arith, most)) in absurd (omega (arith, p, long, root.next_square_above)))
+    (λ (most : floor_root square ≤ limit). let p : (floor_root square + 1) * (floor_root square + 1) ≤ (limit + 1) * (limit + 1) = mul-le-mul (omega (arith, most)) (omega (arith, most)) in
+    absurd (omega (arith, p, long, root.next_square_above)))
     (cases_lt limit (floor_root square))
 
 -- no fix of a span is nearer than its hull
@@ -78,7 +80,8 @@ same-chord a b p q one other =
 
 -- where some point of a box and some point of the hull of a single fix have this chord, the fix is
 -- that near to the box
-single-near : (fixes : List Fix) (box : Box) (limit lo hi : ℕ) (chord : ℕ) (fix : Fix) → slice_get fixes lo ≡ Some fix → lo ≡ hi → fixes_in fixes (lo, lo) ≡ fix ∷ [] → IsChord box (hull_of (fixes_in fixes (lo, hi))) chord → written_distance chord ≤ limit → IsNearBox fixes box limit lo
+single-near : (fixes : List Fix) (box : Box) (limit lo hi : ℕ) (chord : ℕ) (fix : Fix) → slice_get fixes lo ≡ Some fix → lo ≡ hi → fixes_in fixes (lo, lo) ≡ fix ∷ []
+    → IsChord box (hull_of (fixes_in fixes (lo, hi))) chord → written_distance chord ≤ limit → IsNearBox fixes box limit lo
 single-near fixes box limit lo hi chord fix there same one reached near =
     let P : Box → Type 0 = λ hull. IsInside hull reached.to in
     let hull : hull_of (fixes_in fixes (lo, hi)) ≡ fix_box fix = ap (λ n. hull_of (fixes_in fixes (lo, n))) (sym same) ∙ ap hull_of one ∙ hull_of-single fix in
@@ -90,7 +93,8 @@ single-near fixes box limit lo hi chord fix there same one reached near =
       near = record { fix = fix; there = there; near = omega (arith, near, ap written_distance is) };
     }
 
-pub single-last : (fixes : List Fix) (box : Box) (limit lo hi from to chord : ℕ) → hi < length fixes → lo ≡ hi → from ≤ lo → lo ≤ to → IsChord box (hull_of (fixes_in fixes (lo, hi))) chord → written_distance chord ≤ limit → IsLastNearBox fixes box limit (both (lo, hi) (from, to)) lo
+pub single-last : (fixes : List Fix) (box : Box) (limit lo hi from to chord : ℕ) → hi < length fixes → lo ≡ hi → from ≤ lo → lo ≤ to → IsChord box (hull_of (fixes_in fixes (lo, hi))) chord
+    → written_distance chord ≤ limit → IsLastNearBox fixes box limit (both (lo, hi) (from, to)) lo
 single-last fixes box limit lo hi from to chord within same low high reached near =
     let fix = named fixes lo (omega arith) in
     let one = fixes_in-single fixes lo fix.0 (omega arith) ∙ ap (λ f. f ∷ []) (get_or_from_slice_get fixes lo fix.0 fix.0 fix.1) in
@@ -101,7 +105,8 @@ single-last fixes box limit lo hi from to chord within same low high reached nea
     }
 
 -- what is last in the lower half is last where the upper half has none
-lower-last : (fixes : List Fix) (box : Box) (limit lo middle hi from to place : ℕ) → middle ≤ hi → IsNoneNearBox fixes box limit (both (middle + 1, hi) (from, to)) → IsLastNearBox fixes box limit (both (lo, middle) (from, to)) place → IsLastNearBox fixes box limit (both (lo, hi) (from, to)) place
+lower-last : (fixes : List Fix) (box : Box) (limit lo middle hi from to place : ℕ) → middle ≤ hi → IsNoneNearBox fixes box limit (both (middle + 1, hi) (from, to))
+    → IsLastNearBox fixes box limit (both (lo, middle) (from, to)) place → IsLastNearBox fixes box limit (both (lo, hi) (from, to)) place
 lower-last fixes box limit lo middle hi from to place high none lower = record {
   within = (lower.within.0, omega (arith, lower.within.1));
   near = lower.near;
@@ -112,7 +117,8 @@ lower-last fixes box limit lo middle hi from to place high none lower = record {
       (cases_lt middle later);
 }
 
-neither-near : (fixes : List Fix) (box : Box) (limit lo middle hi from to : ℕ) → middle ≤ hi → IsNoneNearBox fixes box limit (both (middle + 1, hi) (from, to)) → IsNoneNearBox fixes box limit (both (lo, middle) (from, to)) → IsNoneNearBox fixes box limit (both (lo, hi) (from, to))
+neither-near : (fixes : List Fix) (box : Box) (limit lo middle hi from to : ℕ) → middle ≤ hi → IsNoneNearBox fixes box limit (both (middle + 1, hi) (from, to))
+    → IsNoneNearBox fixes box limit (both (lo, middle) (from, to)) → IsNoneNearBox fixes box limit (both (lo, hi) (from, to))
 neither-near fixes box limit lo middle hi from to high upper lower place inside near =
     ⊎_elim
     (λ (above : middle < place). upper place (omega (arith, inside.0), inside.1) near)
@@ -120,14 +126,16 @@ neither-near fixes box limit lo middle hi from to high upper lower place inside 
     (cases_lt middle place)
 
 -- what is found in the lower half is found where the upper half has none
-pub lower-found : (fixes : List Fix) (box : Box) (limit lo middle hi from to : ℕ) (found : Option ℕ) → middle ≤ hi → IsNoneNearBox fixes box limit (both (middle + 1, hi) (from, to)) → IsFoundBox fixes box limit (both (lo, middle) (from, to)) found → IsFoundBox fixes box limit (both (lo, hi) (from, to)) found
+pub lower-found : (fixes : List Fix) (box : Box) (limit lo middle hi from to : ℕ) (found : Option ℕ) → middle ≤ hi → IsNoneNearBox fixes box limit (both (middle + 1, hi) (from, to))
+    → IsFoundBox fixes box limit (both (lo, middle) (from, to)) found → IsFoundBox fixes box limit (both (lo, hi) (from, to)) found
 lower-found fixes box limit lo middle hi from to None high upper lower =
     neither-near fixes box limit lo middle hi from to high upper lower
 lower-found fixes box limit lo middle hi from to (Some place) high upper lower =
     lower-last fixes box limit lo middle hi from to place high upper lower
 
 -- a span has all its places in common with the whole
-pub whole-found : (fixes : List Fix) (box : Box) (limit lo hi from to : ℕ) (found : Option ℕ) → lo ≡ 0 → hi + 1 ≡ length fixes → to < length fixes → IsFoundBox fixes box limit (both (lo, hi) (from, to)) found → IsFoundBox fixes box limit (from, to) found
+pub whole-found : (fixes : List Fix) (box : Box) (limit lo hi from to : ℕ) (found : Option ℕ) → lo ≡ 0 → hi + 1 ≡ length fixes → to < length fixes
+    → IsFoundBox fixes box limit (both (lo, hi) (from, to)) found → IsFoundBox fixes box limit (from, to) found
 whole-found fixes box limit lo hi from to found low high within is =
     let first : max lo from ≡ from = omega arith in
     let last : min hi to ≡ to = omega arith in
@@ -163,7 +171,8 @@ point-found fixes point limit span (Some place) is = record {
 }
 
 -- what is found near the box of a point, is found near the point
-pub box_of_point-found : (fixes : List Fix) (box : Box) (point : Vec3) (limit : ℕ) (span : ℕ × ℕ) (found : Option ℕ) → box ≡ point_box point → IsFoundBox fixes box limit span found → IsFound fixes point limit span found
+pub box_of_point-found : (fixes : List Fix) (box : Box) (point : Vec3) (limit : ℕ) (span : ℕ × ℕ) (found : Option ℕ) → box ≡ point_box point → IsFoundBox fixes box limit span found
+    → IsFound fixes point limit span found
 box_of_point-found fixes box point limit span found is near =
     let P : Box → Type 0 = λ b. IsFoundBox fixes b limit span found in
     point-found fixes point limit span found (subst P is near)

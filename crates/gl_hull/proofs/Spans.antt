@@ -19,7 +19,8 @@ fixes_in-parts fixes lo middle hi low high =
     ∙ ap (λ rest. take (middle + 1 - lo) (drop lo fixes) ++ take (hi + 1 - (middle + 1)) rest) (drop-drop (middle + 1 - lo) lo fixes ∙ ap (λ n. drop n fixes) later)
 
 -- the box of a fix is that of its place
-pub single-least : (box : Box) (fixes : List Fix) (lo hi : ℕ) (fix : Fix) → lo ≡ hi → lo < length fixes → fix ≡ get_or fixes lo fix → IsLeastBox box (fix ∷ []) → IsLeastBox box (fixes_in fixes (lo, hi))
+pub single-least : (box : Box) (fixes : List Fix) (lo hi : ℕ) (fix : Fix) → lo ≡ hi → lo < length fixes → fix ≡ get_or fixes lo fix → IsLeastBox box (fix ∷ [])
+    → IsLeastBox box (fixes_in fixes (lo, hi))
 single-least box fixes lo hi fix same below is least =
     let P : List Fix → Type 0 = IsLeastBox box in
     let one : fix ∷ [] ≡ fixes_in fixes (lo, lo) = ap (λ f. f ∷ []) is ∙ sym (fixes_in-single fixes lo fix below) in

@@ -1,5 +1,5 @@
 -- The least box that holds some fixes.
-use Rattle.std.specs.Prelude.{ℕ, ◌+◌, ℤ, pos, ◌≤ℤ◌, List, [], ◌∷◌, ◌++◌, map, fold, slice_range, All, Contains}
+use Rattle.std.specs.Prelude.{ℕ, ◌+◌, ℤ, pos, ◌≤ℤ◌, List, [], ◌∷◌, map, fold, slice_range, All, Contains}
 use Rattle.std.specs.Int.{int_min, int_max}
 use Rattle.gl_sphere.specs.declared.place.Vec3.{Vec3}
 use Rattle.gl_igc.specs.declared.fix.Fix.{Fix}
@@ -61,9 +61,3 @@ pub record IsLeastBox (box : Box) (fixes : List Fix) : Type 0 where
   pub y : AreEnds box.y (map (λ fix. fix.at.y) fixes)
   pub z : AreEnds box.z (map (λ fix. fix.at.z) fixes)
   pub alt : AreEnds box.alt (map (λ fix. fix.alt) fixes)
-
--- whatever fixes two boxes are the least ones of, this box is the least one of all these fixes
-abbrev pub Joins : Box → Box → Box → Type 0
-Joins one other both =
-    (fixes more : List Fix) → IsLeastBox one fixes → IsLeastBox other more
-    → IsLeastBox both (fixes ++ more)

@@ -1,7 +1,7 @@
 pub mod Box
 pub mod Chords
+pub mod Code
 pub mod Hull
-pub mod Laws
 pub mod Near
 pub mod Table
 pub use Rattle.gl_box.specs.Cell

@@ -1,5 +1,5 @@
 -- Which fixes of a list are near a point or a box, and the last of them in a span.
-use Rattle.std.specs.Prelude.{◌≡◌, ℕ, ◌≤◌, ◌<◌, max, min, List, Some, slice_get}
+use Rattle.std.specs.Prelude.{◌≡◌, ℕ, ◌≤◌, ◌<◌, List, Some, slice_get}
 use Rattle.gl_sphere.specs.declared.place.Vec3.{Vec3}
 use Rattle.gl_sphere.specs.Distance.{squared_chord, written_distance}
 use Rattle.gl_igc.specs.declared.fix.Fix.{Fix}
@@ -14,10 +14,6 @@ pub record IsNear (fixes : List Fix) (point : Vec3) (limit place : ℕ) : Type 0
 -- a place lies in a span, from its first place to its last
 abbrev pub IsPlaceOf : ℕ × ℕ → ℕ → Type 0
 IsPlaceOf span place = (span.0 ≤ place) × (place ≤ span.1)
-
--- the places that lie in both of two spans
-abbrev pub both : ℕ × ℕ → ℕ × ℕ → ℕ × ℕ
-both one other = (max one.0 other.0, min one.1 other.1)
 
 -- no place of a span is of a kind
 abbrev pub IsNoneOf : (ℕ → Type 0) → ℕ × ℕ → Type 0

@@ -23,7 +23,8 @@ pub struct Hull {
 
 impl Hull {
     ghost use Rattle.std.specs.Prelude.{◌≡◌, [], ◌∷◌};
-    ghost use Rattle.gl_hull.specs.Box.{IsLeastBox, Joins, point_box};
+    ghost use Rattle.gl_hull.specs.Box.{IsLeastBox, point_box};
+    ghost use Rattle.gl_hull.specs.Code.Boxes.{Joins};
     ghost use Rattle.gl_hull.specs.Hull.{box_of};
 
     /// The hull of a single point, at altitude 0.

@@ -87,7 +87,8 @@ impl Hulls {
     #[inline]
     pub fn kept(&self, span: Span) -> Option<&Hull>
         requires { span.hi < length self.now }
-        ensures { IfSome result (λ hull. box_of hull.now ≡ hull_of (fixes_in self.now (ends span))) }
+        ensures { IfSome result
+            (λ hull. box_of hull.now ≡ hull_of (fixes_in self.now (ends span))) }
     {
         let entry = &self.table[index_of(span)];
         if entry.span == span {

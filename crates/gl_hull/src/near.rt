@@ -3,7 +3,8 @@ ghost use Rattle.gl_box.specs.Cell.{ends};
 ghost use Rattle.gl_hull.specs.Box.{fixes_in, hull_of};
 ghost use Rattle.gl_hull.specs.Chords.{IsChord, least_chord};
 ghost use Rattle.gl_hull.specs.Hull.{box_of};
-ghost use Rattle.gl_hull.specs.Near.{IsLastNear, IsLastNearBox, IsNoneNear, IsNoneNearBox, both};
+ghost use Rattle.gl_hull.specs.Near.{IsLastNear, IsLastNearBox, IsNoneNear, IsNoneNearBox};
+ghost use Rattle.gl_hull.specs.Code.Boxes.{both};
 
 use crate::chords::min_sq;
 use crate::hull::Hull;
@@ -90,7 +91,8 @@ impl Hulls {
         ensures value { result
             ≡ least_chord (box_of from.now) (hull_of (fixes_in self.now (ends span))) }
         ensures bound { result ≤ GREATEST_SQUARE }
-        ensures reached { IsChord (box_of from.now) (hull_of (fixes_in self.now (ends span))) result }
+        ensures reached { IsChord (box_of from.now)
+            (hull_of (fixes_in self.now (ends span))) result }
     {
         match self.kept(span) {
             Some(hull) => min_sq(from, hull),

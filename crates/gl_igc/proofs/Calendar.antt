@@ -29,7 +29,8 @@ none_is None is = refl
 none_is (Some x) is = absurd (false≢true (sym is))
 
 -- an answer by the library's condition is the day's number
-pub day_number_is : (year month day : ℕ) (answer : Option ℤ) → year < 2_100 → (IsDate (pos year) (pos month) (pos day) → answer ≡ Some (days_from_civil (pos year) month day)) → ((IsDate (pos year) (pos month) (pos day) → ⊥) → IsNone answer) → answer ≡ day_number year month day
+pub day_number_is : (year month day : ℕ) (answer : Option ℤ) → year < 2_100 → (IsDate (pos year) (pos month) (pos day) → answer ≡ Some (days_from_civil (pos year) month day))
+    → ((IsDate (pos year) (pos month) (pos day) → ⊥) → IsNone answer) → answer ≡ day_number year month day
 unfolding day_number
 day_number_is year month day answer recent some none = by_test (is_in_calendar year month day) refl
   where

@@ -32,7 +32,8 @@ places-length [] places is = let same : [] ≡ places = cc in sym (ap length sam
 places-length (line ∷ lines) places is =
     first (λ others rest_is. places-length lines others rest_is) (place_of_text (columns 2 18 line)) (places_of lines) refl is
   where
-    first : ((others : List (ℤ × ℤ)) → places_of lines ≡ Some others → length others ≡ length lines) → (place : Option (ℤ × ℤ)) (rest : Option (List (ℤ × ℤ))) → places_of lines ≡ rest → (place >>= λ place. rest >>= λ places. Some (place ∷ places)) ≡ Some places → length places ≡ suc (length lines)
+    first : ((others : List (ℤ × ℤ)) → places_of lines ≡ Some others → length others ≡ length lines) → (place : Option (ℤ × ℤ)) (rest : Option (List (ℤ × ℤ))) → places_of lines ≡ rest
+        → (place >>= λ place. rest >>= λ places. Some (place ∷ places)) ≡ Some places → length places ≡ suc (length lines)
     first long None rest rest_is is = absurd (cc)
     first long (Some place) None rest_is is = absurd (cc)
     first long (Some place) (Some others) rest_is is =
@@ -40,14 +41,17 @@ places-length (line ∷ lines) places is =
         omega (arith, ap length same, long others rest_is)
 
 -- one line more
-places-push : (lines : Lines) (line : List ℕ) (places : List (ℤ × ℤ)) (place : ℤ × ℤ) → places_of lines ≡ Some places → place_of_text (columns 2 18 line) ≡ Some place → places_of (lines ++ line ∷ []) ≡ Some (places ++ place ∷ [])
+places-push : (lines : Lines) (line : List ℕ) (places : List (ℤ × ℤ)) (place : ℤ × ℤ) → places_of lines ≡ Some places → place_of_text (columns 2 18 line) ≡ Some place
+    → places_of (lines ++ line ∷ []) ≡ Some (places ++ place ∷ [])
 places-push [] line places place is reads =
     let same : [] ≡ places = cc in
     rw (reads, ← same) refl
 places-push (x ∷ lines) line places place is reads =
     first (λ others rest_is. places-push lines line others place rest_is reads) (place_of_text (columns 2 18 x)) refl (places_of lines) refl is
   where
-    first : ((others : List (ℤ × ℤ)) → places_of lines ≡ Some others → places_of (lines ++ line ∷ []) ≡ Some (others ++ place ∷ [])) → (at : Option (ℤ × ℤ)) → place_of_text (columns 2 18 x) ≡ at → (rest : Option (List (ℤ × ℤ))) → places_of lines ≡ rest → (at >>= λ place. rest >>= λ places. Some (place ∷ places)) ≡ Some places → places_of (x ∷ lines ++ line ∷ []) ≡ Some (places ++ place ∷ [])
+    first : ((others : List (ℤ × ℤ)) → places_of lines ≡ Some others → places_of (lines ++ line ∷ []) ≡ Some (others ++ place ∷ [])) → (at : Option (ℤ × ℤ)) → place_of_text (columns 2 18 x) ≡ at
+        → (rest : Option (List (ℤ × ℤ))) → places_of lines ≡ rest → (at >>= λ place. rest >>= λ places. Some (place ∷ places)) ≡ Some places
+        → places_of (x ∷ lines ++ line ∷ []) ≡ Some (places ++ place ∷ [])
     first push None at_is rest rest_is is = absurd (cc)
     first push (Some at) at_is None rest_is is = absurd (cc)
     first push (Some at) at_is (Some others) rest_is is =
@@ -64,7 +68,8 @@ places-stop (x ∷ lines) line more damaged = rw (places-stop lines line more da
     none (Some place) = refl
 
 -- the declaration of a heading that counts
-declared-counted : (heading : List ℕ) (rest : Lines) (count : ℕ) → declared_count heading ≡ Some count → declared_by (heading ∷ rest) ≡ cond (nat_le count (length rest)) (places_of (take count rest)) None
+pub declared-counted : (heading : List ℕ) (rest : Lines) (count : ℕ) → declared_count heading ≡ Some count
+    → declared_by (heading ∷ rest) ≡ cond (nat_le count (length rest)) (places_of (take count rest)) None
 unfolding declared_by
 declared-counted heading rest count counted = rw counted refl
 
@@ -119,7 +124,8 @@ read-over count lines points line read full =
     }
 
 -- a line with a place
-pub read-more : (count : ℕ) (lines : Lines) (points : List Grid) (line : List ℕ) (point : Grid) → IsRead count lines points → length points < count → place_of_text (columns 2 18 line) ≡ Some (place_of point) → IsRead count (lines ++ line ∷ []) (points ++ point ∷ [])
+pub read-more : (count : ℕ) (lines : Lines) (points : List Grid) (line : List ℕ) (point : Grid) → IsRead count lines points → length points < count
+    → place_of_text (columns 2 18 line) ≡ Some (place_of point) → IsRead count (lines ++ line ∷ []) (points ++ point ∷ [])
 read-more count lines points line point read room reads =
     let long = points-length count lines points read in
     let short : length read.rest < count = omega (arith, length-take count read.rest) in
@@ -135,7 +141,8 @@ read-more count lines points line point read room reads =
     }
 
 -- a line whose place doesn't read
-pub read-stop : (count : ℕ) (lines : Lines) (points : List Grid) (line : List ℕ) → IsRead count lines points → length points < count → place_of_text (columns 2 18 line) ≡ None → (more : Lines) → declared_by ((lines ++ line ∷ []) ++ more) ≡ None
+pub read-stop : (count : ℕ) (lines : Lines) (points : List Grid) (line : List ℕ) → IsRead count lines points → length points < count → place_of_text (columns 2 18 line) ≡ None → (more : Lines)
+    → declared_by ((lines ++ line ∷ []) ++ more) ≡ None
 read-stop count lines points line read room damaged more =
     let long = points-length count lines points read in
     let short : length read.rest < count = omega (arith, length-take count read.rest) in
@@ -145,7 +152,8 @@ read-stop count lines points line read room damaged more =
     let front : take count (read.rest ++ line ∷ more) ≡ read.rest ++ line ∷ take (count - length read.rest - 1) more =
     ap (λ (k : ℕ). take k (read.rest ++ line ∷ more)) left ∙ take-append-add read.rest (line ∷ more) (suc (count - length read.rest - 1)) in
     let stop = ap places_of front ∙ places-stop read.rest line (take (count - length read.rest - 1) more) damaged in
-    ap declared_by all ∙ declared-counted read.heading (read.rest ++ line ∷ more) count read.counted ∙ tested (places_of (take count (read.rest ++ line ∷ more))) stop (nat_le count (length (read.rest ++ line ∷ more)))
+    ap declared_by all ∙ declared-counted read.heading (read.rest ++ line ∷ more) count read.counted
+    ∙ tested (places_of (take count (read.rest ++ line ∷ more))) stop (nat_le count (length (read.rest ++ line ∷ more)))
   where
     tested : (places : Option (List (ℤ × ℤ))) → places ≡ None → (b : Bool) → cond b places None ≡ None
     tested places none false = refl

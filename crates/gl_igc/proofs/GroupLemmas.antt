@@ -4,7 +4,7 @@ use Rattle.std.specs.Prelude.{option_map, codes}
 use Rattle.std.specs.Option.{option_or}
 use Rattle.std.proofs.lemmas.Bool.Decides.{nat_tests}
 use Rattle.gl_igc.specs.Extension.{Span, Group, Extension, span_of, group_of, groups_of}
-use Rattle.gl_igc.specs.Parts.{with_group, span_if}
+use Rattle.gl_igc.specs.Code.Parts.{with_group, span_if}
 use Rattle.std.specs.Prelude.{nat_eq}
 use Rattle.std.specs.List.{starts_with}
 use Rattle.gl_text.specs.Digits.{◌>>=◌}
@@ -21,7 +21,8 @@ or_none : (first : Option Span) → option_or first None ≡ first
 or_none None = refl
 or_none (Some span) = refl
 
-or_group : (code : List ℕ) (first : Option Span) (group : Group) (groups : List Group) → option_or first (span_of code (group ∷ groups)) ≡ option_or (option_or first (span_if code group)) (span_of code groups)
+or_group : (code : List ℕ) (first : Option Span) (group : Group) (groups : List Group)
+    → option_or first (span_of code (group ∷ groups)) ≡ option_or (option_or first (span_if code group)) (span_of code groups)
 or_group code (Some span) group groups = refl
 or_group code None group groups = tested (starts_with nat_eq group.code code)
   where
@@ -42,7 +43,8 @@ groups-done fields zero text none = ap Some (with_groups-nil fields)
 groups-done fields (suc n) text none = absurd (omega arith)
 
 -- one group more
-pub groups-more : (fields : Extension) (n m : ℕ) (text : List ℕ) (group : Group) → n ≡ suc m → group_of text ≡ Some group → option_map (with_groups fields) (groups_of n text) ≡ option_map (with_groups (with_group fields group)) (groups_of m (drop 7 text))
+pub groups-more : (fields : Extension) (n m : ℕ) (text : List ℕ) (group : Group) → n ≡ suc m → group_of text ≡ Some group
+    → option_map (with_groups fields) (groups_of n text) ≡ option_map (with_groups (with_group fields group)) (groups_of m (drop 7 text))
 groups-more fields n m text group more reads = rw (more, reads) (rest (groups_of m (drop 7 text)))
   where
     rest : (groups : Option (List Group)) → option_map (with_groups fields) (groups >>= λ groups. Some (group ∷ groups)) ≡ option_map (with_groups (with_group fields group)) groups

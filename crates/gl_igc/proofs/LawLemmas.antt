@@ -72,7 +72,8 @@ with_line-unnumbered number None used = refl
 with_line-unnumbered number (Some seen) used =
     rw (last_own-unnumbered used) (tested (may_follow (last_own used) (own_second (last_own used) seen.time)))
   where
-    tested : (b : Bool) → map unnumbered (cond b (record { line = number; own = own_second (last_own used) seen.time; seen = seen } ∷ used) used) ≡ cond b (record { line = 0; own = own_second (last_own used) seen.time; seen = seen } ∷ map unnumbered used) (map unnumbered used)
+    tested : (b : Bool) → map unnumbered (cond b (record { line = number; own = own_second (last_own used) seen.time; seen = seen } ∷ used) used)
+        ≡ cond b (record { line = 0; own = own_second (last_own used) seen.time; seen = seen } ∷ map unnumbered used) (map unnumbered used)
     tested true = refl
     tested false = refl
 
@@ -85,7 +86,8 @@ extension_below-without : (below above : Lines) (line : List ℕ) → extension_
 unfolding extension_below
 extension_below-without below above line none =
     let first : first_of extension_of_line (reverse (below ++ line ∷ above)) ≡ first_of extension_of_line (reverse (below ++ above)) =
-    ap (first_of extension_of_line) (between below above line) ∙ first_of-without extension_of_line (reverse above) (reverse below) line none ∙ ap (first_of extension_of_line) (sym (reverse-append below above)) in
+    ap (first_of extension_of_line) (between below above line) ∙ first_of-without extension_of_line (reverse above) (reverse below) line none
+    ∙ ap (first_of extension_of_line) (sym (reverse-append below above)) in
     ap (λ (first : Option Extension). unwrap_or first no_extension) first
 
 -- the used fixes upwards, without a line that is passed over
@@ -98,14 +100,18 @@ used-without (x ∷ below) above line over =
     let rest : Lines = below ++ line ∷ above in
     let rest' : Lines = below ++ above in
     let fields = extension_below-without below above line (no_extension_of line over.no_fields) in
-    with_line-unnumbered (length rest + 1) (observation_of (extension_below (reverse rest)) x) (used_upwards rest) ∙ ap (λ (used : List UsedFix). with_line 0 (observation_of (extension_below (reverse rest)) x) used) (used-without below above line over) ∙ ap (λ (fields : Extension). with_line 0 (observation_of fields x) (map unnumbered (used_upwards rest'))) fields ∙ sym (with_line-unnumbered (length rest' + 1) (observation_of (extension_below (reverse rest')) x) (used_upwards rest'))
+    with_line-unnumbered (length rest + 1) (observation_of (extension_below (reverse rest)) x) (used_upwards rest)
+    ∙ ap (λ (used : List UsedFix). with_line 0 (observation_of (extension_below (reverse rest)) x) used) (used-without below above line over)
+    ∙ ap (λ (fields : Extension). with_line 0 (observation_of fields x) (map unnumbered (used_upwards rest'))) fields
+    ∙ sym (with_line-unnumbered (length rest' + 1) (observation_of (extension_below (reverse rest')) x) (used_upwards rest'))
 
 events-without : (below above : Lines) (line : List ℕ) → IsPassedOver line → events_upwards (below ++ line ∷ above) ≡ events_upwards (below ++ above)
 unfolding events_upwards
 events-without [] above line over = rw (no_event_of line over.no_event) refl
 events-without (x ∷ below) above line over =
     let last = same_last (used_upwards (below ++ line ∷ above)) (used_upwards (below ++ above)) (used-without below above line over) in
-    ap (λ (last : Option ℕ). option_to_list (option_map (own_second last) (event_time x)) ++ events_upwards (below ++ line ∷ above)) last ∙ ap (λ (events : List ℕ). option_to_list (option_map (own_second (last_own (used_upwards (below ++ above)))) (event_time x)) ++ events) (events-without below above line over)
+    ap (λ (last : Option ℕ). option_to_list (option_map (own_second last) (event_time x)) ++ events_upwards (below ++ line ∷ above)) last
+    ∙ ap (λ (events : List ℕ). option_to_list (option_map (own_second (last_own (used_upwards (below ++ above)))) (event_time x)) ++ events) (events-without below above line over)
 
 map-reverse : {A B : Type 0} (f : A → B) (xs : List A) → map f (reverse xs) ≡ reverse (map f xs)
 map-reverse f [] = refl
@@ -115,12 +121,15 @@ map-reverse {B = B} f (x ∷ xs) =
 used_fixes-without : (above below : Lines) (line : List ℕ) → IsPassedOver line → map unnumbered (used_fixes (above ++ line ∷ below)) ≡ map unnumbered (used_fixes (above ++ below))
 unfolding used_fixes
 used_fixes-without above below line over =
-    map-reverse unnumbered (used_upwards (reverse (above ++ line ∷ below))) ∙ ap reverse (ap (λ (up : Lines). map unnumbered (used_upwards up)) (between above below line) ∙ used-without (reverse below) (reverse above) line over ∙ ap (λ (up : Lines). map unnumbered (used_upwards up)) (sym (reverse-append above below))) ∙ sym (map-reverse unnumbered (used_upwards (reverse (above ++ below))))
+    map-reverse unnumbered (used_upwards (reverse (above ++ line ∷ below)))
+    ∙ ap reverse (ap (λ (up : Lines). map unnumbered (used_upwards up)) (between above below line) ∙ used-without (reverse below) (reverse above) line over
+    ∙ ap (λ (up : Lines). map unnumbered (used_upwards up)) (sym (reverse-append above below))) ∙ sym (map-reverse unnumbered (used_upwards (reverse (above ++ below))))
 
 event_seconds-without : (above below : Lines) (line : List ℕ) → IsPassedOver line → event_seconds (above ++ line ∷ below) ≡ event_seconds (above ++ below)
 unfolding event_seconds
 event_seconds-without above below line over =
-    ap (λ (up : Lines). reverse (events_upwards up)) (between above below line) ∙ ap reverse (events-without (reverse below) (reverse above) line over) ∙ ap (λ (up : Lines). reverse (events_upwards up)) (sym (reverse-append above below))
+    ap (λ (up : Lines). reverse (events_upwards up)) (between above below line) ∙ ap reverse (events-without (reverse below) (reverse above) line over)
+    ∙ ap (λ (up : Lines). reverse (events_upwards up)) (sym (reverse-append above below))
 
 -- what a fix says doesn't tell the number of its line
 sightings : (shift : ℤ) (used : List UsedFix) → map (sighting_at shift) used ≡ map (sighting_at shift) (map unnumbered used)
@@ -140,18 +149,24 @@ reading_at-without date shift above below line over =
     rw (fixes, event_seconds-without above below line over, declared, counted, used-length-without above below line over) refl
 
 -- both lists have a fix at the place, or neither
-excess-without : (date shift : ℤ) (lines lines' : Lines) (fix fix' : Option UsedFix) → option_map unnumbered fix ≡ option_map unnumbered fix' → length (used_fixes lines) ≡ length (used_fixes lines') → reading_at date shift lines ≡ reading_at date shift lines' → without_number (reading_of_fixes fix date shift lines) ≡ without_number (reading_of_fixes fix' date shift lines')
+excess-without : (date shift : ℤ) (lines lines' : Lines) (fix fix' : Option UsedFix) → option_map unnumbered fix ≡ option_map unnumbered fix' → length (used_fixes lines) ≡ length (used_fixes lines')
+    → reading_at date shift lines ≡ reading_at date shift lines' → without_number (reading_of_fixes fix date shift lines) ≡ without_number (reading_of_fixes fix' date shift lines')
 unfolding reading_of_fixes
 excess-without date shift lines lines' None None same long reading = rw (long, reading) refl
 excess-without date shift lines lines' None (Some fix) same long reading = absurd (cc)
 excess-without date shift lines lines' (Some fix) None same long reading = absurd (cc)
 excess-without date shift lines lines' (Some fix) (Some fix') same long reading = refl
 
-fixes-without : (date shift : ℤ) (above below : Lines) (line : List ℕ) → IsPassedOver line → without_number (reading_of_fixes (slice_get (used_fixes (above ++ line ∷ below)) most_fixes) date shift (above ++ line ∷ below)) ≡ without_number (reading_of_fixes (slice_get (used_fixes (above ++ below)) most_fixes) date shift (above ++ below))
+fixes-without : (date shift : ℤ) (above below : Lines) (line : List ℕ) → IsPassedOver line
+    → without_number (reading_of_fixes (slice_get (used_fixes (above ++ line ∷ below)) most_fixes) date shift (above ++ line ∷ below))
+    ≡ without_number (reading_of_fixes (slice_get (used_fixes (above ++ below)) most_fixes) date shift (above ++ below))
 fixes-without date shift above below line over =
-    excess-without date shift (above ++ line ∷ below) (above ++ below) (slice_get (used_fixes (above ++ line ∷ below)) most_fixes) (slice_get (used_fixes (above ++ below)) most_fixes) (sym (slice_get-map unnumbered (used_fixes (above ++ line ∷ below)) most_fixes) ∙ ap (λ (used : List UsedFix). slice_get used most_fixes) (used_fixes-without above below line over) ∙ slice_get-map unnumbered (used_fixes (above ++ below)) most_fixes) (used-length-without above below line over) (reading_at-without date shift above below line over)
+    excess-without date shift (above ++ line ∷ below) (above ++ below) (slice_get (used_fixes (above ++ line ∷ below)) most_fixes) (slice_get (used_fixes (above ++ below)) most_fixes)
+    (sym (slice_get-map unnumbered (used_fixes (above ++ line ∷ below)) most_fixes) ∙ ap (λ (used : List UsedFix). slice_get used most_fixes) (used_fixes-without above below line over)
+    ∙ slice_get-map unnumbered (used_fixes (above ++ below)) most_fixes) (used-length-without above below line over) (reading_at-without date shift above below line over)
 
-day-without : (date task_day : Option ℤ) (above below : Lines) (line : List ℕ) → IsPassedOver line → without_number (reading_of_day date task_day (above ++ line ∷ below)) ≡ without_number (reading_of_day date task_day (above ++ below))
+day-without : (date task_day : Option ℤ) (above below : Lines) (line : List ℕ) → IsPassedOver line
+    → without_number (reading_of_day date task_day (above ++ line ∷ below)) ≡ without_number (reading_of_day date task_day (above ++ below))
 unfolding reading_of_day
 day-without None task_day above below line over = refl
 day-without (Some date) task_day above below line over =
@@ -161,19 +176,23 @@ day-without (Some date) task_day above below line over =
     tested true x y same = refl
     tested false x y same = same
 
-opening-without : (opening : Option Bool) (task_day : Option ℤ) (above below : Lines) (line : List ℕ) → IsPassedOver line → without_number (reading_of_opening opening task_day (above ++ line ∷ below)) ≡ without_number (reading_of_opening opening task_day (above ++ below))
+opening-without : (opening : Option Bool) (task_day : Option ℤ) (above below : Lines) (line : List ℕ) → IsPassedOver line
+    → without_number (reading_of_opening opening task_day (above ++ line ∷ below)) ≡ without_number (reading_of_opening opening task_day (above ++ below))
 unfolding reading_of_opening
 opening-without None task_day above below line over = refl
 opening-without (Some false) task_day above below line over = refl
 opening-without (Some true) task_day above below line over =
-    ap (λ (date : Option ℤ). without_number (reading_of_day date task_day (above ++ line ∷ below))) (first_of-without date_of_line above below line over.no_date) ∙ day-without (first_of date_of_line (above ++ below)) task_day above below line over
+    ap (λ (date : Option ℤ). without_number (reading_of_day date task_day (above ++ line ∷ below))) (first_of-without date_of_line above below line over.no_date)
+    ∙ day-without (first_of date_of_line (above ++ below)) task_day above below line over
 
 -- a line that is passed over can be left out
 pub left_out : (lines : Lines) (task_day : Option ℤ) → CanBeLeftOut lines task_day
 unfolding recording_of_lines
 left_out lines task_day = λ above below line is opened over.
     let opening = first_of-front opening_of_line above below (line ∷ below) opened in
-    ap (λ (opening : Option Bool). without_number (reading_of_opening opening task_day (above ++ below))) opening ∙ sym (opening-without (first_of opening_of_line (above ++ line ∷ below)) task_day above below line over) ∙ ap (λ (lines : Lines). without_number (reading_of_opening (first_of opening_of_line lines) task_day lines)) (sym is)
+    ap (λ (opening : Option Bool). without_number (reading_of_opening opening task_day (above ++ below))) opening
+    ∙ sym (opening-without (first_of opening_of_line (above ++ line ∷ below)) task_day above below line over)
+    ∙ ap (λ (lines : Lines). without_number (reading_of_opening (first_of opening_of_line lines) task_day lines)) (sym is)
 
 -- a used fix is what one of the lines says
 record IsSeenIn (lines : Lines) (fix : UsedFix) : Type 0 where
@@ -202,7 +221,8 @@ seen-more line above fix seen =
     record { line = seen.line; of_text = contains-more above seen.line line seen.of_text; extension = seen.extension; says = seen.says }
 
 -- a line more
-seen-line : (line : List ℕ) (above : Lines) (extension : Extension) (number : ℕ) (used : List UsedFix) → ((fix : UsedFix) → Contains used fix → IsSeenIn above fix) → (seen : Option Observation) → observation_of extension line ≡ seen → (fix : UsedFix) → Contains (with_line number seen used) fix → IsSeenIn (line ∷ above) fix
+seen-line : (line : List ℕ) (above : Lines) (extension : Extension) (number : ℕ) (used : List UsedFix) → ((fix : UsedFix) → Contains used fix → IsSeenIn above fix) → (seen : Option Observation)
+    → observation_of extension line ≡ seen → (fix : UsedFix) → Contains (with_line number seen used) fix → IsSeenIn (line ∷ above) fix
 seen-line line above extension number used before None says fix there =
     seen-more line above fix (before fix (subst (λ (used : List UsedFix). Contains used fix) (with_line-none number used) there))
 seen-line line above extension number used before (Some seen) says fix there =
@@ -221,7 +241,8 @@ seen-upwards : (up : Lines) (fix : UsedFix) → Contains (used_upwards up) fix �
 unfolding used_upwards
 seen-upwards [] fix (k, below, is) = absurd (omega arith)
 seen-upwards (line ∷ above) fix there =
-    seen-line line above (extension_below (reverse above)) (length above + 1) (used_upwards above) (λ fix there. seen-upwards above fix there) (observation_of (extension_below (reverse above)) line) refl fix there
+    seen-line line above (extension_below (reverse above)) (length above + 1) (used_upwards above) (λ fix there. seen-upwards above fix there)
+    (observation_of (extension_below (reverse above)) line) refl fix there
 
 seen-used : (lines : Lines) (fix : UsedFix) → Contains (used_fixes lines) fix → IsSeenIn lines fix
 unfolding used_fixes

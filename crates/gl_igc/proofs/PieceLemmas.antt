@@ -6,7 +6,8 @@ use Rattle.std.specs.declared.alloc.Global.{Global}
 use Rattle.std.proofs.lemmas.Bool.{cases_lt}
 use Rattle.std.proofs.lemmas.List.{drop_all, take_all, length-append, length-take, take-append-drop, get_or-append-add, get_or-take}
 use Rattle.gl_text.specs.Lines.{lines_of}
-use Rattle.gl_igc.specs.Pieces.{StandsForText, Takes}
+use Rattle.gl_igc.specs.Pieces.{StandsForText}
+use Rattle.gl_igc.specs.Code.Parts.{Takes}
 use Rattle.gl_igc.specs.Progress.{StandsFor}
 use Rattle.gl_igc.specs.declared.igc_reader.IgcReader.{IgcReader}
 use Rattle.gl_igc.specs.declared.progress.Progress.{Progress}
@@ -23,7 +24,9 @@ takes_nothing text now = record {
 }
 
 -- one line more
-pub takes_line : (text : List ℕ) (at next : ℕ) (line : List ℕ) (old mid new : Progress) → Takes text (drop at text) old mid → ((more : List ℕ) → lines_of (drop at text ++ more) ≡ line ∷ lines_of (drop next text ++ more)) → ((lines : Texts) → StandsFor lines mid → StandsFor (lines ++ line ∷ []) new) → Takes text (drop next text) old new
+pub takes_line : (text : List ℕ) (at next : ℕ) (line : List ℕ) (old mid new : Progress) → Takes text (drop at text) old mid
+    → ((more : List ℕ) → lines_of (drop at text ++ more) ≡ line ∷ lines_of (drop next text ++ more)) → ((lines : Texts) → StandsFor lines mid → StandsFor (lines ++ line ∷ []) new)
+    → Takes text (drop next text) old new
 takes_line text at next line old mid new t ended taken = record {
   lines = t.lines ++ line ∷ [];
   cut = λ more. t.cut more ∙ ap (λ (lines : Texts). t.lines ++ lines) (ended more) ∙ sym (append_assoc t.lines (line ∷ []) (lines_of (drop next text ++ more)));
@@ -34,7 +37,8 @@ takes_line text at next line old mid new t ended taken = record {
 takes_then : (a b rest : List ℕ) (old mid new : Progress) → Takes a [] old mid → Takes b rest mid new → Takes (a ++ b) rest old new
 takes_then a b rest old mid new one two = record {
   lines = one.lines ++ two.lines;
-  cut = λ more. ap lines_of (append_assoc a b more) ∙ one.cut (b ++ more) ∙ ap (λ (lines : Texts). one.lines ++ lines) (two.cut more) ∙ sym (append_assoc one.lines two.lines (lines_of (rest ++ more)));
+  cut = λ more. ap lines_of (append_assoc a b more) ∙ one.cut (b ++ more) ∙ ap (λ (lines : Texts). one.lines ++ lines) (two.cut more)
+      ∙ sym (append_assoc one.lines two.lines (lines_of (rest ++ more)));
   taken = λ before stands. subst (λ (lines : Texts). StandsFor lines new) (append_assoc before one.lines two.lines) (two.taken (before ++ one.lines) (one.taken before stands));
 }
 
@@ -58,13 +62,15 @@ takes_on a rest old mid new none one two = record {
 
 -- a piece behind a rest: its front finished a line or was all of it, and the lines of what follows
 -- were taken
-pub takes_piece : (rest piece begun : List ℕ) (from at : ℕ) (old mid new : Progress) → Takes (rest ++ take from piece) begun old mid → (begun ≡ []) ⊎ (from ≡ length piece) → Takes (drop from piece) (drop at (drop from piece)) mid new → Takes (rest ++ piece) (begun ++ drop at (drop from piece)) old new
+pub takes_piece : (rest piece begun : List ℕ) (from at : ℕ) (old mid new : Progress) → Takes (rest ++ take from piece) begun old mid → (begun ≡ []) ⊎ (from ≡ length piece)
+    → Takes (drop from piece) (drop at (drop from piece)) mid new → Takes (rest ++ piece) (begun ++ drop at (drop from piece)) old new
 takes_piece rest piece begun from at old mid new front done back =
     let behind = drop from piece in
     let whole : (rest ++ take from piece) ++ behind ≡ rest ++ piece = append_assoc rest (take from piece) behind ∙ ap (λ (t : List ℕ). rest ++ t) (take-append-drop from piece) in
     ⊎_elim
     (λ (none : begun ≡ []).
-    let joined : Takes ((rest ++ take from piece) ++ behind) (drop at behind) old new = takes_then (rest ++ take from piece) behind (drop at behind) old mid new (subst (λ (b : List ℕ). Takes (rest ++ take from piece) b old mid) none front) back in
+    let joined : Takes ((rest ++ take from piece) ++ behind) (drop at behind) old new =
+    takes_then (rest ++ take from piece) behind (drop at behind) old mid new (subst (λ (b : List ℕ). Takes (rest ++ take from piece) b old mid) none front) back in
     subst (λ (b : List ℕ). Takes (rest ++ piece) (b ++ drop at behind) old new) (sym none) (subst (λ (t : List ℕ). Takes t (drop at behind) old new) whole joined))
     (λ (all : from ≡ length piece).
     let nothing : behind ≡ [] = drop_all from piece (omega (arith, all)) in
@@ -96,7 +102,8 @@ fed (Ok x) failed is on then = then on is
 fed (Err e) failed is on then = tt
 
 -- the reader's text grows by a piece
-pub text_grows : (text piece : List ℕ) (reader : IgcReader) (progress : Progress) (rest : Vec ℕ Global) (failed : Bool) → Takes (reader.rest.items ++ piece) rest.items reader.progress progress → failed ≡ false → StandsForText text reader → StandsForText (text ++ piece) (record { progress = progress; rest = rest; task_day = reader.task_day; has_failed = failed })
+pub text_grows : (text piece : List ℕ) (reader : IgcReader) (progress : Progress) (rest : Vec ℕ Global) (failed : Bool) → Takes (reader.rest.items ++ piece) rest.items reader.progress progress
+    → failed ≡ false → StandsForText text reader → StandsForText (text ++ piece) (record { progress = progress; rest = rest; task_day = reader.task_day; has_failed = failed })
 text_grows text piece reader progress rest failed t whole stands = record {
   lines = stands.lines ++ t.lines;
   read = t.taken stands.lines stands.read;

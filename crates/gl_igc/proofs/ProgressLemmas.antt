@@ -10,7 +10,8 @@ use Rattle.gl_igc.specs.Declaration.{is_declaration_line}
 use Rattle.gl_igc.specs.Extension.{extension_of_line}
 use Rattle.gl_igc.specs.FirstOf.{first_of}
 use Rattle.gl_igc.specs.FixLine.{is_fix_line, observation_of}
-use Rattle.gl_igc.specs.Parts.{IsTrackOf, extension_view, extension_held}
+use Rattle.gl_igc.specs.Parts.{IsTrackOf, extension_view}
+use Rattle.gl_igc.specs.Code.Parts.{extension_held}
 use Rattle.gl_igc.specs.Reading.{capped, most_fixes}
 use Rattle.gl_igc.specs.UsedFixes.{UsedFix, extension_below, used_upwards, with_line, last_own, own_second, event_time, events_upwards, event_seconds}
 use Rattle.gl_igc.specs.declared.extension.Fields.{Fields}
@@ -39,32 +40,42 @@ capped-more n = omega arith
 pub upwards-push : (lines : Lines) (line : List ℕ) → reverse (lines ++ line ∷ []) ≡ line ∷ reverse lines
 upwards-push lines line = reverse-append lines (line ∷ [])
 
-pub used-push : (lines : Lines) (line : List ℕ) (fields : Option Fields) → option_map extension_view fields ≡ first_of extension_of_line lines → used_upwards (reverse (lines ++ line ∷ [])) ≡ with_line (length lines + 1) (observation_of (extension_held fields) line) (used_upwards (reverse lines))
+pub used-push : (lines : Lines) (line : List ℕ) (fields : Option Fields) → option_map extension_view fields ≡ first_of extension_of_line lines
+    → used_upwards (reverse (lines ++ line ∷ [])) ≡ with_line (length lines + 1) (observation_of (extension_held fields) line) (used_upwards (reverse lines))
 unfolding used_upwards extension_below
 used-push lines line fields is =
     ap used_upwards (upwards-push lines line) ∙ rw (length-reverse, reverse-reverse, is) refl
 
 pub count-push : (lines : Lines) (line : List ℕ) → length (filter is_fix_line (lines ++ line ∷ [])) ≡ length (filter is_fix_line lines) + (if is_fix_line line then 1 else 0)
 count-push lines line =
-    ap length (filter-append is_fix_line lines (line ∷ [])) ∙ length-append (filter is_fix_line lines) (filter is_fix_line (line ∷ [])) ∙ ap (λ (k : ℕ). length (filter is_fix_line lines) + k) (tested (is_fix_line line))
+    ap length (filter-append is_fix_line lines (line ∷ [])) ∙ length-append (filter is_fix_line lines) (filter is_fix_line (line ∷ []))
+    ∙ ap (λ (k : ℕ). length (filter is_fix_line lines) + k) (tested (is_fix_line line))
   where
     tested : (b : Bool) → length (cond b (line ∷ []) []) ≡ cond b 1 0
     tested true = refl
     tested false = refl
 
-pub track-push : (lines : Lines) (line : List ℕ) (fields : Option Fields) (number : ℕ) (old new : Track) → option_map extension_view fields ≡ first_of extension_of_line lines → number ≡ capped (length lines + 1) → IsTrackOf (used_upwards (reverse lines)) (length (filter is_fix_line lines)) old → ((used : List UsedFix) (count n : ℕ) → number ≡ capped n → IsTrackOf used count old → IsTrackOf (with_line n (observation_of (extension_held fields) line) used) (count + (if is_fix_line line then 1 else 0)) new) → IsTrackOf (used_upwards (reverse (lines ++ line ∷ []))) (length (filter is_fix_line (lines ++ line ∷ []))) new
+pub track-push : (lines : Lines) (line : List ℕ) (fields : Option Fields) (number : ℕ) (old new : Track) → option_map extension_view fields ≡ first_of extension_of_line lines
+    → number ≡ capped (length lines + 1) → IsTrackOf (used_upwards (reverse lines)) (length (filter is_fix_line lines)) old
+    → ((used : List UsedFix) (count n : ℕ) → number ≡ capped n → IsTrackOf used count old
+    → IsTrackOf (with_line n (observation_of (extension_held fields) line) used) (count + (if is_fix_line line then 1 else 0)) new)
+    → IsTrackOf (used_upwards (reverse (lines ++ line ∷ []))) (length (filter is_fix_line (lines ++ line ∷ []))) new
 track-push lines line fields number old new is is_number of step =
     let next = step (used_upwards (reverse lines)) (length (filter is_fix_line lines)) (length lines + 1) is_number of in
-    subst (λ (used : List UsedFix). IsTrackOf used (length (filter is_fix_line (lines ++ line ∷ []))) new) (sym (used-push lines line fields is)) (subst (λ (n : ℕ). IsTrackOf (with_line (length lines + 1) (observation_of (extension_held fields) line) (used_upwards (reverse lines))) n new) (sym (count-push lines line)) next)
+    subst (λ (used : List UsedFix). IsTrackOf used (length (filter is_fix_line (lines ++ line ∷ []))) new) (sym (used-push lines line fields is))
+    (subst (λ (n : ℕ). IsTrackOf (with_line (length lines + 1) (observation_of (extension_held fields) line) (used_upwards (reverse lines))) n new) (sym (count-push lines line)) next)
 
 -- where no fix is past the limit below a line, none was above it
-pub no_excess_before : (lines : Lines) (line : List ℕ) (fields : Option Fields) (n m : ℕ) (old new : Track) → option_map extension_view fields ≡ first_of extension_of_line lines → IsTrackOf (used_upwards (reverse lines)) n old → IsTrackOf (used_upwards (reverse (lines ++ line ∷ []))) m new → new.excess ≡ None → old.excess ≡ None
+pub no_excess_before : (lines : Lines) (line : List ℕ) (fields : Option Fields) (n m : ℕ) (old new : Track) → option_map extension_view fields ≡ first_of extension_of_line lines
+    → IsTrackOf (used_upwards (reverse lines)) n old → IsTrackOf (used_upwards (reverse (lines ++ line ∷ []))) m new → new.excess ≡ None → old.excess ≡ None
 no_excess_before lines line fields n m old new is before after none =
     let used = used_upwards (reverse lines) in
     let more = with_line (length lines + 1) (observation_of (extension_held fields) line) used in
     let few : length (reverse (used_upwards (reverse (lines ++ line ∷ [])))) ≤ most_fixes =
-    none_past (reverse (used_upwards (reverse (lines ++ line ∷ [])))) most_fixes (map_none (λ (fix : UsedFix). capped fix.line) (slice_get (reverse (used_upwards (reverse (lines ++ line ∷ [])))) most_fixes) (sym after.excess ∙ none)) in
-    let longer : length used ≤ length more = with_line_cases (λ after. length used ≤ length after) (length lines + 1) (observation_of (extension_held fields) line) used (omega arith) (λ fix. omega arith) in
+    none_past (reverse (used_upwards (reverse (lines ++ line ∷ [])))) most_fixes
+    (map_none (λ (fix : UsedFix). capped fix.line) (slice_get (reverse (used_upwards (reverse (lines ++ line ∷ [])))) most_fixes) (sym after.excess ∙ none)) in
+    let longer : length used ≤ length more = with_line_cases (λ after. length used ≤ length after) (length lines + 1) (observation_of (extension_held fields) line) used (omega arith)
+    (λ fix. omega arith) in
     let fewer : length (reverse used) ≤ most_fixes =
     omega (arith, length-reverse used, length-reverse (used_upwards (reverse (lines ++ line ∷ []))), ap length (used-push lines line fields is)) in
     before.excess ∙ ap (option_map (λ (fix : UsedFix). capped fix.line)) (slice_get_past (reverse used) most_fixes fewer)
@@ -77,7 +88,8 @@ map-option : {X Y Z : Type 0} (f : Y → Z) (g : X → Y) (o : Option X) → map
 map-option f g None = refl
 map-option f g (Some x) = refl
 
-pub events-push : (lines : Lines) (line : List ℕ) (last : Option ℕ) → last ≡ last_own (used_upwards (reverse lines)) → map pos (event_seconds (lines ++ line ∷ [])) ≡ map pos (event_seconds lines) ++ option_to_list (option_map (λ time. pos (own_second last time)) (event_time line))
+pub events-push : (lines : Lines) (line : List ℕ) (last : Option ℕ) → last ≡ last_own (used_upwards (reverse lines))
+    → map pos (event_seconds (lines ++ line ∷ [])) ≡ map pos (event_seconds lines) ++ option_to_list (option_map (λ time. pos (own_second last time)) (event_time line))
 unfolding event_seconds events_upwards
 events-push lines line last is =
     let event : Option ℕ = option_map (own_second (last_own (used_upwards (reverse lines)))) (event_time line) in
@@ -85,7 +97,8 @@ events-push lines line last is =
     let upwards : reverse (events_upwards (reverse (lines ++ line ∷ []))) ≡ reverse above ++ option_to_list event =
     ap (λ (up : Lines). reverse (events_upwards up)) (upwards-push lines line) ∙ reverse-append (option_to_list event) above ∙ ap (λ (es : List ℕ). reverse above ++ es) (reverse-option event) in
     let seconds : map pos (option_to_list event) ≡ option_to_list (option_map (λ time. pos (own_second last time)) (event_time line)) =
-    map-option pos (own_second (last_own (used_upwards (reverse lines)))) (event_time line) ∙ ap (λ (last : Option ℕ). option_to_list (option_map (λ time. pos (own_second last time)) (event_time line))) (sym is) in
+    map-option pos (own_second (last_own (used_upwards (reverse lines)))) (event_time line)
+    ∙ ap (λ (last : Option ℕ). option_to_list (option_map (λ time. pos (own_second last time)) (event_time line))) (sym is) in
     ap (map pos) upwards ∙ map-append pos (reverse above) (option_to_list event) ∙ ap (λ (es : List ℤ). map pos (reverse above) ++ es) seconds
 
 pub declared-push : (lines : Lines) (line : List ℕ) → filter is_declaration_line (lines ++ line ∷ []) ≡ filter is_declaration_line lines ++ (if is_declaration_line line then line ∷ [] else [])

@@ -6,7 +6,7 @@ use Rattle.std.specs.List.{list_all}
 use Rattle.std.specs.Int.{IsInRange}
 use Rattle.std.specs.Str.{byte}
 use Rattle.std.specs.Str.Parse.{digits_value}
-use Rattle.std.proofs.lemmas.Bool.{false≢true}
+use Rattle.std.proofs.lemmas.Bool.{and_parts}
 use Rattle.std.proofs.lemmas.Bool.Decides.{nat_tests}
 use Rattle.std.proofs.lemmas.Int.{ints}
 use Rattle.std.proofs.lemmas.Str.Parse.{IsDigitsTest, digits_value_short, numerals_by_value}
@@ -21,6 +21,7 @@ use Rattle.gl_igc.specs.Extension.{Extension}
 use Rattle.gl_igc.specs.FixLine.{Observation, decimals_of, highest, is_fix_line, noise_of, observation_of}
 use Rattle.gl_igc.specs.Columns.{time_of_day}
 use Rattle.std.specs.Prelude.{slice_index}
+use Rattle.gl_sphere.specs.Lemmas.Bounds.{natural-within}
 
 -- the first step of a reading that gives something gives something
 bind_some : {A B : Type 0} (o : Option A) (f : A → Option B) (b : B) → (o >>= f) ≡ Some b → (a : A) × (o ≡ Some a) × (f a ≡ Some b)
@@ -32,15 +33,11 @@ test_some : {B : Type 0} (test : Bool) (o : Option B) (b : B) → cond test o No
 test_some true o b is = (refl, is)
 test_some false o b is = absurd (cc)
 
-both : (a b : Bool) → (a && b) ≡ true → (a ≡ true) × (b ≡ true)
-both true b holds = (refl, holds)
-both false b holds = absurd (false≢true holds)
-
 at_most : (a b : ℕ) → nat_le a b ≡ true → a ≤ b
 at_most a b test = grind (arith, nat_tests)
 
 digit_range : (c : ℕ) → is_ascii_digit c ≡ true → IsInRange 48 57 c
-digit_range c test = let parts = both (nat_le 48 c) (nat_le c 57) test in (at_most 48 c parts.0, at_most c 57 parts.1)
+digit_range c test = let parts = and_parts (nat_le 48 c) (nat_le c 57) test in (at_most 48 c parts.0, at_most c 57 parts.1)
 
 range_digit : (c : ℕ) → IsInRange 48 57 c → is_ascii_digit c ≡ true
 range_digit c range =
@@ -51,7 +48,7 @@ range_digit c range =
 digits_test : IsDigitsTest (λ digits. list_all is_ascii_digit digits ≡ true)
 digits_test = record {
   empty = refl;
-  parts = λ c cs all. let parts = both (is_ascii_digit c) (list_all is_ascii_digit cs) all in (digit_range c parts.0, parts.1);
+  parts = λ c cs all. let parts = and_parts (is_ascii_digit c) (list_all is_ascii_digit cs) all in (digit_range c parts.0, parts.1);
   more = λ c cs range all. ap (λ (b : Bool). b && list_all is_ascii_digit cs) (range_digit c range) ∙ all;
 }
 
@@ -73,17 +70,14 @@ angle_within limit degrees thousandths decimals size is =
     let total : ℕ = degrees * degree + thousandths * thousandth + decimals in
     let read = test_some (nat_lt thousandths thousandths_of_degree && nat_le total limit) (Some total) size is in
     let same : total ≡ size = let whole = read.1 in cc in
-    let below = at_most total limit (both (nat_lt thousandths thousandths_of_degree) (nat_le total limit) read.0).1 in
+    let below = at_most total limit (and_parts (nat_lt thousandths thousandths_of_degree) (nat_le total limit) read.0).1 in
     subst (λ (n : ℕ). n ≤ limit) same below
-
-plus_within : (size limit : ℕ) → size ≤ limit → IsWithin limit (pos size)
-plus_within size limit below = (omega (arith, ints), omega (arith, ints))
 
 minus_within : (size limit : ℕ) → size ≤ limit → IsWithin limit (neg_ℤ (pos size))
 minus_within size limit below = (omega (arith, ints), omega (arith, ints))
 
 sign_within : (plus minus : Bool) (size limit : ℕ) (z : ℤ) → size ≤ limit → cond plus (Some (pos size)) (cond minus (Some (neg_ℤ (pos size))) None) ≡ Some z → IsWithin limit z
-sign_within true minus size limit z below is = let same : pos size ≡ z = cc in subst (IsWithin limit) same (plus_within size limit below)
+sign_within true minus size limit z below is = let same : pos size ≡ z = cc in subst (IsWithin limit) same (natural-within size limit below)
 sign_within false true size limit z below is = let same : neg_ℤ (pos size) ≡ z = cc in subst (IsWithin limit) same (minus_within size limit below)
 sign_within false false size limit z below is = absurd (cc)
 
@@ -93,7 +87,8 @@ signed_within plus minus None size limit z below is = absurd (cc)
 signed_within plus minus (Some letter) size limit z below is = sign_within (letter == plus) (letter == minus) size limit z below is
 
 -- the steps of the reading of an angle
-angle_from : (degrees thousandths : Option ℕ) (angle : ℕ → ℕ → Option ℕ) (signed : ℕ → Option ℤ) (z : ℤ) → (degrees >>= λ d. thousandths >>= λ t. angle d t >>= signed) ≡ Some z → (d : ℕ) × (t : ℕ) × (size : ℕ) × (angle d t ≡ Some size) × (signed size ≡ Some z)
+angle_from : (degrees thousandths : Option ℕ) (angle : ℕ → ℕ → Option ℕ) (signed : ℕ → Option ℤ) (z : ℤ) → (degrees >>= λ d. thousandths >>= λ t. angle d t >>= signed) ≡ Some z
+    → (d : ℕ) × (t : ℕ) × (size : ℕ) × (angle d t ≡ Some size) × (signed size ≡ Some z)
 angle_from None thousandths angle signed z is = absurd (cc)
 angle_from (Some d) None angle signed z is = absurd (cc)
 angle_from (Some d) (Some t) angle signed z is =
@@ -103,13 +98,15 @@ angle_from (Some d) (Some t) angle signed z is =
 lat_within : (decimals : ℕ) (text : List ℕ) (z : ℤ) → latitude_of decimals text ≡ Some z → IsWithin quarter_turn z
 unfolding latitude_of
 lat_within decimals text z is =
-    let read = angle_from (number_of (columns 1 2 text)) (number_of (columns 3 7 text)) (λ d t. angle_of quarter_turn d t decimals) (λ size. signed_by (byte "N") (byte "S") (slice_get text 7) size) z is in
+    let read = angle_from (number_of (columns 1 2 text)) (number_of (columns 3 7 text)) (λ d t. angle_of quarter_turn d t decimals)
+    (λ size. signed_by (byte "N") (byte "S") (slice_get text 7) size) z is in
     signed_within (byte "N") (byte "S") (slice_get text 7) read.2 quarter_turn z (angle_within quarter_turn read.0 read.1 decimals read.2 read.3) read.4
 
 lon_within : (decimals : ℕ) (text : List ℕ) (z : ℤ) → longitude_of decimals text ≡ Some z → IsWithin half_turn z
 unfolding longitude_of
 lon_within decimals text z is =
-    let read = angle_from (number_of (columns 1 3 text)) (number_of (columns 4 8 text)) (λ d t. angle_of half_turn d t decimals) (λ size. signed_by (byte "E") (byte "W") (slice_get text 8) size) z is in
+    let read = angle_from (number_of (columns 1 3 text)) (number_of (columns 4 8 text)) (λ d t. angle_of half_turn d t decimals)
+    (λ size. signed_by (byte "E") (byte "W") (slice_get text 8) size) z is in
     signed_within (byte "E") (byte "W") (slice_get text 8) read.2 half_turn z (angle_within half_turn read.0 read.1 decimals read.2 read.3) read.4
 
 pair_from : (lat lon : Option ℤ) (place : ℤ × ℤ) → (lat >>= λ lat. lon >>= λ lon. Some (lat, lon)) ≡ Some place → (lat ≡ Some place.0) × (lon ≡ Some place.1)
@@ -132,7 +129,8 @@ grid_of_text text place is =
 columns_short : (first last : ℕ) (text : List ℕ) → length (columns first last text) ≤ last - (first - 1)
 columns_short first last text = omega (arith, length-take (last - (first - 1)) (drop (first - 1) text))
 
-alt_from : (minus : Bool) (below all : Option ℕ) (alt : ℤ) → ((n : ℕ) → below ≡ Some n → n < 10_000) → cond minus (below >>= λ n. Some (neg_ℤ (pos n))) (all >>= λ n. Some (pos n)) ≡ Some alt → neg_ℤ (pos 9_999) ≤ℤ alt
+alt_from : (minus : Bool) (below all : Option ℕ) (alt : ℤ) → ((n : ℕ) → below ≡ Some n → n < 10_000) → cond minus (below >>= λ n. Some (neg_ℤ (pos n))) (all >>= λ n. Some (pos n)) ≡ Some alt
+    → neg_ℤ (pos 9_999) ≤ℤ alt
 alt_from true None all alt short is = absurd (cc)
 alt_from true (Some n) all alt short is =
     let same : neg_ℤ (pos n) ≡ alt = cc in
@@ -163,7 +161,9 @@ record IsReadFrom (lat lon alt : Option ℤ) (seen : Observation) : Type 0 where
   low : int_le seen.alt highest ≡ true
 
 -- the steps of the reading of a B line
-seen_from : (test : Bool) (time : Option ℕ) (lat lon pressure alt : Option ℤ) (enl : Option ℕ) (seen : Observation) → cond test (time >>= λ time. lat >>= λ lat. lon >>= λ lon. pressure >>= λ pressure. alt >>= λ alt. cond (int_le alt highest) (Some (record { time = time; lat = lat; lon = lon; alt = alt; enl = enl })) None) None ≡ Some seen → IsReadFrom lat lon alt seen
+seen_from : (test : Bool) (time : Option ℕ) (lat lon pressure alt : Option ℤ) (enl : Option ℕ) (seen : Observation)
+    → cond test (time >>= λ time. lat >>= λ lat. lon >>= λ lon. pressure >>= λ pressure. alt >>= λ alt. cond (int_le alt highest)
+    (Some (record { time = time; lat = lat; lon = lon; alt = alt; enl = enl })) None) None ≡ Some seen → IsReadFrom lat lon alt seen
 seen_from false time lat lon pressure alt enl seen is = absurd (cc)
 seen_from true None lat lon pressure alt enl seen is = absurd (cc)
 seen_from true (Some time) None lon pressure alt enl seen is = absurd (cc)
@@ -188,7 +188,8 @@ alt_most alt test = grind (arith, ints)
 pub seen_placed : (extension : Extension) (line : List ℕ) (seen : Observation) → observation_of extension line ≡ Some seen → IsPlaced seen
 unfolding observation_of
 seen_placed extension line seen is =
-    let read = seen_from (nat_le 35 (length line) && is_fix_line line && (slice_index line 24 == byte "A")) (time_of_day line) (latitude_of (decimals_of extension.lad line) (columns 8 15 line)) (longitude_of (decimals_of extension.lod line) (columns 16 24 line)) (altitude_of (columns 26 30 line)) (altitude_of (columns 31 35 line)) (noise_of extension.enl line) seen is in
+    let read = seen_from (nat_le 35 (length line) && is_fix_line line && (slice_index line 24 == byte "A")) (time_of_day line) (latitude_of (decimals_of extension.lad line) (columns 8 15 line))
+    (longitude_of (decimals_of extension.lod line) (columns 16 24 line)) (altitude_of (columns 26 30 line)) (altitude_of (columns 31 35 line)) (noise_of extension.enl line) seen is in
     record {
       lat = lat_within (decimals_of extension.lad line) (columns 8 15 line) seen.lat read.lat_is;
       lon = lon_within (decimals_of extension.lod line) (columns 16 24 line) seen.lon read.lon_is;

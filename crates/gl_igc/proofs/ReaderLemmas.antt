@@ -27,7 +27,8 @@ unfolding recording_of
 read_as text task_day lines (Ok recording) same is = ap (λ (lines : Lines). recording_of_lines lines task_day) (sym same) ∙ is
 read_as text task_day lines (Err e) same is = λ _. ap (λ (lines : Lines). recording_of_lines lines task_day) (sym same) ∙ is
 
-pub read_ok : (text : List ℕ) (task_day : Option ℤ) (result : Result Recording IgcError) → IsReadAs text task_day result → IfOk result (λ recording. recording_of text task_day ≡ Ok (reading_of recording))
+pub read_ok : (text : List ℕ) (task_day : Option ℤ) (result : Result Recording IgcError) → IsReadAs text task_day result
+    → IfOk result (λ recording. recording_of text task_day ≡ Ok (reading_of recording))
 read_ok text task_day (Ok recording) is = is
 read_ok text task_day (Err e) is = tt
 
@@ -35,7 +36,8 @@ pub read_refused : (text : List ℕ) (task_day : Option ℤ) (result : Result Re
 read_refused text task_day (Ok recording) is = tt
 read_refused text task_day (Err e) is = is
 
-pub answer_seen : (text : List ℕ) (task_day : Option ℤ) (lines : Lines) (result : Result Recording IgcError) → lines ≡ lines_of text → IsAnswer lines task_day result → IfOk result (λ recording. AreOfLines (lines_of text) (map sighting_of recording.fixes))
+pub answer_seen : (text : List ℕ) (task_day : Option ℤ) (lines : Lines) (result : Result Recording IgcError) → lines ≡ lines_of text → IsAnswer lines task_day result
+    → IfOk result (λ recording. AreOfLines (lines_of text) (map sighting_of recording.fixes))
 answer_seen text task_day lines (Ok recording) same is =
     subst (λ (lines : Lines). AreOfLines lines (map sighting_of recording.fixes)) same (fixes_are_seen lines task_day (reading_of recording) is)
 answer_seen text task_day lines (Err e) same is = tt

@@ -7,7 +7,7 @@ use Rattle.gl_text.specs.Digits.{◌>>=◌, columns}
 use Rattle.gl_text.specs.Lines.{lines_of}
 use Rattle.gl_sphere.specs.declared.place.Grid.{Grid}
 use Rattle.gl_sphere.specs.PlaceText.{place_of, place_of_text}
-use Rattle.gl_igc.proofs.DeclarationLemmas.{declared-damaged}
+use Rattle.gl_igc.proofs.DeclarationLemmas.{declared-damaged, declared-counted}
 use Rattle.gl_igc.proofs.SecondsLemmas.{rising-shift}
 use Rattle.gl_igc.proofs.TrackLemmas.{none_past}
 use Rattle.gl_igc.specs.Dates.{date_of_line}
@@ -32,7 +32,9 @@ grids_for [] places is = let same : [] ≡ places = cc in ([], same, refl)
 grids_for (line ∷ lines) places is =
     first (grids_for lines) (place_of_text (columns 2 18 line)) refl (places_of lines) refl is
   where
-    first : ((others : List (ℤ × ℤ)) → places_of lines ≡ Some others → (points : List Grid) × (map place_of points ≡ others) × (length points ≡ length lines)) → (at : Option (ℤ × ℤ)) → place_of_text (columns 2 18 line) ≡ at → (rest : Option (List (ℤ × ℤ))) → places_of lines ≡ rest → (at >>= λ place. rest >>= λ places. Some (place ∷ places)) ≡ Some places → (points : List Grid) × (map place_of points ≡ places) × (length points ≡ suc (length lines))
+    first : ((others : List (ℤ × ℤ)) → places_of lines ≡ Some others → (points : List Grid) × (map place_of points ≡ others) × (length points ≡ length lines)) → (at : Option (ℤ × ℤ))
+        → place_of_text (columns 2 18 line) ≡ at → (rest : Option (List (ℤ × ℤ))) → places_of lines ≡ rest → (at >>= λ place. rest >>= λ places. Some (place ∷ places)) ≡ Some places
+        → (points : List Grid) × (map place_of points ≡ places) × (length points ≡ suc (length lines))
     first more None at_is rest rest_is is = absurd (cc)
     first more (Some at) at_is None rest_is is = absurd (cc)
     first more (Some at) at_is (Some others) rest_is is =
@@ -59,10 +61,6 @@ declared_if count rest true range test =
     let below : count ≤ length rest = grind (arith, nat_tests) in
     declared_whole count rest (places_of (take count rest)) range below refl
 
-counted_by : (heading : List ℕ) (rest : Lines) (count : ℕ) → declared_count heading ≡ Some count → declared_by (heading ∷ rest) ≡ cond (nat_le count (length rest)) (places_of (take count rest)) None
-unfolding declared_by
-counted_by heading rest count counted = rw counted refl
-
 declared_none : HasDeclared (declared_by [])
 unfolding declared_by
 declared_none = (None, refl)
@@ -74,7 +72,7 @@ declared_from (heading ∷ rest) = counted (declared_count heading) refl
     counted : (count : Option ℕ) → declared_count heading ≡ count → HasDeclared (declared_by (heading ∷ rest))
     counted None damaged = (None, sym (declared-damaged heading rest damaged))
     counted (Some count) is =
-        subst HasDeclared (sym (counted_by heading rest count is))
+        subst HasDeclared (sym (declared-counted heading rest count is))
         (declared_if count rest (nat_le count (length rest)) (count_within heading count is) refl)
 
 declared_for : (lines : Lines) → HasDeclared (declared_places lines)
@@ -85,7 +83,8 @@ declared_for lines = declared_from (filter is_declaration_line lines)
 abbrev pub HasRecording : Reading → Type 0
 HasRecording reading = (recording : Recording) × (reading_of recording ≡ reading)
 
-recording_from : (lines : Lines) (date shift : ℤ) (fixes : List Fix) (declared : Option Declared) → map sighting_of fixes ≡ map (sighting_at shift) (used_fixes lines) → declared_of declared ≡ declared_places lines → 1 ≤ length (used_fixes lines) → length (used_fixes lines) ≤ most_fixes → HasRecording (reading_at date shift lines)
+recording_from : (lines : Lines) (date shift : ℤ) (fixes : List Fix) (declared : Option Declared) → map sighting_of fixes ≡ map (sighting_at shift) (used_fixes lines)
+    → declared_of declared ≡ declared_places lines → 1 ≤ length (used_fixes lines) → length (used_fixes lines) ≤ most_fixes → HasRecording (reading_at date shift lines)
 unfolding reading_at
 recording_from lines date shift fixes declared same places some few =
     let long : length fixes ≡ length (used_fixes lines) = sym (length-map fixes sighting_of) ∙ ap length same ∙ length-map (used_fixes lines) (sighting_at shift) in (
@@ -97,7 +96,8 @@ recording_from lines date shift fixes declared same places some few =
         skipped = capped (skipped_lines lines);
         some_fix = omega (arith, long, some);
         at_most_90000 = omega (arith, long, few);
-        rising = subst (λ (seconds : List ℤ). IsTrue (is_rising seconds)) (sym (seconds_are shift (used_fixes lines) fixes same)) (rising-shift (map own_of (used_fixes lines)) shift (used_rising lines));
+        rising = subst (λ (seconds : List ℤ). IsTrue (is_rising seconds)) (sym (seconds_are shift (used_fixes lines) fixes same))
+            (rising-shift (map own_of (used_fixes lines)) shift (used_rising lines));
       },
       λ i. record {
         date = date;
@@ -120,7 +120,8 @@ abbrev pub IsAnswered : Result Reading IgcError → Type 0
 IsAnswered (Ok reading) = HasRecording reading
 IsAnswered (Err error) = (number : ℕ) × (refusal_number error ≡ Some number)
 
-answered_if : (none : Bool) (date shift : ℤ) (lines : Lines) → (length (used_fixes lines) == 0) ≡ none → length (used_fixes lines) ≤ most_fixes → IsAnswered (cond none (Err NoFix) (Ok (reading_at date shift lines)))
+answered_if : (none : Bool) (date shift : ℤ) (lines : Lines) → (length (used_fixes lines) == 0) ≡ none → length (used_fixes lines) ≤ most_fixes
+    → IsAnswered (cond none (Err NoFix) (Ok (reading_at date shift lines)))
 answered_if true date shift lines test few = (5, refl)
 answered_if false date shift lines test few =
     let some : 1 ≤ length (used_fixes lines) = grind (arith, nat_tests) in

@@ -1,9 +1,8 @@
 -- A recording is known by what it says.
-use Rattle.std.proofs.Common.{◌≡◌, ◌∙◌, refl, sym, ap, subst, ◌≤◌, List, [], ◌∷◌, length, map, Option, None, Some, ℤ, pos}
+use Rattle.std.proofs.Common.{◌≡◌, ◌∙◌, refl, sym, ap, ◌≤◌, length, map, Option, None, Some, pos}
 use Rattle.std.specs.Prelude.{IsTrue, neg_ℤ, ◌≤ℤ◌}
 use Rattle.std.proofs.Props.{props}
 use mathlib.Core.HLevel.{is_prop→PathP}
-use Rattle.gl_sphere.specs.declared.place.Grid.{Grid}
 use Rattle.gl_sphere.specs.declared.place.Vec3.{Vec3}
 use Rattle.gl_sphere.specs.Place.{written_vector}
 use Rattle.gl_sphere.specs.PlaceText.{place_of}

@@ -1,18 +1,15 @@
 -- Seconds that rise.
-use Rattle.std.proofs.Common.{◌≡◌, ◌∙◌, sym, subst, refl, ap, ℕ, zero, suc, ◌<◌, List, [], ◌∷◌, ◌++◌, map, length, true, false, Bool, Option, Some, None, arith, ◌&&◌, ℤ, ◌<ℤ◌, ◌≤ℤ◌, ◌+ℤ◌, pos}
+use Rattle.std.proofs.Common.{◌≡◌, ◌∙◌, sym, subst, refl, ap, ℕ, zero, suc, ◌<◌, List, [], ◌∷◌, ◌++◌, map, length, true, Bool, Option, Some, None, arith, ◌&&◌, ℤ, ◌<ℤ◌, ◌≤ℤ◌, ◌+ℤ◌, pos}
 use Rattle.std.specs.Prelude.{int_lt, IsTrue, slice_get, option_map}
 use Rattle.std.proofs.lemmas.Bool.Decides.{nat_tests}
 use Rattle.std.proofs.lemmas.List.{length-append}
-use Rattle.std.proofs.lemmas.Bool.{false≢true}
+use Rattle.std.proofs.lemmas.Bool.{and_parts}
 use Rattle.std.proofs.lemmas.Int.{ints}
 use Rattle.std.proofs.lemmas.Option.{slice_get-map}
 use Rattle.gl_igc.specs.declared.fix.Fix.{Fix}
-use Rattle.gl_igc.specs.Seconds.{is_rising, last_second, AreOwnSeconds}
+use Rattle.gl_igc.specs.Seconds.{is_rising}
+use Rattle.gl_igc.specs.Code.Seconds.{last_second, AreOwnSeconds}
 use Rattle.gl_igc.specs.UsedFixes.{may_follow, seconds_limit}
-
-both : (a b : Bool) → IsTrue (a && b) → IsTrue a × IsTrue b
-both true b holds = (refl, holds)
-both false b holds = absurd (false≢true holds)
 
 above : (a b : ℤ) → IsTrue (int_lt a b) → a <ℤ b
 above a b test = grind (arith, ints)
@@ -26,9 +23,9 @@ unfolding is_rising
 below_rest first [] k second rising is = absurd (cc)
 below_rest first (next ∷ seconds) zero second rising is =
     let same : next ≡ second = cc in
-    subst (λ (other : ℤ). first <ℤ other) same (above first next (both _ _ rising).0)
+    subst (λ (other : ℤ). first <ℤ other) same (above first next (and_parts _ _ rising).0)
 below_rest first (next ∷ seconds) (suc k) second rising is =
-    above_both first next second (above first next (both _ _ rising).0) (below_rest next seconds k second (both _ _ rising).1 is)
+    above_both first next second (above first next (and_parts _ _ rising).0) (below_rest next seconds k second (and_parts _ _ rising).1 is)
 
 -- each second is below each one after it
 below_later : (seconds : List ℤ) (i j : ℕ) (a b : ℤ) → IsTrue (is_rising seconds) → i < j → slice_get seconds i ≡ Some a → slice_get seconds j ≡ Some b → a <ℤ b
@@ -39,7 +36,7 @@ below_later (x ∷ seconds) zero (suc j) a b rising order first second =
     let same : x ≡ a = cc in
     subst (λ (other : ℤ). other <ℤ b) same (below_rest x seconds j b rising second)
 below_later (x ∷ []) (suc i) (suc j) a b rising order first second = absurd (cc)
-below_later (x ∷ next ∷ seconds) (suc i) (suc j) a b rising order first second = below_later (next ∷ seconds) i j a b (both _ _ rising).1 (omega arith) first second
+below_later (x ∷ next ∷ seconds) (suc i) (suc j) a b rising order first second = below_later (next ∷ seconds) i j a b (and_parts _ _ rising).1 (omega arith) first second
 
 second_at : (fixes : List Fix) (k : ℕ) (fix : Fix) → slice_get fixes k ≡ Some fix → slice_get (map (λ fix. fix.second) fixes) k ≡ Some fix.second
 second_at fixes k fix is = slice_get-map (λ (fix : Fix). fix.second) fixes k ∙ ap (option_map (λ (fix : Fix). fix.second)) is
@@ -69,7 +66,7 @@ unfolding is_rising last_second
 rising-push [] next rising above = refl
 rising-push (a ∷ []) next rising above = ap (λ (b : Bool). b && true) (below_test a next above)
 rising-push (a ∷ b ∷ seconds) next rising above =
-    ap (λ (up : Bool). up && is_rising (b ∷ seconds ++ next ∷ [])) (both _ _ rising).0 ∙ rising-push (b ∷ seconds) next (both _ _ rising).1 above
+    ap (λ (up : Bool). up && is_rising (b ∷ seconds ++ next ∷ [])) (and_parts _ _ rising).0 ∙ rising-push (b ∷ seconds) next (and_parts _ _ rising).1 above
 
 pub last_second-push : (seconds : List ℤ) (next : ℤ) → last_second (seconds ++ next ∷ []) ≡ Some next
 unfolding last_second
@@ -85,12 +82,15 @@ above_last (Some last) own follows =
     grind (arith, ints)
 
 -- one fix more
-pub own-push : (seconds : List ℤ) (last : Option ℕ) (own : ℕ) (second : ℤ) → AreOwnSeconds seconds last → second ≡ pos own → own < seconds_limit → may_follow last own ≡ true → length seconds < 90_000 → AreOwnSeconds (seconds ++ second ∷ []) (Some own)
+pub own-push : (seconds : List ℤ) (last : Option ℕ) (own : ℕ) (second : ℤ) → AreOwnSeconds seconds last → second ≡ pos own → own < seconds_limit → may_follow last own ≡ true → length seconds < 90_000
+    → AreOwnSeconds (seconds ++ second ∷ []) (Some own)
 own-push seconds last own second are is below follows room = record {
   few = omega (arith, length-append seconds (second ∷ []));
-  rising = rising-push seconds second are.rising (subst (λ (s : ℤ). IsAboveLast (last_second seconds) s) (sym is) (subst (λ (o : Option ℤ). IsAboveLast o (pos own)) (sym are.latest) (above_last last own follows)));
+  rising = rising-push seconds second are.rising (subst (λ (s : ℤ). IsAboveLast (last_second seconds) s) (sym is)
+      (subst (λ (o : Option ℤ). IsAboveLast o (pos own)) (sym are.latest) (above_last last own follows)));
   latest = last_second-push seconds second ∙ ap Some is;
-  below = each-push (λ (second : ℤ). (pos 0 ≤ℤ second) × (second <ℤ pos seconds_limit)) seconds second are.below (subst (λ (s : ℤ). (pos 0 ≤ℤ s) × (s <ℤ pos seconds_limit)) (sym is) (grind (arith, ints), grind (arith, ints)));
+  below = each-push (λ (second : ℤ). (pos 0 ≤ℤ second) × (second <ℤ pos seconds_limit)) seconds second are.below
+      (subst (λ (s : ℤ). (pos 0 ≤ℤ s) × (s <ℤ pos seconds_limit)) (sym is) (grind (arith, ints), grind (arith, ints)));
   last_below = λ other same. let equal : own ≡ other = cc in subst (λ (o : ℕ). o < seconds_limit) equal below;
 }
 
@@ -100,7 +100,7 @@ unfolding is_rising
 rising-shift [] shift rising = refl
 rising-shift (a ∷ []) shift rising = refl
 rising-shift (a ∷ b ∷ seconds) shift rising =
-    ap (λ (up : Bool). up && is_rising (map (λ second. second +ℤ shift) (b ∷ seconds))) (moved a b shift (both _ _ rising).0) ∙ rising-shift (b ∷ seconds) shift (both _ _ rising).1
+    ap (λ (up : Bool). up && is_rising (map (λ second. second +ℤ shift) (b ∷ seconds))) (moved a b shift (and_parts _ _ rising).0) ∙ rising-shift (b ∷ seconds) shift (and_parts _ _ rising).1
   where
     moved : (a b shift : ℤ) → IsTrue (int_lt a b) → int_lt (a +ℤ shift) (b +ℤ shift) ≡ true
     moved a b shift up =

@@ -7,9 +7,9 @@ use Rattle.std.proofs.lemmas.Grind.{drop_more_same}
 use Rattle.std.proofs.lemmas.Option.{slice_get-get_or, slice_get-map}
 use Rattle.gl_sphere.specs.Range.{IsWithin}
 use Rattle.gl_igc.specs.Columns.{day}
-use Rattle.gl_igc.specs.Parts.{shifted}
+use Rattle.gl_igc.specs.Code.Parts.{shifted}
 use Rattle.gl_igc.specs.Recording.{sighting_of}
-use Rattle.gl_igc.specs.Seconds.{AreBelow}
+use Rattle.gl_igc.specs.Code.Seconds.{AreBelow}
 use Rattle.gl_igc.specs.declared.fix.Fix.{Fix}
 
 -- a small number is what its 32 bits say
@@ -29,16 +29,19 @@ left-item now old i d left within =
 pub left-more : {X : Type 0} (now old : List X) (i : ℕ) (v : X) → drop i now ≡ drop i old → drop (i + 1) (set now i v) ≡ drop (i + 1) old
 left-more now old i v left = drop-set-lt (i + 1) now i v (omega arith) ∙ drop_more_same now old i left
 
-pub moved-more : {X : Type 0} (f : X → X) (now old : List X) (i : ℕ) (v d : X) → take i now ≡ map f (take i old) → drop i now ≡ drop i old → i < length now → v ≡ f (get_or now i d) → take (i + 1) (set now i v) ≡ map f (take (i + 1) old)
+pub moved-more : {X : Type 0} (f : X → X) (now old : List X) (i : ℕ) (v d : X) → take i now ≡ map f (take i old) → drop i now ≡ drop i old → i < length now → v ≡ f (get_or now i d)
+    → take (i + 1) (set now i v) ≡ map f (take (i + 1) old)
 moved-more f now old i v d moved left within is =
     let item : v ≡ f (get_or old i d) = is ∙ ap f (left-item now old i d left within) in
     take_more_set now i v within ∙ rw (moved, item) (sym (ap (map f) (take_more old i d (left-within now old i left within)) ∙ map-append f (take i old) (get_or old i d ∷ [])))
 
-pub fix-more : (shift : ℤ) (now old : List Fix) (i : ℕ) (v d : Fix) → map sighting_of (take i now) ≡ map (shifted shift) (map sighting_of (take i old)) → drop i now ≡ drop i old → i < length now → sighting_of v ≡ shifted shift (sighting_of (get_or now i d)) → map sighting_of (take (i + 1) (set now i v)) ≡ map (shifted shift) (map sighting_of (take (i + 1) old))
+pub fix-more : (shift : ℤ) (now old : List Fix) (i : ℕ) (v d : Fix) → map sighting_of (take i now) ≡ map (shifted shift) (map sighting_of (take i old)) → drop i now ≡ drop i old → i < length now
+    → sighting_of v ≡ shifted shift (sighting_of (get_or now i d)) → map sighting_of (take (i + 1) (set now i v)) ≡ map (shifted shift) (map sighting_of (take (i + 1) old))
 fix-more shift now old i v d moved left within is =
     let item : sighting_of v ≡ shifted shift (sighting_of (get_or old i d)) = is ∙ ap (λ (fix : Fix). shifted shift (sighting_of fix)) (left-item now old i d left within) in
     let before = ap (map sighting_of) (take_more_set now i v within) ∙ map-append sighting_of (take i now) (v ∷ []) in
-    let after = ap (λ (fixes : List Fix). map (shifted shift) (map sighting_of fixes)) (take_more old i d (left-within now old i left within)) ∙ ap (map (shifted shift)) (map-append sighting_of (take i old) (get_or old i d ∷ [])) ∙ map-append (shifted shift) (map sighting_of (take i old)) (sighting_of (get_or old i d) ∷ []) in
+    let after = ap (λ (fixes : List Fix). map (shifted shift) (map sighting_of fixes)) (take_more old i d (left-within now old i left within))
+    ∙ ap (map (shifted shift)) (map-append sighting_of (take i old) (get_or old i d ∷ [])) ∙ map-append (shifted shift) (map sighting_of (take i old)) (sighting_of (get_or old i d) ∷ []) in
     before ∙ rw (moved, item) refl ∙ sym after
 
 -- a second that is left is in its range
@@ -48,14 +51,16 @@ second-below limit now old i d below left within =
     let range = below i (get_or old i d) there in
     subst (λ (second : ℤ). (pos 0 ≤ℤ second) × (second <ℤ pos limit)) (sym (left-item now old i d left within)) range
 
-pub fix-below : (limit : ℕ) (now old : List Fix) (i : ℕ) (d : Fix) → AreBelow limit (map (λ fix. fix.second) old) → drop i now ≡ drop i old → i < length now → (pos 0 ≤ℤ (get_or now i d).second) × ((get_or now i d).second <ℤ pos limit)
+pub fix-below : (limit : ℕ) (now old : List Fix) (i : ℕ) (d : Fix) → AreBelow limit (map (λ fix. fix.second) old) → drop i now ≡ drop i old → i < length now
+    → (pos 0 ≤ℤ (get_or now i d).second) × ((get_or now i d).second <ℤ pos limit)
 fix-below limit now old i d below left within =
     let there = slice_get-map (λ (fix : Fix). fix.second) old i ∙ ap (option_map (λ (fix : Fix). fix.second)) (slice_get-get_or old i d (left-within now old i left within)) in
     let range = below i (get_or old i d).second there in
     subst (λ (fix : Fix). (pos 0 ≤ℤ fix.second) × (fix.second <ℤ pos limit)) (sym (left-item now old i d left within)) range
 
 -- a moved second is what its 32 bits say
-pub moved-is : (result item shift : ℤ) → result ≡ to_z w32 (of_z w32 item) +ℤ to_z w32 (of_z w32 shift) → (pos 0 ≤ℤ item) × (item <ℤ pos 500_000) → IsWithin day shift → to_z w32 (of_z w32 result) ≡ item +ℤ to_z w32 (of_z w32 shift)
+pub moved-is : (result item shift : ℤ) → result ≡ to_z w32 (of_z w32 item) +ℤ to_z w32 (of_z w32 shift) → (pos 0 ≤ℤ item) × (item <ℤ pos 500_000) → IsWithin day shift
+    → to_z w32 (of_z w32 result) ≡ item +ℤ to_z w32 (of_z w32 shift)
 moved-is result item shift is range within =
     let least = range.0 in
     let most = range.1 in

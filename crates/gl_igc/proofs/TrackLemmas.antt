@@ -2,7 +2,7 @@
 use Rattle.std.proofs.Common.{◌≡◌, ◌∙◌, sym, ap, subst, ℕ, zero, suc, ◌+◌, ◌-◌, ◌<◌, ◌≤◌, inl, inr, List, [], ◌∷◌, ◌++◌, length, map, get_or, Bool, true, false, Option, None, Some, arith, refl, ◌&&◌}
 use Rattle.std.specs.Global.{Vec}
 use Rattle.std.specs.Prelude.{Result, Ok, Err, OnOk, is_some, option_map, unwrap_or, slice_get, slice_index, reverse, ◌==◌, if◌then◌else◌, nat_le}
-use Rattle.gl_igc.specs.Seconds.{AreOwnSeconds}
+use Rattle.gl_igc.specs.Code.Seconds.{AreOwnSeconds}
 use Rattle.std.specs.Str.{byte}
 use Rattle.std.proofs.lemmas.Bool.Decides.{nat_tests}
 use Rattle.std.proofs.lemmas.Bool.{cases_lt, false≢true}
@@ -14,13 +14,14 @@ use Rattle.std.proofs.Math.Seq.{get_or-append_seam}
 use Rattle.gl_igc.specs.Columns.{day}
 use Rattle.gl_igc.specs.Extension.{Extension, no_extension}
 use Rattle.gl_igc.specs.FixLine.{Observation, is_fix_line, observation_of}
-use Rattle.gl_igc.specs.Parts.{IsTrackOf, own_sighting, extension_view, observation_view, extension_held}
+use Rattle.gl_igc.specs.Parts.{IsTrackOf, own_sighting, extension_view}
+use Rattle.gl_igc.specs.Code.Parts.{observation_view, extension_held}
 use Rattle.gl_igc.specs.Reading.{capped, most_fixes}
 use Rattle.gl_igc.specs.Recording.{sighting_of}
 use Rattle.gl_igc.specs.UsedFixes.{UsedFix, last_own, own_second, may_follow, with_line, seconds_limit}
 use Rattle.gl_igc.specs.declared.extension.Fields.{Fields}
 use Rattle.gl_igc.specs.declared.fix.Fix.{Fix}
-use Rattle.gl_igc.specs.declared.observation.Seen.{Seen}
+use Rattle.gl_igc.specs.declared.observation.Observed.{Observed}
 use Rattle.gl_igc.specs.declared.track.Track.{Track}
 
 -- an own second that may follow is below the limit
@@ -41,7 +42,8 @@ pub with_line-left : (line : ℕ) (seen : Observation) (used : List UsedFix) →
 unfolding with_line
 with_line-left line seen used left = rw left refl
 
-pub with_line-used : (line : ℕ) (seen : Observation) (used : List UsedFix) → may_follow (last_own used) (own_second (last_own used) seen.time) ≡ true → with_line line (Some seen) used ≡ next_fix line seen used ∷ used
+pub with_line-used : (line : ℕ) (seen : Observation) (used : List UsedFix) → may_follow (last_own used) (own_second (last_own used) seen.time) ≡ true
+    → with_line line (Some seen) used ≡ next_fix line seen used ∷ used
 unfolding with_line
 with_line-used line seen used follows = rw follows refl
 
@@ -99,27 +101,34 @@ kept-few used lines track of open_ =
     omega (arith, length-reverse used)
 
 -- a fix past the limit
-pub track-excess : (used after : List UsedFix) (lines line number : ℕ) (old : Track) (fix : UsedFix) (own_seconds : AreOwnSeconds (map (λ fix. fix.second) old.fixes.items) old.last) → after ≡ fix ∷ used → fix.line ≡ line → number ≡ capped line → IsTrackOf used lines old → old.excess ≡ None → most_fixes ≤ length old.fixes.items → IsTrackOf after (lines + 1) (record { fixes = old.fixes; last = old.last; skipped = old.skipped; excess = Some number; own = own_seconds })
+pub track-excess : (used after : List UsedFix) (lines line number : ℕ) (old : Track) (fix : UsedFix) (own_seconds : AreOwnSeconds (map (λ fix. fix.second) old.fixes.items) old.last)
+    → after ≡ fix ∷ used → fix.line ≡ line → number ≡ capped line → IsTrackOf used lines old → old.excess ≡ None → most_fixes ≤ length old.fixes.items
+    → IsTrackOf after (lines + 1) (record { fixes = old.fixes; last = old.last; skipped = old.skipped; excess = Some number; own = own_seconds })
 track-excess used after lines line number old fix own_seconds is_after is_line is_number of open_ full =
     let long = kept-length used lines old of open_ in
     let few = kept-few used lines old of open_ in
     let at_end : most_fixes ≡ length (reverse used) = omega (arith, length-reverse used) in
     let there : slice_get (reverse after) most_fixes ≡ Some fix =
-    ap (λ (fixes : List UsedFix). slice_get (reverse fixes) most_fixes) is_after ∙ ap (λ (fixes : List UsedFix). slice_get fixes most_fixes) (reverse-cons fix used) ∙ slice_get-seam (reverse used) fix most_fixes at_end in
+    ap (λ (fixes : List UsedFix). slice_get (reverse fixes) most_fixes) is_after ∙ ap (λ (fixes : List UsedFix). slice_get fixes most_fixes) (reverse-cons fix used)
+    ∙ slice_get-seam (reverse used) fix most_fixes at_end in
     record {
       excess = ap Some (is_number ∙ ap capped (sym is_line)) ∙ sym (ap (option_map (λ (fix : UsedFix). capped fix.line)) there);
       kept = λ none. absurd (cc);
     }
 
 -- a fix that is kept
-pub track-kept : (used after : List UsedFix) (lines own : ℕ) (old : Track) (fixes : Vec Fix) (fix : UsedFix) (stored : Fix) (own_seconds : AreOwnSeconds (map (λ fix. fix.second) fixes.items) (Some own)) → after ≡ fix ∷ used → sighting_of stored ≡ own_sighting fix → own ≡ fix.own → IsTrackOf used lines old → old.excess ≡ None → length old.fixes.items < most_fixes → fixes.items ≡ old.fixes.items ++ stored ∷ [] → IsTrackOf after (lines + 1) (record { fixes = fixes; last = Some own; skipped = old.skipped; excess = old.excess; own = own_seconds })
+pub track-kept : (used after : List UsedFix) (lines own : ℕ) (old : Track) (fixes : Vec Fix) (fix : UsedFix) (stored : Fix)
+    (own_seconds : AreOwnSeconds (map (λ fix. fix.second) fixes.items) (Some own)) → after ≡ fix ∷ used → sighting_of stored ≡ own_sighting fix → own ≡ fix.own → IsTrackOf used lines old
+    → old.excess ≡ None → length old.fixes.items < most_fixes → fixes.items ≡ old.fixes.items ++ stored ∷ []
+    → IsTrackOf after (lines + 1) (record { fixes = fixes; last = Some own; skipped = old.skipped; excess = old.excess; own = own_seconds })
 track-kept used after lines own old fixes fix stored own_seconds is_after same is_own of open_ room items =
     let kept = of.kept open_ in
     let long = kept-length used lines old of open_ in
     let few : length (reverse (fix ∷ used)) ≤ most_fixes = omega (arith, length-reverse (fix ∷ used)) in
     let fewer : lines + 1 - length (fix ∷ used) ≡ lines - length used = omega arith in
     let stored_all : map sighting_of fixes.items ≡ map own_sighting (reverse (fix ∷ used)) =
-    ap (map sighting_of) items ∙ map-append sighting_of old.fixes.items (stored ∷ []) ∙ rw (kept.fixes, same) (sym (ap (map own_sighting) (reverse-cons fix used) ∙ map-append own_sighting (reverse used) (fix ∷ []))) in
+    ap (map sighting_of) items ∙ map-append sighting_of old.fixes.items (stored ∷ [])
+    ∙ rw (kept.fixes, same) (sym (ap (map own_sighting) (reverse-cons fix used) ∙ map-append own_sighting (reverse used) (fix ∷ []))) in
     let P : List UsedFix → Type 0 = λ after. IsTrackOf after (lines + 1) (record { fixes = fixes; last = Some own; skipped = old.skipped; excess = old.excess; own = own_seconds }) in
     subst P (sym is_after) (record {
       excess = open_ ∙ sym (ap (option_map (λ (fix : UsedFix). capped fix.line)) (slice_get_past (reverse (fix ∷ used)) most_fixes few));
@@ -132,7 +141,8 @@ track-kept used after lines own old fixes fix stored own_seconds is_after same i
     })
 
 -- past the limit nothing changes
-pub track-stays : (used : List UsedFix) (lines line more : ℕ) (seen : Option Observation) (track : Track) (number : ℕ) → track.excess ≡ Some number → IsTrackOf used lines track → IsTrackOf (with_line line seen used) (lines + more) track
+pub track-stays : (used : List UsedFix) (lines line more : ℕ) (seen : Option Observation) (track : Track) (number : ℕ) → track.excess ≡ Some number → IsTrackOf used lines track
+    → IsTrackOf (with_line line seen used) (lines + more) track
 track-stays used lines line more seen track number excess of =
     with_line_cases (λ after. IsTrackOf after (lines + more) track) line seen used (record { excess = of.excess; kept = λ none. absurd (cc) }) (λ fix. record {
       excess = longer fix (slice_get (reverse used) most_fixes) refl;
@@ -142,7 +152,8 @@ track-stays used lines line more seen track number excess of =
     longer : (fix : UsedFix) (there : Option UsedFix) → slice_get (reverse used) most_fixes ≡ there → track.excess ≡ option_map (λ fix. capped fix.line) (slice_get (reverse (fix ∷ used)) most_fixes)
     longer fix None none = absurd (let other = of.excess ∙ ap (option_map (λ (fix : UsedFix). capped fix.line)) none in cc)
     longer fix (Some first) is =
-        of.excess ∙ ap (option_map (λ (fix : UsedFix). capped fix.line)) (is ∙ sym (ap (λ (fixes : List UsedFix). slice_get fixes most_fixes) (reverse-cons fix used) ∙ slice_get-front (reverse used) (fix ∷ []) most_fixes first is))
+        of.excess ∙ ap (option_map (λ (fix : UsedFix). capped fix.line)) (is
+        ∙ sym (ap (λ (fixes : List UsedFix). slice_get fixes most_fixes) (reverse-cons fix used) ∙ slice_get-front (reverse used) (fix ∷ []) most_fixes first is))
 
 -- no B line
 pub observation_of-other : (extension : Extension) (line : List ℕ) → is_fix_line line ≡ false → observation_of extension line ≡ None
@@ -165,13 +176,15 @@ some_is None some = absurd (false≢true some)
 some_is (Some n) some = (n, refl)
 
 -- past the limit, a line more
-pub take-past : (used : List UsedFix) (lines number : ℕ) (fields : Option Fields) (line : List ℕ) (track : Track) → is_some track.excess ≡ true → IsTrackOf used lines track → IsTrackOf (with_line number (observation_of (extension_held fields) line) used) (lines + (if is_fix_line line then 1 else 0)) track
+pub take-past : (used : List UsedFix) (lines number : ℕ) (fields : Option Fields) (line : List ℕ) (track : Track) → is_some track.excess ≡ true → IsTrackOf used lines track
+    → IsTrackOf (with_line number (observation_of (extension_held fields) line) used) (lines + (if is_fix_line line then 1 else 0)) track
 take-past used lines number fields line track past of =
     let (n, is) = some_is track.excess past in
     track-stays used lines number (if is_fix_line line then 1 else 0) (observation_of (extension_held fields) line) track n is of
 
 -- a line that is no B line
-pub take-other : (used : List UsedFix) (lines number : ℕ) (fields : Option Fields) (line : List ℕ) (track : Track) → is_fix_line line ≡ false → IsTrackOf used lines track → IsTrackOf (with_line number (observation_of (extension_held fields) line) used) (lines + (if is_fix_line line then 1 else 0)) track
+pub take-other : (used : List UsedFix) (lines number : ℕ) (fields : Option Fields) (line : List ℕ) (track : Track) → is_fix_line line ≡ false → IsTrackOf used lines track
+    → IsTrackOf (with_line number (observation_of (extension_held fields) line) used) (lines + (if is_fix_line line then 1 else 0)) track
 take-other used lines number fields line track other of =
     let none = observation_of-other (extension_held fields) line other in
     let same : lines + 0 ≡ lines = omega arith in
@@ -182,7 +195,9 @@ empty_other [] empty = refl
 empty_other (c ∷ cs) empty = absurd (omega arith)
 
 -- a B line
-pub take-line : (used : List UsedFix) (lines number : ℕ) (fields : Option Fields) (line : List ℕ) (seen : Option Observation) (track : Track) → is_fix_line line ≡ true → seen ≡ observation_of (extension_held fields) line → IsTrackOf (with_line number seen used) (lines + 1) track → IsTrackOf (with_line number (observation_of (extension_held fields) line) used) (lines + (if is_fix_line line then 1 else 0)) track
+pub take-line : (used : List UsedFix) (lines number : ℕ) (fields : Option Fields) (line : List ℕ) (seen : Option Observation) (track : Track) → is_fix_line line ≡ true
+    → seen ≡ observation_of (extension_held fields) line → IsTrackOf (with_line number seen used) (lines + 1) track
+    → IsTrackOf (with_line number (observation_of (extension_held fields) line) used) (lines + (if is_fix_line line then 1 else 0)) track
 take-line used lines number fields line seen track is_b same of =
     rw is_b (subst (λ (seen : Option Observation). IsTrackOf (with_line number seen used) (lines + 1) track) same of)
 
@@ -191,6 +206,7 @@ on_ok (Ok x) f h = f h
 on_ok (Err e) f h = h
 
 -- what the code reads is what the definition reads
-pub take-sees : (fields : Option Fields) (none merged : Fields) (line : List ℕ) (read : Option Seen) → extension_view none ≡ no_extension → merged ≡ unwrap_or fields none → option_map observation_view read ≡ observation_of (extension_view merged) line → option_map observation_view read ≡ observation_of (extension_held fields) line
+pub take-sees : (fields : Option Fields) (none merged : Fields) (line : List ℕ) (read : Option Observed) → extension_view none ≡ no_extension → merged ≡ unwrap_or fields none
+    → option_map observation_view read ≡ observation_of (extension_view merged) line → option_map observation_view read ≡ observation_of (extension_held fields) line
 take-sees fields none merged line read empty is_merged reads =
     reads ∙ ap (λ (fields : Extension). observation_of fields line) (ap extension_view is_merged ∙ fields_view fields none empty)

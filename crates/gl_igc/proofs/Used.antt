@@ -15,7 +15,8 @@ use Rattle.gl_igc.specs.declared.fix.Fix.{Fix}
 use Rattle.gl_igc.specs.FixLine.{Observation, observation_of}
 use Rattle.gl_igc.specs.Reading.{Sighting, sighting_at}
 use Rattle.gl_igc.specs.Recording.{sighting_of}
-use Rattle.gl_igc.specs.Seconds.{is_rising, last_second}
+use Rattle.gl_igc.specs.Seconds.{is_rising}
+use Rattle.gl_igc.specs.Code.Seconds.{last_second}
 use Rattle.gl_igc.specs.UsedFixes.{UsedFix, extension_below, last_own, may_follow, own_second, used_fixes, used_upwards, with_line}
 use Rattle.gl_igc.proofs.Ranges.{IsPlaced, seen_placed}
 
@@ -27,7 +28,8 @@ abbrev pub ArePlaced : List UsedFix → Type 0
 ArePlaced used = All (λ fix. IsPlaced fix.seen) used
 
 -- how a line goes on
-line_cases : (P : List UsedFix → Type 0) (line : ℕ) (seen : Observation) (used : List UsedFix) → P used → (may_follow (last_own used) (own_second (last_own used) seen.time) ≡ true → P (next_fix line seen used ∷ used)) → P (with_line line (Some seen) used)
+line_cases : (P : List UsedFix → Type 0) (line : ℕ) (seen : Observation) (used : List UsedFix) → P used
+    → (may_follow (last_own used) (own_second (last_own used) seen.time) ≡ true → P (next_fix line seen used ∷ used)) → P (with_line line (Some seen) used)
 line_cases P line seen used same more = tested (may_follow (last_own used) (own_second (last_own used) seen.time)) refl
   where
     tested : (b : Bool) → may_follow (last_own used) (own_second (last_own used) seen.time) ≡ b → P (with_line line (Some seen) used)
@@ -71,7 +73,8 @@ later : (last own : ℕ) → may_follow (Some last) own ≡ true → last < own
 unfolding may_follow
 later last own follows = below_pos last own (and_first (nat_lt last own) _ follows)
 
-push_rising : (seconds : List ℤ) (last : Option ℕ) (own : ℕ) → IsTrue (is_rising seconds) → last_second seconds ≡ option_map pos last → may_follow last own ≡ true → IsTrue (is_rising (seconds ++ pos own ∷ []))
+push_rising : (seconds : List ℤ) (last : Option ℕ) (own : ℕ) → IsTrue (is_rising seconds) → last_second seconds ≡ option_map pos last → may_follow last own ≡ true
+    → IsTrue (is_rising (seconds ++ pos own ∷ []))
 push_rising seconds None own rising is follows = rising-push seconds (pos own) rising (rw is tt)
 push_rising seconds (Some last) own rising is follows =
     let above = later last own follows in
@@ -137,7 +140,8 @@ fixes_for shift (fix ∷ used) placed =
     (first.0 ∷ rest.0, λ i. first.1 i ∷ rest.1 i)
 
 -- the seconds of such fixes
-pub seconds_are : (shift : ℤ) (used : List UsedFix) (fixes : List Fix) → map sighting_of fixes ≡ map (sighting_at shift) used → map (λ fix. fix.second) fixes ≡ map (λ second. second +ℤ shift) (map own_of used)
+pub seconds_are : (shift : ℤ) (used : List UsedFix) (fixes : List Fix) → map sighting_of fixes ≡ map (sighting_at shift) used
+    → map (λ fix. fix.second) fixes ≡ map (λ second. second +ℤ shift) (map own_of used)
 seconds_are shift used fixes same =
     sym (map-map (λ (s : Sighting). s.second) sighting_of fixes) ∙ ap (map (λ (s : Sighting). s.second)) same
     ∙ map-map (λ (s : Sighting). s.second) (sighting_at shift) used ∙ sym (map-map (λ (second : ℤ). second +ℤ shift) own_of used)

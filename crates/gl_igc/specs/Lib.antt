@@ -1,3 +1,4 @@
+pub mod Code
 pub mod Columns
 pub mod Dates
 pub mod Declaration

@@ -1,11 +1,9 @@
 -- What the parts of the code that reads a recording stand for, as plain data.
-use Rattle.std.specs.Prelude.{◌≡◌, ℕ, ◌-◌, ◌≤◌, nat_eq, codes, if◌then◌else◌, List, [], ◌∷◌, ◌++◌, length, map, take, reverse, slice_get, Option, None, Some, option_map, unwrap_or, ℤ, pos, ◌+ℤ◌}
-use Rattle.std.specs.List.{starts_with}
-use Rattle.std.specs.Option.{option_or}
+use Rattle.std.specs.Prelude.{◌≡◌, ℕ, ◌-◌, ◌≤◌, List, [], ◌∷◌, ◌++◌, length, map, take, reverse, slice_get, None, Some, option_map, pos}
 use Rattle.gl_sphere.specs.PlaceText.{place_of}
 use Rattle.gl_sphere.specs.declared.place.Grid.{Grid}
 use Rattle.gl_igc.specs.Declaration.{declared_by, declared_count, places_of}
-use Rattle.gl_igc.specs.Extension.{Span, Group, Extension, no_extension}
+use Rattle.gl_igc.specs.Extension.{Span, Extension}
 use Rattle.gl_igc.specs.FixLine.{Observation}
 use Rattle.gl_igc.specs.Reading.{Sighting, capped, most_fixes}
 use Rattle.gl_igc.specs.Recording.{sighting_of}
@@ -15,7 +13,6 @@ use Rattle.gl_igc.specs.declared.declaration.Heading.{Heading}
 use Rattle.gl_igc.specs.declared.declaration.Heading.TheVariants.{Awaited, Read, Damaged}
 use Rattle.gl_igc.specs.declared.extension.Field.{Field}
 use Rattle.gl_igc.specs.declared.extension.Fields.{Fields}
-use Rattle.gl_igc.specs.declared.observation.Seen.{Seen}
 use Rattle.gl_igc.specs.declared.track.Track.{Track}
 
 abbrev pub span_view : Field → Span
@@ -26,31 +23,6 @@ extension_view fields = record {
   lad = option_map span_view fields.lad;
   lod = option_map span_view fields.lod;
   enl = option_map span_view fields.enl;
-}
-
--- the fields that hold, where the code keeps those of the first undamaged I line
-abbrev pub extension_held : Option Fields → Extension
-extension_held fields = unwrap_or (option_map extension_view fields) no_extension
-
-abbrev pub observation_view : Seen → Observation
-observation_view seen = record {
-  time = seen.time;
-  lat = seen.grid.lat;
-  lon = seen.grid.lon;
-  alt = seen.alt;
-  enl = seen.enl;
-}
-
--- the columns of a group where it has the code
-abbrev pub span_if : List ℕ → Group → Option Span
-span_if code group = if starts_with nat_eq group.code code then Some group.span else None
-
--- the fields of some groups with one group more
-abbrev pub with_group : Extension → Group → Extension
-with_group fields group = record {
-  lad = option_or fields.lad (span_if (codes "LAD") group);
-  lod = option_or fields.lod (span_if (codes "LOD") group);
-  enl = option_or fields.enl (span_if (codes "ENL") group);
 }
 
 -- what a B line says, with an own second
@@ -66,10 +38,6 @@ sighting_at_own own seen = record {
 -- a used fix with its own second
 abbrev pub own_sighting : UsedFix → Sighting
 own_sighting fix = sighting_at_own fix.own fix.seen
-
--- a sighting with its second moved
-abbrev pub shifted : ℤ → Sighting → Sighting
-shifted shift sighting = record sighting { second = sighting.second +ℤ shift }
 
 -- The track keeps these used fixes, the latest first, of so many B lines.
 pub record IsKept (used : List UsedFix) (lines : ℕ) (track : Track) : Type 0 where

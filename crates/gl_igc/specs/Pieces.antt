@@ -3,19 +3,12 @@ use Rattle.std.specs.Prelude.{◌≡◌, ℕ, List, ◌++◌, true, false, Optio
 use Rattle.gl_text.specs.Lines.{lines_of}
 use Rattle.gl_igc.specs.Progress.{StandsFor}
 use Rattle.gl_igc.specs.declared.igc_reader.IgcReader.{IgcReader}
-use Rattle.gl_igc.specs.declared.progress.Progress.{Progress}
 
--- A text is cut into its first lines and a rest: whatever follows the text, its lines are these, and
+-- A text is cut into its first lines and a rest: whatever follows the text, its lines are these,
+-- and
 -- then those of the rest and of what follows.
 abbrev pub IsCut : List ℕ → List (List ℕ) → List ℕ → Type 0
 IsCut text lines rest = (more : List ℕ) → lines_of (text ++ more) ≡ lines ++ lines_of (rest ++ more)
-
--- The first lines of a text were taken, and the rest is left: what stood for some lines then stands
--- for these and those of the text.
-pub record Takes (text rest : List ℕ) (old new : Progress) : Type 0 where
-  pub lines : List (List ℕ)
-  pub cut : IsCut text lines rest
-  pub taken : (before : List (List ℕ)) → StandsFor before old → StandsFor (before ++ lines) new
 
 -- The reader stands for a text: its progress stands for the first lines of the text, what it keeps
 -- beside is the rest, and no piece was lost.

@@ -1,4 +1,4 @@
-ghost use Rattle.gl_igc.specs.Seconds.{AreBelow};
+ghost use Rattle.gl_igc.specs.Code.Seconds.{AreBelow};
 
 /// The own seconds of the events of the lines so far.
 #[derive(Drop)]

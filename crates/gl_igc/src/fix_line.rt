@@ -3,11 +3,12 @@ ghost use Rattle.std.specs.Char.{is_ascii_digit};
 ghost use Rattle.std.specs.List.{list_all};
 ghost use Rattle.std.specs.Str.Parse.{digits_value};
 ghost use Rattle.gl_igc.specs.FixLine.{decimals_of, field_digits, noise_of, observation_of};
-ghost use Rattle.gl_igc.specs.Parts.{extension_view, observation_view, span_view};
+ghost use Rattle.gl_igc.specs.Parts.{extension_view, span_view};
+ghost use Rattle.gl_igc.specs.Code.Parts.{observation_view};
 
 use crate::columns::{altitude, time};
 use crate::extension::{Field, Fields};
-use crate::observation::Seen;
+use crate::observation::Observed;
 use gl_sphere::{Grid, read_latitude, read_longitude};
 use gl_text::read_digits;
 
@@ -89,7 +90,7 @@ fn noise(field: Option<Field>, line: &[u8]) -> Option<u16>
 
 /// What an undamaged B line with validity `A` says; `None` of any other line.
 #[tactic(auto, unfolding(crate::specs::FixLine::observation_of))]
-pub fn read_fix_line(fields: Fields, line: &[u8]) -> Option<Seen>
+pub fn read_fix_line(fields: Fields, line: &[u8]) -> Option<Observed>
     ensures { option_map observation_view result ≡ observation_of (extension_view fields) line.now }
 {
     if line.len() < FIX_LINE_LENGTH || line[0] != b'B' || line[24] != b'A' {
@@ -105,7 +106,7 @@ pub fn read_fix_line(fields: Fields, line: &[u8]) -> Option<Seen>
     }
     let enl = noise(fields.enl, line);
     let grid = Grid { lat, lon };
-    Some(Seen {
+    Some(Observed {
         time,
         grid,
         alt,

@@ -3,7 +3,8 @@ ghost use Rattle.std.specs.List.{starts_with};
 ghost use Rattle.std.specs.Option.{option_or};
 ghost use Rattle.gl_text.specs.Digits.{columns};
 ghost use Rattle.gl_igc.specs.Extension.{extension_of, extension_of_line, group_of, groups_of};
-ghost use Rattle.gl_igc.specs.Parts.{extension_view, span_view, with_group};
+ghost use Rattle.gl_igc.specs.Parts.{extension_view, span_view};
+ghost use Rattle.gl_igc.specs.Code.Parts.{with_group};
 
 use crate::extension::{Field, Fields};
 use gl_text::read_digits;

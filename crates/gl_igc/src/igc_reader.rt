@@ -1,7 +1,8 @@
 ghost use Rattle.std.specs.Prelude.{◌≡◌, ◌≢◌, ◌≤◌, ◌<◌, ◌⊎◌, ◌++◌, ℕ, List, [], Err, IfOk, IsErr, OnErr, OnOk, drop, length, map, slice_index, take};
 ghost use Rattle.gl_text.specs.Lines.{lines_of};
 ghost use Rattle.gl_igc.specs.Laws.{AreOfLines};
-ghost use Rattle.gl_igc.specs.Pieces.{HasFailed, StandsForText, Takes, task_day_of};
+ghost use Rattle.gl_igc.specs.Pieces.{HasFailed, StandsForText, task_day_of};
+ghost use Rattle.gl_igc.specs.Code.Parts.{Takes};
 ghost use Rattle.gl_igc.specs.Progress.{StandsFor};
 ghost use Rattle.gl_igc.specs.Recording.{IsReadAs, sighting_of};
 ghost use Rattle.gl_igc.specs.declared.error.IgcError.TheVariants.{Memory};

@@ -5,7 +5,7 @@ use gl_sphere::Grid;
 
 /// What an undamaged B line with validity `A` says.
 #[derive(Clone, Copy)]
-pub struct Seen {
+pub struct Observed {
     /// The second of the day.
     pub time: u32,
     pub grid: Grid,

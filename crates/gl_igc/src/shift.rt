@@ -1,10 +1,10 @@
 ghost use Rattle.std.specs.Prelude.{◌≡◌, Some, None, IfSome, if◌then◌else◌, map, pos, ◌<ℤ◌, ◌≤ℤ◌, ◌≤◌, ◌+ℤ◌, ◌-ℤ◌, ◌*ℤ◌, unsigned_abs};
 ghost use Rattle.gl_sphere.specs.Range.{IsWithin};
 ghost use Rattle.gl_igc.specs.Columns.{day};
-ghost use Rattle.gl_igc.specs.Parts.{shifted};
+ghost use Rattle.gl_igc.specs.Code.Parts.{shifted};
 ghost use Rattle.gl_igc.specs.Reading.{is_wrong_day, shift_of};
 ghost use Rattle.gl_igc.specs.Recording.{sighting_of};
-ghost use Rattle.gl_igc.specs.Seconds.{AreBelow};
+ghost use Rattle.gl_igc.specs.Code.Seconds.{AreBelow};
 ghost use Rattle.gl_igc.specs.UsedFixes.{seconds_limit};
 
 use crate::fix::Fix;

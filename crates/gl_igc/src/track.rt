@@ -1,5 +1,5 @@
 ghost use Rattle.std.specs.Prelude.{map};
-ghost use Rattle.gl_igc.specs.Seconds.{AreOwnSeconds};
+ghost use Rattle.gl_igc.specs.Code.Seconds.{AreOwnSeconds};
 
 use crate::fix::Fix;
 

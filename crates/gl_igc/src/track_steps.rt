@@ -1,6 +1,7 @@
 ghost use Rattle.std.specs.Prelude.{◌≡◌, ◌+◌, ◌<◌, ℕ, List, Some, None, OnOk, if◌then◌else◌};
 ghost use Rattle.gl_igc.specs.FixLine.{is_fix_line, observation_of};
-ghost use Rattle.gl_igc.specs.Parts.{IsTrackOf, extension_held, observation_view, sighting_at_own};
+ghost use Rattle.gl_igc.specs.Parts.{IsTrackOf, sighting_at_own};
+ghost use Rattle.gl_igc.specs.Code.Parts.{extension_held, observation_view};
 ghost use Rattle.gl_igc.specs.Reading.{capped};
 ghost use Rattle.gl_igc.specs.Recording.{sighting_of};
 ghost use Rattle.gl_igc.specs.UsedFixes.{UsedFix, with_line};
@@ -8,7 +9,7 @@ ghost use Rattle.gl_igc.specs.UsedFixes.{UsedFix, with_line};
 use crate::extension::Fields;
 use crate::fix::Fix;
 use crate::fix_line::read_fix_line;
-use crate::observation::Seen;
+use crate::observation::Observed;
 use crate::own_second::{may_follow, own_second, signed};
 use crate::track::Track;
 use gl_sphere::vector;
@@ -26,7 +27,7 @@ const NO_FIELDS: Fields = Fields {
 
 /// The fix of a B line, with its own second.
 #[inline]
-fn fix_at(own: u32, seen: Seen) -> Fix
+fn fix_at(own: u32, seen: Observed) -> Fix
     requires { own < 500_000 }
     ensures { sighting_of result ≡ sighting_at_own own (observation_view seen) }
 {
@@ -49,7 +50,7 @@ fn skip(track: &mut Track)
 }
 
 /// Takes what a B line says.
-fn take_seen(track: &mut Track, number: u32, seen: Seen) -> Result<(), AllocError>
+fn take_seen(track: &mut Track, number: u32, seen: Observed) -> Result<(), AllocError>
     requires { track.old.excess ≡ None }
     ensures { OnOk result ((used : List UsedFix) (lines line : ℕ) → number ≡ capped line
         → IsTrackOf used lines track.old

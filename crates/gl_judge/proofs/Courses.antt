@@ -1,7 +1,7 @@
 -- The legs that are left of a course.
 use Rattle.std.proofs.Common.{◌≡◌, ◌∙◌, sym, ap, ℕ, zero, suc, ◌+◌, ◌^◌, ◌<◌, ◌≤◌, List, [], ◌∷◌, ◌++◌, map, drop, take, length, get_or, Some, slice_get, add-one, arith}
 use Rattle.std.proofs.lemmas.List.{length-take}
-use Rattle.gl_goal.specs.Laws.Chain.{legs-limited}
+use Rattle.gl_goal.specs.Lemmas.Chain.{legs-limited}
 use Rattle.std.proofs.Math.ListN.{drop_of_length-le}
 use Rattle.std.proofs.Math.Seq.{drop-cons}
 use Rattle.gl_sphere.specs.declared.place.Vec3.{Vec3}

@@ -72,7 +72,8 @@ none_more kind bound none never i below is = elim (cases_lt i bound) as (λ _. �
   | inr most ↦ (let same : i ≡ bound = omega arith in never (subst kind same is))
 ]
 
-least_more : (kind : ℕ → Type 0) (bound : ℕ) → Decided (kind bound) → ((n : ℕ) × (n < bound) × IsLeast kind n) ⊎ ((i : ℕ) → i < bound → kind i → ⊥) → ((n : ℕ) × (n < suc bound) × IsLeast kind n) ⊎ ((i : ℕ) → i < suc bound → kind i → ⊥)
+least_more : (kind : ℕ → Type 0) (bound : ℕ) → Decided (kind bound) → ((n : ℕ) × (n < bound) × IsLeast kind n) ⊎ ((i : ℕ) → i < bound → kind i → ⊥)
+    → ((n : ℕ) × (n < suc bound) × IsLeast kind n) ⊎ ((i : ℕ) → i < suc bound → kind i → ⊥)
 least_more kind bound here (inl (n, below, least)) = inl (n, omega arith, least)
 least_more kind bound (inl is) (inr none) = inl (
   bound,
@@ -102,7 +103,8 @@ decided-some kind bound decide limit = elim (least_below kind bound decide) as (
 abbrev IsGreatestBelow : (ℕ → Type 0) → ℕ → ℕ → Type 0
 IsGreatestBelow kind bound n = kind n × ((i : ℕ) → i < bound → kind i → i ≤ n)
 
-greatest_more : (kind : ℕ → Type 0) (bound : ℕ) → Decided (kind bound) → ((n : ℕ) × IsGreatestBelow kind bound n) ⊎ ((i : ℕ) → i < bound → kind i → ⊥) → ((n : ℕ) × IsGreatestBelow kind (suc bound) n) ⊎ ((i : ℕ) → i < suc bound → kind i → ⊥)
+greatest_more : (kind : ℕ → Type 0) (bound : ℕ) → Decided (kind bound) → ((n : ℕ) × IsGreatestBelow kind bound n) ⊎ ((i : ℕ) → i < bound → kind i → ⊥)
+    → ((n : ℕ) × IsGreatestBelow kind (suc bound) n) ⊎ ((i : ℕ) → i < suc bound → kind i → ⊥)
 greatest_more kind bound (inl is) rest = inl (bound, (is, λ i below other. omega arith))
 greatest_more kind bound (inr never) (inl (n, most)) = inl (
   n,

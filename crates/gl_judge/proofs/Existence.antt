@@ -5,8 +5,6 @@ use Rattle.std.proofs.lemmas.Int.{ints}
 use Rattle.gl_airspace.specs.declared.volume.Airspace.{Airspace}
 use Rattle.gl_igc.specs.declared.fix.Fix.{Fix}
 use Rattle.gl_igc.specs.declared.recording.Recording.{Recording}
-use Rattle.gl_goal.specs.Rule.{Rule}
-use Rattle.gl_proof.specs.declared.claim.ClaimKind.{ClaimKind}
 use Rattle.gl_proof.specs.declared.claim.ClaimKind.TheVariants as kind
 use Rattle.gl_task.specs.declared.day_type.Kind.{Kind}
 use Rattle.gl_task.specs.declared.day_type.Kind.TheVariants.{Racing, Area}
@@ -14,6 +12,7 @@ use Rattle.gl_task.specs.declared.task.Task.{Task}
 use Rattle.gl_judge.specs.declared.outcome.Judged.{Judged}
 use Rattle.gl_judge.specs.declared.outcome.Judged.TheVariants.{Finished, Outlanded, NoStart}
 use Rattle.gl_judge.specs.declared.outcome.Window.{Window}
+use Rattle.gl_judge.specs.declared.stretch.Stretch.{Stretch}
 use Rattle.gl_judge.specs.Choices.{area_choice, areas_choice, racing_choice}
 use Rattle.gl_judge.specs.Claims.{AreChoices, AreExpected, list_claims}
 use Rattle.gl_judge.specs.Greatest.{IsGreatest, IsLeast}
@@ -27,16 +26,17 @@ use Rattle.gl_judge.proofs.Fronts.{front}
 use Rattle.gl_judge.proofs.Ranges.{range-is}
 use Rattle.gl_judge.proofs.Routes.{visited-after, visited-none}
 use Rattle.gl_judge.proofs.Times.{flown-time}
+use Rattle.gl_judge.specs.Claimed.{FlightClaim}
 
 -- some range has the judged fixes of a recording
-pub some_range : (task : Task) (air : Airspace) (recording : Recording) → (judged : ℕ × ℕ) × IsJudgedRange task.closes air.volumes recording.fixes judged
+pub some_range : (task : Task) (air : Airspace) (recording : Recording) → (judged : Stretch) × IsJudgedRange task.closes air.volumes recording.fixes judged
 some_range task air recording =
     let fixes = recording.fixes in
     let from = front (λ (fix : Fix). int_le (pos 0) fix.second) fixes in
     let end = front (λ (fix : Fix). int_lt task.closes fix.second) fixes in
     let to = from + front (is_in_airspace air.volumes) (slice_range fixes from (max end from)) in
     let first : pos 1 ≤ℤ task.closes = task.closes_at_least in
-    ((from, to), range-is task.closes air.volumes fixes from end to recording.rising (omega (arith, ints)) refl refl refl)
+    (record { from = from; to = to }, range-is task.closes air.volumes fixes from end to recording.rising (omega (arith, ints)) refl refl refl)
 
 natural : (z : ℤ) → pos 0 ≤ℤ z → (n : ℕ) × (pos n ≡ z)
 natural (pos n) le = (n, refl)
@@ -46,7 +46,7 @@ flown : (start finish : ℤ) → start ≤ℤ finish → (seconds : ℕ) × (pos
 flown start finish le = natural (finish -ℤ start) (omega (arith, ints))
 
 -- the first finish that completes a start
-first-finish : (task : Task) (recording : Recording) (judged : ℕ × ℕ) (b : ℕ) → IsCompleteStart task recording judged b → (f : ℕ) × IsLeast (Completes task recording judged b) f
+first-finish : (task : Task) (recording : Recording) (judged : Stretch) (b : ℕ) → IsCompleteStart task recording judged b → (f : ℕ) × IsLeast (Completes task recording judged b) f
 first-finish task recording judged b complete =
     let c = complete.completed in
     elim (least_below (Completes task recording judged b) (suc c.f) (λ f below. decided-completes task recording judged b f)) as (λ _. (f : ℕ) × IsLeast (Completes task recording judged b) f) [
@@ -54,7 +54,7 @@ first-finish task recording judged b complete =
       | inr none ↦ absurd (none c.f (omega arith) (record { time = c.time; finishes = c.finishes }))
     ]
 
-finished : (task : Task) (recording : Recording) (judged : ℕ × ℕ) (b : ℕ) → IsGreatest (IsCompleteStart task recording judged) b → (outcome : Judged) × IsOutcome task recording judged outcome
+finished : (task : Task) (recording : Recording) (judged : Stretch) (b : ℕ) → IsGreatest (IsCompleteStart task recording judged) b → (outcome : Judged) × IsOutcome task recording judged outcome
 finished task recording judged b greatest =
     let start = greatest.is.start in
     let last = first-finish task recording judged b greatest.is in
@@ -74,18 +74,20 @@ finished task recording judged b greatest =
     (Finished window seconds.0, is)
 
 -- the most zones that are visited
-most-visited : (task : Task) (recording : Recording) (judged : ℕ × ℕ) (from : ℕ) → (count : ℕ) × IsGreatest (VisitsFirst recording.fixes judged task.zones from) count
+most-visited : (task : Task) (recording : Recording) (judged : Stretch) (from : ℕ) → (count : ℕ) × IsGreatest (VisitsFirst recording.fixes judged task.zones from) count
 most-visited task recording judged from =
-    elim (greatest_of (VisitsFirst recording.fixes judged task.zones from) (suc (length task.zones)) (λ count below. decided-first recording.fixes judged task.zones from count) (λ count h. omega (arith, h.within))) as (λ _. (count : ℕ) × IsGreatest (VisitsFirst recording.fixes judged task.zones from) count) [
+    elim (greatest_of (VisitsFirst recording.fixes judged task.zones from) (suc (length task.zones)) (λ count below. decided-first recording.fixes judged task.zones from count)
+    (λ count h. omega (arith, h.within))) as (λ _. (count : ℕ) × IsGreatest (VisitsFirst recording.fixes judged task.zones from) count) [
       | inl at ↦ at
       | inr none ↦ absurd (none 0 (record { within = omega arith; last = from; visited = visited-none recording.fixes judged from }))
     ]
 
-outlanded : (task : Task) (recording : Recording) (judged : ℕ × ℕ) (b : ℕ) → ((b : ℕ) → IsCompleteStart task recording judged b → ⊥) → IsLeast (IsStart task.start recording judged) b → (outcome : Judged) × IsOutcome task recording judged outcome
+outlanded : (task : Task) (recording : Recording) (judged : Stretch) (b : ℕ) → ((b : ℕ) → IsCompleteStart task recording judged b → ⊥) → IsLeast (IsStart task.start recording judged) b
+    → (outcome : Judged) × IsOutcome task recording judged outcome
 outlanded task recording judged b incomplete least =
     let start = least.is in
     let count = most-visited task recording judged b in
-    let window : Window = record { first = b; last = judged.1 - 1; start = start.time } in
+    let window : Window = record { first = b; last = judged.to - 1; start = start.time } in
     let is : IsOutlanded task recording judged window count.0 = record {
       incomplete = incomplete;
       first = least;
@@ -96,14 +98,16 @@ outlanded task recording judged b incomplete least =
     (Outlanded window count.0, is)
 
 -- a flight with these judged fixes has an outcome
-pub some_outcome : (task : Task) (recording : Recording) (judged : ℕ × ℕ) → (outcome : Judged) × IsOutcome task recording judged outcome
+pub some_outcome : (task : Task) (recording : Recording) (judged : Stretch) → (outcome : Judged) × IsOutcome task recording judged outcome
 some_outcome task recording judged =
-    elim (greatest_of (IsCompleteStart task recording judged) judged.1 (λ b below. decided-complete_start task recording judged b) (λ b h. h.start.legal.crossed.behind_judged.1)) as (λ _. (outcome : Judged) × IsOutcome task recording judged outcome) [
+    elim (greatest_of (IsCompleteStart task recording judged) judged.to (λ b below. decided-complete_start task recording judged b) (λ b h. h.start.legal.crossed.behind_judged.1))
+    as (λ _. (outcome : Judged) × IsOutcome task recording judged outcome) [
       | inl at ↦ finished task recording judged at.0 at.1
-      | inr incomplete ↦ (elim (least_below (IsStart task.start recording judged) judged.1 (λ b below. decided-start task.start recording judged b)) as (λ _. (outcome : Judged) × IsOutcome task recording judged outcome) [
-        | inl at ↦ outlanded task recording judged at.0 incomplete at.2
-        | inr none ↦ (NoStart, λ b s. none b s.legal.crossed.behind_judged.1 s)
-      ])
+      | inr incomplete ↦ (elim (least_below (IsStart task.start recording judged) judged.to (λ b below. decided-start task.start recording judged b)) as (λ _. (outcome : Judged)
+          × IsOutcome task recording judged outcome) [
+            | inl at ↦ outlanded task recording judged at.0 incomplete at.2
+            | inr none ↦ (NoStart, λ b s. none b s.legal.crossed.behind_judged.1 s)
+          ])
     ]
 
 -- every recording is judged in some way
@@ -114,31 +118,34 @@ some_judged task air recording =
     (outcome.0, record { judged = range.0; range = range.1; is = outcome.1 })
 
 -- the least fix with which a visit of the zones that an outlanding visited can end
-first-end : (task : Task) (recording : Recording) (judged : ℕ × ℕ) (window : Window) (count : ℕ) → IsOutlanded task recording judged window count → (last : ℕ) × IsLeast (HasVisit recording.fixes judged (take count task.zones) window.first) last
+first-end : (task : Task) (recording : Recording) (judged : Stretch) (window : Window) (count : ℕ) → IsOutlanded task recording judged window count
+    → (last : ℕ) × IsLeast (HasVisit recording.fixes judged (take count task.zones) window.first) last
 first-end task recording judged window count is =
     let visit = is.visited.is in
     let zones = take count task.zones in
-    elim (least_below (HasVisit recording.fixes judged zones window.first) (suc visit.last) (λ last below. decided-visit recording.fixes judged zones window.first last)) as (λ _. (last : ℕ) × IsLeast (HasVisit recording.fixes judged zones window.first) last) [
+    elim (least_below (HasVisit recording.fixes judged zones window.first) (suc visit.last) (λ last below. decided-visit recording.fixes judged zones window.first last)) as (λ _. (last : ℕ)
+    × IsLeast (HasVisit recording.fixes judged zones window.first) last) [
       | inl at ↦ (at.0, at.2)
       | inr none ↦ absurd (none visit.last (omega arith) visit.visited)
     ]
 
 -- an outcome has its claims for the distance
-pub some_choices : (contest : Kind) (task : Task) (recording : Recording) (judged : ℕ × ℕ) (outcome : Judged) → IsOutcome task recording judged outcome → (claims : List (ClaimKind × Rule)) × AreChoices contest task recording.fixes judged outcome claims
+pub some_choices : (contest : Kind) (task : Task) (recording : Recording) (judged : Stretch) (outcome : Judged) → IsOutcome task recording judged outcome
+    → (claims : List FlightClaim) × AreChoices contest task recording.fixes judged outcome claims
 some_choices Racing task recording judged (Finished window seconds) is = ([], refl)
-some_choices (Area minimum) task recording judged (Finished window seconds) is = ((kind.Area, area_choice task recording.fixes window) ∷ [], refl)
+some_choices (Area minimum) task recording judged (Finished window seconds) is = ((record { kind = kind.Area; rule = area_choice task recording.fixes window }) ∷ [], refl)
 some_choices Racing task recording judged (Outlanded window zones) is =
     let from = first-end task recording judged window zones is in
     let rule = racing_choice task recording.fixes window zones from.0 in
-    ((kind.Out, rule) ∷ [], (rule, (from.0, from.1, refl), refl))
+    ((record { kind = kind.Out; rule = rule }) ∷ [], (rule, (from.0, from.1, refl), refl))
 some_choices (Area minimum) task recording judged (Outlanded window zones) is =
     let rule = areas_choice task recording.fixes window zones in
-    ((kind.Out, rule) ∷ [], (rule, refl, refl))
+    ((record { kind = kind.Out; rule = rule }) ∷ [], (rule, refl, refl))
 some_choices Racing task recording judged NoStart is = ([], refl)
 some_choices (Area minimum) task recording judged NoStart is = ([], refl)
 
 -- of every recording some claims are expected
-pub some_expected : (task : Task) (air : Airspace) (recording : Recording) → (claims : List (ClaimKind × Rule)) × AreExpected task air recording claims
+pub some_expected : (task : Task) (air : Airspace) (recording : Recording) → (claims : List FlightClaim) × AreExpected task air recording claims
 some_expected task air recording =
     let range = some_range task air recording in
     let judged = range.0 in

@@ -4,6 +4,7 @@ use Rattle.std.proofs.lemmas.Bool.{cases_lt}
 use Rattle.std.proofs.lemmas.List.{take_more}
 use Rattle.gl_igc.specs.declared.fix.Fix.{Fix}
 use Rattle.gl_zone.specs.declared.zone.Zone.{Zone}
+use Rattle.gl_judge.specs.declared.stretch.Stretch.{Stretch}
 use Rattle.gl_judge.specs.Greatest.{IsGreatest, IsLeast}
 use Rattle.gl_judge.specs.Visits.{HasVisit, IsInZone, VisitsFirst}
 use Rattle.gl_judge.proofs.Routes.{Begun, Ends, visited-ends, visited-push, visited-take}
@@ -12,7 +13,8 @@ more : (zones : List Zone) (k : ℕ) (zone : Zone) → k < length zones → zone
 more zones k zone within at = take_more zones k zone within ∙ ap (λ (z : Zone). take k zones ++ z ∷ []) (sym at)
 
 -- one zone more, at its first fix
-pub least-push : (fixes : List Fix) (judged : ℕ × ℕ) (zones : List Zone) (k from last z : ℕ) (zone : Zone) → k < length zones → zone ≡ get_or zones k zone → IsLeast (HasVisit fixes judged (take k zones) from) last → IsInZone fixes judged zone z → last ≤ z
+pub least-push : (fixes : List Fix) (judged : Stretch) (zones : List Zone) (k from last z : ℕ) (zone : Zone) → k < length zones → zone ≡ get_or zones k zone
+    → IsLeast (HasVisit fixes judged (take k zones) from) last → IsInZone fixes judged zone z → last ≤ z
     → ((i : ℕ) → last ≤ i → IsInZone fixes judged zone i → z ≤ i) → IsLeast (HasVisit fixes judged (take (k + 1) zones) from) z
 least-push fixes judged zones k from last z zone within at least here after first =
     let longer : take (k + 1) zones ≡ take k zones ++ zone ∷ [] = more zones k zone within at in
@@ -26,7 +28,8 @@ least-push fixes judged zones k from last z zone within at least here after firs
     }
 
 -- no zone more
-pub most-stop : (fixes : List Fix) (judged : ℕ × ℕ) (zones : List Zone) (k from last : ℕ) (zone : Zone) → k < length zones → zone ≡ get_or zones k zone → IsLeast (HasVisit fixes judged (take k zones) from) last
+pub most-stop : (fixes : List Fix) (judged : Stretch) (zones : List Zone) (k from last : ℕ) (zone : Zone) → k < length zones → zone ≡ get_or zones k zone
+    → IsLeast (HasVisit fixes judged (take k zones) from) last
     → ((i : ℕ) → last ≤ i → IsInZone fixes judged zone i → ⊥) → IsGreatest (VisitsFirst fixes judged zones from) k
 most-stop fixes judged zones k from last zone within at least none = record {
   is = record { within = omega arith; last = last; visited = least.is };

@@ -11,7 +11,7 @@ use Rattle.gl_igc.specs.declared.fix.Fix.{Fix}
 use Rattle.gl_zone.specs.declared.zone.Zone.{Zone}
 use Rattle.gl_zone.specs.Zones.{is_in_zone}
 use Rattle.gl_goal.specs.Free.{numbers_from}
-use Rattle.gl_goal.specs.Laws.Free.{get_or-numbers_from, length-numbers_from, numbers_from-rises}
+use Rattle.gl_goal.specs.Lemmas.Free.{get_or-numbers_from, length-numbers_from, numbers_from-rises}
 use Rattle.gl_goal.proofs.FreeLosses.{numbers_from-more}
 use Rattle.gl_judge.specs.Choices.{lies_in, numbers_before, numbers_in_zone, zone_lists}
 
@@ -45,14 +45,16 @@ one-dropped : (p : ℕ → Bool) (i : ℕ) → p i ≡ false → filter p (i ∷
 one-dropped p i dropped = cc
 
 -- one fix more that lies in the zone
-pub zone-more : (fixes : List Fix) (zone : Zone) (first i : ℕ) (numbers pushed : List ℕ) → first ≤ i → IsSomeAnd (slice_get fixes i) (λ fix. IsTrue (is_in_zone zone fix.at)) → pushed ≡ numbers ++ i ∷ [] → numbers ≡ numbers_in_zone fixes first i zone → pushed ≡ numbers_in_zone fixes first (i + 1) zone
+pub zone-more : (fixes : List Fix) (zone : Zone) (first i : ℕ) (numbers pushed : List ℕ) → first ≤ i → IsSomeAnd (slice_get fixes i) (λ fix. IsTrue (is_in_zone zone fix.at))
+    → pushed ≡ numbers ++ i ∷ [] → numbers ≡ numbers_in_zone fixes first i zone → pushed ≡ numbers_in_zone fixes first (i + 1) zone
 zone-more fixes zone first i numbers pushed after here is before =
     let p : ℕ → Bool = λ k. lies_in zone (slice_get fixes k) in
     is ∙ ap (λ (ns : List ℕ). ns ++ i ∷ []) before ∙ ap (λ (ns : List ℕ). numbers_in_zone fixes first i zone ++ ns) (sym (one-kept p i (lies-when zone (slice_get fixes i) here)))
     ∙ sym (filter-append p (numbers_from first (i - first)) (i ∷ [])) ∙ ap (filter p) (sym (numbers-next first i after))
 
 -- one that doesn't
-pub zone-same : (fixes : List Fix) (zone : Zone) (first i : ℕ) (numbers : List ℕ) → first ≤ i → (IsSomeAnd (slice_get fixes i) (λ fix. IsTrue (is_in_zone zone fix.at)) → ⊥) → numbers ≡ numbers_in_zone fixes first i zone → numbers ≡ numbers_in_zone fixes first (i + 1) zone
+pub zone-same : (fixes : List Fix) (zone : Zone) (first i : ℕ) (numbers : List ℕ) → first ≤ i → (IsSomeAnd (slice_get fixes i) (λ fix. IsTrue (is_in_zone zone fix.at)) → ⊥)
+    → numbers ≡ numbers_in_zone fixes first i zone → numbers ≡ numbers_in_zone fixes first (i + 1) zone
 zone-same fixes zone first i numbers after here before =
     let p : ℕ → Bool = λ k. lies_in zone (slice_get fixes k) in
     before ∙ sym (plus-none (numbers_in_zone fixes first i zone)) ∙ ap (λ (ns : List ℕ). numbers_in_zone fixes first i zone ++ ns) (sym (one-dropped p i (lies-unless zone (slice_get fixes i) here)))
@@ -63,7 +65,8 @@ zone-same fixes zone first i numbers after here before =
     plus-none (x ∷ xs) = ap (λ (ys : List ℕ). x ∷ ys) (plus-none xs)
 
 -- the list of one zone more
-pub lists-more : (fixes : List Fix) (zones : List Zone) (first behind k : ℕ) (zone : Zone) (lists pushed : List (List ℕ)) (list : List ℕ) → k < length zones → zone ≡ get_or zones k zone → list ≡ numbers_in_zone fixes first behind zone → lists ≡ zone_lists fixes (take k zones) first behind → pushed ≡ lists ++ list ∷ [] → pushed ≡ zone_lists fixes (take (k + 1) zones) first behind
+pub lists-more : (fixes : List Fix) (zones : List Zone) (first behind k : ℕ) (zone : Zone) (lists pushed : List (List ℕ)) (list : List ℕ) → k < length zones → zone ≡ get_or zones k zone
+    → list ≡ numbers_in_zone fixes first behind zone → lists ≡ zone_lists fixes (take k zones) first behind → pushed ≡ lists ++ list ∷ [] → pushed ≡ zone_lists fixes (take (k + 1) zones) first behind
 lists-more fixes zones first behind k zone lists pushed list within at list_is before is =
     let longer : take (k + 1) zones ≡ take k zones ++ zone ∷ [] = take_more zones k zone within ∙ ap (λ (z : Zone). take k zones ++ z ∷ []) (sym at) in
     let f : Zone → List ℕ = numbers_in_zone fixes first behind in
@@ -99,7 +102,8 @@ cons-kept p x xs kept = cc
 cons-dropped : (p : ℕ → Bool) (x : ℕ) (xs : List ℕ) → p x ≡ false → filter p (x ∷ xs) ≡ filter p xs
 cons-dropped p x xs dropped = cc
 
-kept-later : (p : ℕ → Bool) (x : ℕ) (xs : List ℕ) (number : ℕ) → (IsPlaced xs number → IsPlaced (filter p xs) number) → (place : ℕ) → place < length (x ∷ xs) → get_or (x ∷ xs) place 0 ≡ number → IsPlaced (x ∷ filter p xs) number
+kept-later : (p : ℕ → Bool) (x : ℕ) (xs : List ℕ) (number : ℕ) → (IsPlaced xs number → IsPlaced (filter p xs) number) → (place : ℕ) → place < length (x ∷ xs) → get_or (x ∷ xs) place 0 ≡ number
+    → IsPlaced (x ∷ filter p xs) number
 kept-later p x xs number rest zero within there = record { place = 0; within = omega arith; there = there }
 kept-later p x xs number rest (suc place) within there =
     placed-next x number (filter p xs) (rest (record { place = place; within = omega arith; there = there }))
@@ -107,14 +111,17 @@ kept-later p x xs number rest (suc place) within there =
 pub differ : false ≡ true → ⊥
 differ same = absurd (cc)
 
-not-first : (p : ℕ → Bool) (x : ℕ) (xs : List ℕ) (number : ℕ) → p number ≡ true → p x ≡ false → (IsPlaced xs number → IsPlaced (filter p xs) number) → (place : ℕ) → place < length (x ∷ xs) → get_or (x ∷ xs) place 0 ≡ number → IsPlaced (filter p xs) number
+not-first : (p : ℕ → Bool) (x : ℕ) (xs : List ℕ) (number : ℕ) → p number ≡ true → p x ≡ false → (IsPlaced xs number → IsPlaced (filter p xs) number) → (place : ℕ) → place < length (x ∷ xs)
+    → get_or (x ∷ xs) place 0 ≡ number → IsPlaced (filter p xs) number
 not-first p x xs number passes dropped rest zero within there = absurd (differ (sym dropped ∙ ap p there ∙ passes))
 not-first p x xs number passes dropped rest (suc place) within there =
     rest (record { place = place; within = omega arith; there = there })
 
-kept-first : (p : ℕ → Bool) (x : ℕ) (xs : List ℕ) (number : ℕ) → p number ≡ true → (IsPlaced xs number → IsPlaced (filter p xs) number) → IsPlaced (x ∷ xs) number → (p x ≡ true) ⊎ (p x ≡ false) → IsPlaced (filter p (x ∷ xs)) number
+kept-first : (p : ℕ → Bool) (x : ℕ) (xs : List ℕ) (number : ℕ) → p number ≡ true → (IsPlaced xs number → IsPlaced (filter p xs) number) → IsPlaced (x ∷ xs) number → (p x ≡ true) ⊎ (p x ≡ false)
+    → IsPlaced (filter p (x ∷ xs)) number
 kept-first p x xs number passes rest at (inl kept) = subst (λ (ns : List ℕ). IsPlaced ns number) (sym (cons-kept p x xs kept)) (kept-later p x xs number rest at.place at.within at.there)
-kept-first p x xs number passes rest at (inr dropped) = subst (λ (ns : List ℕ). IsPlaced ns number) (sym (cons-dropped p x xs dropped)) (not-first p x xs number passes dropped rest at.place at.within at.there)
+kept-first p x xs number passes rest at (inr dropped) = subst (λ (ns : List ℕ). IsPlaced ns number) (sym (cons-dropped p x xs dropped))
+    (not-first p x xs number passes dropped rest at.place at.within at.there)
 
 kept-placed : (p : ℕ → Bool) (numbers : List ℕ) (number : ℕ) → p number ≡ true → IsPlaced numbers number → IsPlaced (filter p numbers) number
 kept-placed p [] number passes at = absurd (omega (arith, at.within))
@@ -132,6 +139,7 @@ before-placed first behind number after below =
     }
 
 -- and among those in a zone where it lies in it
-pub zone-placed : (fixes : List Fix) (first behind : ℕ) (zone : Zone) (number : ℕ) → first ≤ number → number < behind → IsSomeAnd (slice_get fixes number) (λ fix. IsTrue (is_in_zone zone fix.at)) → IsPlaced (numbers_in_zone fixes first behind zone) number
+pub zone-placed : (fixes : List Fix) (first behind : ℕ) (zone : Zone) (number : ℕ) → first ≤ number → number < behind → IsSomeAnd (slice_get fixes number) (λ fix. IsTrue (is_in_zone zone fix.at))
+    → IsPlaced (numbers_in_zone fixes first behind zone) number
 zone-placed fixes first behind zone number after below inside =
     kept-placed (λ k. lies_in zone (slice_get fixes k)) (numbers_before first behind) number (lies-when zone (slice_get fixes number) inside) (before-placed first behind number after below)

@@ -23,6 +23,7 @@ not_earlier fixes i j a b rising le first second =
     ]
 
 -- a fix is later than the one before it
-pub next_later : (fixes : List Fix) (i : ℕ) (a b d e : Fix) → IsTrue (is_rising (map (λ fix. fix.second) fixes)) → 0 < i → i < length fixes → a ≡ get_or fixes (i - 1) d → b ≡ get_or fixes i e → a.second <ℤ b.second
+pub next_later : (fixes : List Fix) (i : ℕ) (a b d e : Fix) → IsTrue (is_rising (map (λ fix. fix.second) fixes)) → 0 < i → i < length fixes → a ≡ get_or fixes (i - 1) d → b ≡ get_or fixes i e
+    → a.second <ℤ b.second
 next_later fixes i a b d e rising some within first second =
     later fixes (i - 1) i a b rising (omega arith) (slice_get-get_or fixes (i - 1) d (omega arith) ∙ ap Some (sym first)) (slice_get-get_or fixes i e within ∙ ap Some (sym second))

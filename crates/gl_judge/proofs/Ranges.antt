@@ -18,7 +18,8 @@ part-length fixes from end order within =
     let dropped : length (drop from fixes) ≡ length fixes - from = length-drop from fixes in
     omega (arith, length-take (end - from) (drop from fixes))
 
-part-get : (fixes : List Fix) (from end k : ℕ) (fix : Fix) → from ≤ end → end ≤ length fixes → from + k < end → slice_get fixes (from + k) ≡ Some fix → slice_get (slice_range fixes from end) k ≡ Some fix
+part-get : (fixes : List Fix) (from end k : ℕ) (fix : Fix) → from ≤ end → end ≤ length fixes → from + k < end → slice_get fixes (from + k) ≡ Some fix
+    → slice_get (slice_range fixes from end) k ≡ Some fix
 part-get fixes from end k fix order within before is =
     let same : get_or fixes (from + k) fix ≡ fix = get_or_from_slice_get fixes (from + k) fix fix is in
     let short : k < end - from = omega arith in
@@ -70,12 +71,14 @@ end-within closes volumes fixes from end to p = omega (arith, p.end_is, front-wi
 
 to-within : (closes : ℤ) (volumes : List Volume) (fixes : List Fix) (from end to : ℕ) → Parts closes volumes fixes from end to → to ≤ max end from
 to-within closes volumes fixes from end to p =
-    let within : front (is_in_airspace volumes) (slice_range fixes from (max end from)) ≤ length (slice_range fixes from (max end from)) = front-within (is_in_airspace volumes) (slice_range fixes from (max end from)) in
+    let within : front (is_in_airspace volumes) (slice_range fixes from (max end from)) ≤ length (slice_range fixes from (max end from)) =
+    front-within (is_in_airspace volumes) (slice_range fixes from (max end from)) in
     let count : length (slice_range fixes from (max end from)) ≡ max end from - from = part-length fixes from (max end from) (omega arith) (end-within closes volumes fixes from end to p) in
     omega (arith, p.to_is)
 
 -- a fix with second 0 or more isn't before the first
-of_day-from : (closes : ℤ) (volumes : List Volume) (fixes : List Fix) (from end to j : ℕ) (fix : Fix) → Parts closes volumes fixes from end to → slice_get fixes j ≡ Some fix → pos 0 ≤ℤ fix.second → from ≤ j
+of_day-from : (closes : ℤ) (volumes : List Volume) (fixes : List Fix) (from end to j : ℕ) (fix : Fix) → Parts closes volumes fixes from end to → slice_get fixes j ≡ Some fix → pos 0 ≤ℤ fix.second
+    → from ≤ j
 of_day-from closes volumes fixes from end to j fix p is of =
     elim (cases_lt j from) as (λ _. from ≤ j) [
       | inl lt ↦ absurd (is_before_day fix (front-before of_day fixes j fix is (omega (arith, p.from_is))) of)
@@ -127,8 +130,9 @@ closed closes volumes fixes from end to i p h past =
       | inr whole ↦ absurd (omega (arith, h.there))
     ]
 
-pub range-is : (closes : ℤ) (volumes : List Volume) (fixes : List Fix) (from end to : ℕ) → IsTrue (is_rising (map (λ fix. fix.second) fixes)) → pos 0 ≤ℤ closes → from ≡ front of_day fixes → end ≡ front (too_late closes) fixes → to ≡ from + front (is_in_airspace volumes) (slice_range fixes from (max end from))
-    → IsJudgedRange closes volumes fixes (from, to)
+pub range-is : (closes : ℤ) (volumes : List Volume) (fixes : List Fix) (from end to : ℕ) → IsTrue (is_rising (map (λ fix. fix.second) fixes)) → pos 0 ≤ℤ closes → from ≡ front of_day fixes
+    → end ≡ front (too_late closes) fixes → to ≡ from + front (is_in_airspace volumes) (slice_range fixes from (max end from))
+    → IsJudgedRange closes volumes fixes (record { from = from; to = to })
 range-is closes volumes fixes from end to rising of_day_closes from_is end_is to_is =
     let p : Parts closes volumes fixes from end to = record { rising = rising; closes_of_day = of_day_closes; from_is = from_is; end_is = end_is; to_is = to_is } in
     record {

@@ -5,25 +5,25 @@ use Rattle.std.specs.List.Sorted.{IsStrictlyIncreasing}
 use Rattle.std.proofs.lemmas.List.{length-append, length-map, length-take-le, map-append, take_all}
 use Rattle.gl_sphere.specs.declared.place.Vec3.{Vec3}
 use Rattle.gl_igc.specs.declared.recording.Recording.{Recording}
-use Rattle.gl_task.specs.declared.day_type.Finish.{Finish}
-use Rattle.gl_task.specs.declared.day_type.Finish.TheVariants.{Ring, Gate}
 use Rattle.gl_task.specs.declared.task.Task.{Task}
 use Rattle.gl_goal.specs.Area.{area_goal}
 use Rattle.gl_goal.specs.Out.{out_goal}
 use Rattle.gl_judge.specs.declared.outcome.Window.{Window}
-use Rattle.gl_judge.specs.Finishes.{IsAtFinish, lead_of}
+use Rattle.gl_judge.specs.declared.stretch.Stretch.{Stretch}
+use Rattle.gl_judge.specs.Finishes.{lead_of}
 use Rattle.gl_judge.specs.Greatest.{IsGreatest, IsLeast}
 use Rattle.gl_judge.specs.JudgedFixes.{IsInRange}
-use Rattle.gl_judge.specs.Outcome.{HasFinished}
+use Rattle.gl_judge.specs.Code.Outcome.{HasFinished}
 use Rattle.gl_igc.specs.declared.fix.Fix.{Fix}
 use Rattle.gl_zone.specs.declared.zone.Zone.{Zone}
 use Rattle.gl_goal.specs.Lists.{AreLists, AreNamed}
-use Rattle.gl_goal.specs.Rule.{IsInTimeOrder, IsLegal, IsTuple, Rule, chosen}
-use Rattle.gl_goal.specs.Laws.Free.{numbers_from-rises}
+use Rattle.gl_goal.specs.Goal.{IsInTimeOrder, IsLegal, IsTuple, Goal, chosen}
+use Rattle.gl_goal.specs.Lemmas.Free.{numbers_from-rises}
 use Rattle.gl_judge.specs.Choices.{numbers_before, numbers_in_zone, zone_lists}
 use Rattle.gl_judge.specs.Visits.{HasVisit, IsVisit, VisitsFirst, last_of}
 use Rattle.gl_judge.proofs.Numbers.{before-named, before-placed, zone-named, zone-placed, zone-rises}
 use Rattle.gl_judge.proofs.Routes.{last-after}
+use Rattle.gl_judge.proofs.Times.{finish-judged}
 
 -- a choice from lists that names these fixes, in time order
 pub record IsTour (lists : List (List ℕ)) (numbers : List ℕ) : Type 0 where
@@ -32,7 +32,7 @@ pub record IsTour (lists : List (List ℕ)) (numbers : List ℕ) : Type 0 where
   pub names : chosen lists places ≡ numbers
   pub in_order : IsInTimeOrder numbers
 
-visit-order : (fixes : List Fix) (judged : ℕ × ℕ) (zones : List Zone) (from : ℕ) (visit : List ℕ) → IsVisit fixes judged zones from visit → IsInTimeOrder (from ∷ visit)
+visit-order : (fixes : List Fix) (judged : Stretch) (zones : List Zone) (from : ℕ) (visit : List ℕ) → IsVisit fixes judged zones from visit → IsInTimeOrder (from ∷ visit)
 visit-order fixes judged [] from [] v = tt
 visit-order fixes judged [] from (z ∷ zs) v = absurd v
 visit-order fixes judged (zone ∷ zones) from [] v = absurd v
@@ -42,7 +42,8 @@ order-rest : (x : ℕ) (xs : List ℕ) → IsInTimeOrder (x ∷ xs) → IsInTime
 order-rest x [] order = tt
 order-rest x (y ∷ ys) order = order.1
 
-visit-placed : (fixes : List Fix) (judged : ℕ × ℕ) (zones : List Zone) (from first behind : ℕ) (visit : List ℕ) → first ≤ from → last_of from visit < behind → IsVisit fixes judged zones from visit → (places : List ℕ) × IsTuple (zone_lists fixes zones first behind) places × (chosen (zone_lists fixes zones first behind) places ≡ visit)
+visit-placed : (fixes : List Fix) (judged : Stretch) (zones : List Zone) (from first behind : ℕ) (visit : List ℕ) → first ≤ from → last_of from visit < behind → IsVisit fixes judged zones from visit
+    → (places : List ℕ) × IsTuple (zone_lists fixes zones first behind) places × (chosen (zone_lists fixes zones first behind) places ≡ visit)
 visit-placed fixes judged [] from first behind [] after below v = ([], tt, refl)
 visit-placed fixes judged [] from first behind (z ∷ zs) after below v = absurd v
 visit-placed fixes judged (zone ∷ zones) from first behind [] after below v = absurd v
@@ -54,7 +55,8 @@ visit-placed fixes judged (zone ∷ zones) from first behind (z ∷ zs) after be
     (here.place ∷ rest.0, (here.within, rest.1), (λ i. here.there i ∷ rest.2 i))
 
 -- a visit is a choice from the lists of its zones
-pub visit-tour : (fixes : List Fix) (judged : ℕ × ℕ) (zones : List Zone) (first behind : ℕ) (visit : List ℕ) → last_of first visit < behind → IsVisit fixes judged zones first visit → IsTour (zone_lists fixes zones first behind) visit
+pub visit-tour : (fixes : List Fix) (judged : Stretch) (zones : List Zone) (first behind : ℕ) (visit : List ℕ) → last_of first visit < behind → IsVisit fixes judged zones first visit
+    → IsTour (zone_lists fixes zones first behind) visit
 visit-tour fixes judged zones first behind visit below v =
     let placed = visit-placed fixes judged zones first first behind visit (omega arith) below v in
     record {
@@ -89,7 +91,8 @@ tuple-last [] (p ∷ places) list place fits within = absurd fits
 tuple-last (l ∷ lists) [] list place fits within = absurd fits
 tuple-last (l ∷ lists) (p ∷ places) list place fits within = (fits.0, tuple-last lists places list place fits.1 within)
 
-chosen-last : (lists : List (List ℕ)) (places : List ℕ) (list : List ℕ) (place : ℕ) → IsTuple lists places → chosen (lists ++ list ∷ []) (places ++ place ∷ []) ≡ chosen lists places ++ get_or list place 0 ∷ []
+chosen-last : (lists : List (List ℕ)) (places : List ℕ) (list : List ℕ) (place : ℕ) → IsTuple lists places
+    → chosen (lists ++ list ∷ []) (places ++ place ∷ []) ≡ chosen lists places ++ get_or list place 0 ∷ []
 chosen-last [] [] list place fits = refl
 chosen-last [] (p ∷ places) list place fits = absurd fits
 chosen-last (l ∷ lists) [] list place fits = absurd fits
@@ -99,7 +102,8 @@ order-last : (first : ℕ) (numbers : List ℕ) (y : ℕ) → IsInTimeOrder (fir
 order-last first [] y order after = (after, tt)
 order-last first (z ∷ zs) y order after = (order.0, order-last z zs y order.1 after)
 
-pub tour-last : (fixes : List Fix) (judged : ℕ × ℕ) (zones : List Zone) (first behind : ℕ) (visit : List ℕ) → last_of first visit < behind → IsVisit fixes judged zones first visit → IsTour (zone_lists fixes zones first behind ++ numbers_before first behind ∷ []) (visit ++ (behind - 1) ∷ [])
+pub tour-last : (fixes : List Fix) (judged : Stretch) (zones : List Zone) (first behind : ℕ) (visit : List ℕ) → last_of first visit < behind → IsVisit fixes judged zones first visit
+    → IsTour (zone_lists fixes zones first behind ++ numbers_before first behind ∷ []) (visit ++ (behind - 1) ∷ [])
 tour-last fixes judged zones first behind visit below v =
     let tour = visit-tour fixes judged zones first behind visit below v in
     let end : first ≤ last_of first visit = last-after fixes judged zones first visit v in
@@ -119,7 +123,8 @@ all-last P (l ∷ lists) list all one zero d below = all 0 d (omega arith)
 all-last P (l ∷ lists) list all one (suc k) d below = all-last P lists list (λ j e inside. all (suc j) e (omega arith)) one k d (omega arith)
 
 -- the lists from which visits and a last fix are chosen are well formed
-pub zone-lists : (fixes : List Fix) (zones : List Zone) (first behind : ℕ) (numbers : List ℕ) → 0 < length zones → length zones ≤ 10 → behind ≤ length fixes → IsTour (zone_lists fixes zones first behind) numbers → AreLists fixes (zone_lists fixes zones first behind)
+pub zone-lists : (fixes : List Fix) (zones : List Zone) (first behind : ℕ) (numbers : List ℕ) → 0 < length zones → length zones ≤ 10 → behind ≤ length fixes
+    → IsTour (zone_lists fixes zones first behind) numbers → AreLists fixes (zone_lists fixes zones first behind)
 zone-lists fixes zones first behind numbers some ten most tour = record {
   some_list = omega (arith, some, length-map zones (numbers_in_zone fixes first behind));
   ten_lists = omega (arith, ten, length-map zones (numbers_in_zone fixes first behind));
@@ -128,7 +133,8 @@ zone-lists fixes zones first behind numbers some ten most tour = record {
   named = lists-named fixes zones first behind most;
 }
 
-pub out-lists : (fixes : List Fix) (zones : List Zone) (first behind : ℕ) (numbers : List ℕ) → length zones ≤ 9 → behind ≤ length fixes → IsTour (zone_lists fixes zones first behind ++ numbers_before first behind ∷ []) numbers → AreLists fixes (zone_lists fixes zones first behind ++ numbers_before first behind ∷ [])
+pub out-lists : (fixes : List Fix) (zones : List Zone) (first behind : ℕ) (numbers : List ℕ) → length zones ≤ 9 → behind ≤ length fixes
+    → IsTour (zone_lists fixes zones first behind ++ numbers_before first behind ∷ []) numbers → AreLists fixes (zone_lists fixes zones first behind ++ numbers_before first behind ∷ [])
 out-lists fixes zones first behind numbers nine most tour =
     let lists = zone_lists fixes zones first behind in
     record {
@@ -139,20 +145,18 @@ out-lists fixes zones first behind numbers nine most tour =
       named = all-last (AreNamed fixes) lists (numbers_before first behind) (lists-named fixes zones first behind most) (before-named first behind (length fixes) most);
     }
 
--- a finish is judged
-finish-judged : (finish : Finish) (fixes : List Fix) (judged : ℕ × ℕ) (f : ℕ) (time : ℤ) → IsAtFinish finish fixes judged f time → f < judged.1
-finish-judged (Ring at radius) fixes judged f time there = there.is_judged.1
-finish-judged (Gate line) fixes judged f time there = there.behind_judged.1
-
 -- the last fix of a visit is judged, if the first one is
-pub visit-judged : (fixes : List Fix) (judged : ℕ × ℕ) (zones : List Zone) (from : ℕ) (visit : List ℕ) → IsInRange judged from → IsVisit fixes judged zones from visit → last_of from visit < judged.1
+pub visit-judged : (fixes : List Fix) (judged : Stretch) (zones : List Zone) (from : ℕ) (visit : List ℕ) → IsInRange judged from → IsVisit fixes judged zones from visit
+    → last_of from visit < judged.to
 visit-judged fixes judged [] from [] start v = start.1
 visit-judged fixes judged [] from (z ∷ zs) start v = absurd v
 visit-judged fixes judged (zone ∷ zones) from [] start v = absurd v
 visit-judged fixes judged (zone ∷ zones) from (z ∷ zs) start v = visit-judged fixes judged zones z zs v.1.is_judged v.2
 
 -- where so many zones are visited, that many of them are
-pub all-visited : (fixes : List Fix) (judged : ℕ × ℕ) (zones given : List Zone) (from count n last : ℕ) → given ≡ zones → VisitsFirst fixes judged zones from count → IsGreatest (VisitsFirst fixes judged (take count given) from) n → IsLeast (HasVisit fixes judged (take n (take count given)) from) last → IsLeast (HasVisit fixes judged (take count zones) from) last
+pub all-visited : (fixes : List Fix) (judged : Stretch) (zones given : List Zone) (from count n last : ℕ) → given ≡ zones → VisitsFirst fixes judged zones from count
+    → IsGreatest (VisitsFirst fixes judged (take count given) from) n → IsLeast (HasVisit fixes judged (take n (take count given)) from) last
+    → IsLeast (HasVisit fixes judged (take count zones) from) last
 all-visited fixes judged zones given from count n last same v most least =
     let size : length (take count given) ≡ count = length-take-le count given (omega (arith, v.within, ap length same)) in
     let whole : take count (take count given) ≡ take count zones = take_all count (take count given) (omega (arith, size)) ∙ ap (take count) same in
@@ -181,7 +185,7 @@ finish-tour task recording window has =
     let behind = window.last + 1 - lead_of task.finish in
     let end : last_of window.first visit.visit + lead_of task.finish ≤ window.last = omega (arith, ap (λ (n : ℕ). n + lead_of task.finish) visit.ends, finish.finished.after) in
     let start : window.first ≤ last_of window.first visit.visit = last-after recording.fixes has.judged task.zones window.first visit.visit visit.is_visit in
-    let judged : window.last < has.judged.1 = finish-judged task.finish recording.fixes has.judged window.last has.finished.time finish.finished.at_finish in
+    let judged : window.last < has.judged.to = (finish-judged task.finish recording.fixes has.judged window.last has.finished.time finish.finished.at_finish).1 in
     record {
       behind = behind;
       behind_is = refl;
@@ -192,7 +196,8 @@ finish-tour task recording window has =
     }
 
 -- the lists of an area task, and a legal choice from them
-pub area-legal : (task : Task) (fixes : List Fix) (window : Window) (start finish : Vec3) (off : ℕ) (tour : HasTour task fixes window) → (tuple : List ℕ) × IsLegal (area_goal fixes (zone_lists fixes task.zones window.first tour.behind) start finish off) tuple
+pub area-legal : (task : Task) (fixes : List Fix) (window : Window) (start finish : Vec3) (off : ℕ) (tour : HasTour task fixes window)
+    → (tuple : List ℕ) × IsLegal (area_goal fixes (zone_lists fixes task.zones window.first tour.behind) start finish off) tuple
 unfolding area_goal
 area-legal task fixes window start finish off tour = (
   tour.tour.places,
@@ -210,20 +215,23 @@ area-lists task fixes window tour =
 -- the one list of an outlanding in a racing task, and a legal choice from it
 pub racing-lists : (fixes : List Fix) (from behind : ℕ) → from < behind → behind ≤ length fixes → AreLists fixes (numbers_before from behind ∷ [])
 racing-lists fixes from behind some most =
-    out-lists fixes [] from behind ((behind - 1) ∷ []) (omega arith) most (tour-last fixes (0, 0) [] from behind [] some tt)
+    out-lists fixes [] from behind ((behind - 1) ∷ []) (omega arith) most (tour-last fixes (record { from = from; to = behind }) [] from behind [] some tt)
 
-pub racing-legal : (fixes : List Fix) (from behind fixed : ℕ) (start target : Vec3) → from < behind → (tuple : List ℕ) × IsLegal (out_goal fixes (numbers_before from behind ∷ []) start fixed target) tuple
+pub racing-legal : (fixes : List Fix) (from behind fixed : ℕ) (start target : Vec3) → from < behind
+    → (tuple : List ℕ) × IsLegal (out_goal fixes (numbers_before from behind ∷ []) start fixed target) tuple
 unfolding out_goal
 racing-legal fixes from behind fixed start target some =
-    let tour = tour-last fixes (0, 0) [] from behind [] some tt in
+    let tour = tour-last fixes (record { from = from; to = behind }) [] from behind [] some tt in
     (tour.places, record { is_tuple = tour.is_tuple; in_order = subst IsInTimeOrder (sym tour.names) tour.in_order; allowed = refl })
 
 -- the lists of an outlanding in a task of areas, and a legal choice from them
-pub out-tour : (fixes : List Fix) (judged : ℕ × ℕ) (zones : List Zone) (first behind last : ℕ) → behind ≡ judged.1 → HasVisit fixes judged zones first last → IsInRange judged first → (numbers : List ℕ) × IsTour (zone_lists fixes zones first behind ++ numbers_before first behind ∷ []) numbers
+pub out-tour : (fixes : List Fix) (judged : Stretch) (zones : List Zone) (first behind last : ℕ) → behind ≡ judged.to → HasVisit fixes judged zones first last → IsInRange judged first
+    → (numbers : List ℕ) × IsTour (zone_lists fixes zones first behind ++ numbers_before first behind ∷ []) numbers
 out-tour fixes judged zones first behind last is v start =
     (v.visit ++ (behind - 1) ∷ [], tour-last fixes judged zones first behind v.visit (omega (arith, is, visit-judged fixes judged zones first v.visit start v.is_visit)) v.is_visit)
 
-pub areas-legal : (fixes : List Fix) (lists : List (List ℕ)) (numbers : List ℕ) (fixed : ℕ) (start target : Vec3) → IsTour lists numbers → (tuple : List ℕ) × IsLegal (out_goal fixes lists start fixed target) tuple
+pub areas-legal : (fixes : List Fix) (lists : List (List ℕ)) (numbers : List ℕ) (fixed : ℕ) (start target : Vec3) → IsTour lists numbers
+    → (tuple : List ℕ) × IsLegal (out_goal fixes lists start fixed target) tuple
 unfolding out_goal
 areas-legal fixes lists numbers fixed start target tour =
     (tour.places, record { is_tuple = tour.is_tuple; in_order = subst IsInTimeOrder (sym tour.names) tour.in_order; allowed = refl })
@@ -233,16 +241,19 @@ pub lists-as : (fixes given : List Fix) (wanted lists : List (List ℕ)) → giv
 lists-as fixes given wanted lists given_is lists_are are =
     subst (λ (fs : List Fix). AreLists fs lists) (sym given_is) (subst (AreLists fixes) (sym lists_are) are)
 
-pub legal-as : (rule wanted : Rule) → rule ≡ wanted → (tuple : List ℕ) × IsLegal wanted tuple → (tuple : List ℕ) × IsLegal rule tuple
-legal-as rule wanted same legal = subst (λ (r : Rule). (tuple : List ℕ) × IsLegal r tuple) (sym same) legal
+pub legal-as : (rule wanted : Goal) → rule ≡ wanted → (tuple : List ℕ) × IsLegal wanted tuple → (tuple : List ℕ) × IsLegal rule tuple
+legal-as rule wanted same legal = subst (λ (r : Goal). (tuple : List ℕ) × IsLegal r tuple) (sym same) legal
 
-pub zone_lists-as : (fixes given : List Fix) (zones some : List Zone) (first behind end : ℕ) → given ≡ fixes → some ≡ zones → end ≡ behind → zone_lists given some first end ≡ zone_lists fixes zones first behind
+pub zone_lists-as : (fixes given : List Fix) (zones some : List Zone) (first behind end : ℕ) → given ≡ fixes → some ≡ zones → end ≡ behind
+    → zone_lists given some first end ≡ zone_lists fixes zones first behind
 zone_lists-as fixes given zones some first behind end given_is some_are end_is = λ i. zone_lists (given_is i) (some_are i) first (end_is i)
 
-pub area_goal-as : (fixes given : List Fix) (wanted lists : List (List ℕ)) (start finish : Vec3) (off : ℕ) → given ≡ fixes → lists ≡ wanted → area_goal given lists start finish off ≡ area_goal fixes wanted start finish off
+pub area_goal-as : (fixes given : List Fix) (wanted lists : List (List ℕ)) (start finish : Vec3) (off : ℕ) → given ≡ fixes → lists ≡ wanted
+    → area_goal given lists start finish off ≡ area_goal fixes wanted start finish off
 area_goal-as fixes given wanted lists start finish off given_is lists_are = λ i. area_goal (given_is i) (lists_are i) start finish off
 
-pub out_goal-as : (fixes given : List Fix) (wanted lists : List (List ℕ)) (start : Vec3) (fixed : ℕ) (target : Vec3) → given ≡ fixes → lists ≡ wanted → out_goal given lists start fixed target ≡ out_goal fixes wanted start fixed target
+pub out_goal-as : (fixes given : List Fix) (wanted lists : List (List ℕ)) (start : Vec3) (fixed : ℕ) (target : Vec3) → given ≡ fixes → lists ≡ wanted
+    → out_goal given lists start fixed target ≡ out_goal fixes wanted start fixed target
 out_goal-as fixes given wanted lists start fixed target given_is lists_are = λ i. out_goal (given_is i) (lists_are i) start fixed target
 
 -- the items of one list, or of lists and one more
@@ -250,6 +261,7 @@ pub one-list : {V : Type 0} (f : V → List ℕ) (none pushed : List V) (v : V) 
 one-list f none pushed v list none_is is list_is =
     ap (map f) (is ∙ ap (λ vs. vs ++ v ∷ []) none_is) ∙ ap (λ (l : List ℕ). l ∷ []) list_is
 
-pub lists-then : {V : Type 0} (f : V → List ℕ) (before pushed : List V) (v : V) (lists : List (List ℕ)) (list : List ℕ) → map f before ≡ lists → pushed ≡ before ++ v ∷ [] → f v ≡ list → map f pushed ≡ lists ++ list ∷ []
+pub lists-then : {V : Type 0} (f : V → List ℕ) (before pushed : List V) (v : V) (lists : List (List ℕ)) (list : List ℕ) → map f before ≡ lists → pushed ≡ before ++ v ∷ [] → f v ≡ list
+    → map f pushed ≡ lists ++ list ∷ []
 lists-then f before pushed v lists list lists_are is list_is =
     ap (map f) is ∙ map-append f before (v ∷ []) ∙ (λ i. lists_are i ++ list_is i ∷ [])

@@ -7,13 +7,14 @@ use Rattle.gl_goal.specs.Area.{area_goal}
 use Rattle.gl_goal.specs.Chain.{legs}
 use Rattle.gl_goal.specs.Free.{numbers_from}
 use Rattle.gl_goal.specs.Out.{out_goal}
-use Rattle.gl_goal.specs.Rule.{Rule}
+use Rattle.gl_goal.specs.Goal.{Goal}
 use Rattle.gl_task.specs.declared.day_type.Kind.{Kind}
 use Rattle.gl_task.specs.declared.day_type.Kind.TheVariants.{Racing, Area}
 use Rattle.gl_task.specs.declared.task.Task.{Task}
 use Rattle.gl_zone.specs.declared.zone.Zone.{Zone}
 use Rattle.gl_zone.specs.Zones.{is_in_zone}
 use Rattle.gl_judge.specs.declared.outcome.Window.{Window}
+use Rattle.gl_judge.specs.declared.stretch.Stretch.{Stretch}
 use Rattle.gl_judge.specs.Finishes.{lead_of}
 use Rattle.gl_judge.specs.Greatest.{IsLeast}
 use Rattle.gl_judge.specs.Marking.{course_of, finish_point, ring_radius}
@@ -44,7 +45,7 @@ start_point task = task.start.line.centre
 -- The choice of one who finished a task of areas: a fix in each zone, from the start up to the
 -- finish, or up to the fix before the one that crossed a finish line. The radius of a finish ring
 -- is off.
-abbrev pub area_choice : Task → List Fix → Window → Rule
+abbrev pub area_choice : Task → List Fix → Window → Goal
 area_choice task fixes window =
     area_goal fixes
     (zone_lists fixes task.zones window.first (window.last + 1 - lead_of task.finish))
@@ -57,14 +58,14 @@ course_point task count = slice_index_or (course_of task) count (start_point tas
 -- The choice of an outlanding in a racing task with so many visited zones: the fix that comes
 -- nearest to the next point of the course, from some fix on. The legs to the last visited zone are
 -- fixed.
-abbrev pub racing_choice : Task → List Fix → Window → ℕ → ℕ → Rule
+abbrev pub racing_choice : Task → List Fix → Window → ℕ → ℕ → Goal
 racing_choice task fixes window count from =
     out_goal fixes (numbers_before from (window.last + 1) ∷ []) (course_point task count)
     (legs (take (count + 1) (course_of task))) (course_point task (count + 1))
 
 -- The choice of an outlanding in a task of areas with so many visited zones: a fix in each of them,
 -- and the one that comes nearest to the next point of the course.
-abbrev pub areas_choice : Task → List Fix → Window → ℕ → Rule
+abbrev pub areas_choice : Task → List Fix → Window → ℕ → Goal
 areas_choice task fixes window count =
     out_goal fixes
     (zone_lists fixes (take count task.zones) window.first (window.last + 1)
@@ -73,9 +74,9 @@ areas_choice task fixes window count =
 
 -- The choice of an outlanding. In a racing task it begins where the last visited zone can be
 -- reached first.
-abbrev pub IsOutChoice : Kind → Task → List Fix → ℕ × ℕ → Window → ℕ → Rule → Type 0
-IsOutChoice Racing task fixes judged window count rule =
+abbrev pub IsOutChoice : Kind → Task → List Fix → Stretch → Window → ℕ → Goal → Type 0
+IsOutChoice Racing task fixes judged window count goal =
     (from : ℕ) × IsLeast (HasVisit fixes judged (take count task.zones) window.first) from
-    × (rule ≡ racing_choice task fixes window count from)
-IsOutChoice (Area minimum) task fixes judged window count rule =
-    rule ≡ areas_choice task fixes window count
+    × (goal ≡ racing_choice task fixes window count from)
+IsOutChoice (Area minimum) task fixes judged window count goal =
+    goal ≡ areas_choice task fixes window count

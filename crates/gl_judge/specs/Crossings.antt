@@ -3,11 +3,12 @@ use Rattle.std.specs.Prelude.{◌≡◌, ℕ, ◌+◌, List, slice_get, Some, �
 use Rattle.gl_igc.specs.declared.fix.Fix.{Fix}
 use Rattle.gl_zone.specs.declared.line.Line.{Line}
 use Rattle.gl_zone.specs.Crossing.{CrossesForwards}
+use Rattle.gl_judge.specs.declared.stretch.Stretch.{Stretch}
 use Rattle.gl_judge.specs.JudgedFixes.{IsInRange}
 
 -- The line is crossed forwards at a time from the fix before this one to this one, both of them
 -- judged.
-pub record Crosses (line : Line) (fixes : List Fix) (judged : ℕ × ℕ) (i : ℕ) (time : ℤ)
+pub record Crosses (line : Line) (fixes : List Fix) (judged : Stretch) (i : ℕ) (time : ℤ)
     : Type 0 where
   pub before : ℕ
   pub next : before + 1 ≡ i

@@ -4,6 +4,7 @@ use Rattle.std.specs.List.{list_any}
 use Rattle.gl_igc.specs.declared.fix.Fix.{Fix}
 use Rattle.gl_airspace.specs.declared.volume.Volume.{Volume}
 use Rattle.gl_airspace.specs.Inside.{is_inside}
+use Rattle.gl_judge.specs.declared.stretch.Stretch.{Stretch}
 
 -- a fix is inside a volume
 abbrev pub is_in_airspace : List Volume → Fix → Bool
@@ -25,14 +26,14 @@ pub record IsJudgedFix (closes : ℤ) (volumes : List Volume) (fixes : List Fix)
 abbrev pub first_of_day : List Fix → ℕ
 first_of_day fixes = unwrap_or (position (λ fix. int_le (pos 0) fix.second) fixes) (length fixes)
 
--- a number stands in a range, from its first number up to but without its second
-abbrev pub IsInRange : ℕ × ℕ → ℕ → Type 0
-IsInRange range i = (range.0 ≤ i) × (i < range.1)
+-- a number stands in a stretch, from its first number up to but without its second
+abbrev pub IsInRange : Stretch → ℕ → Type 0
+IsInRange stretch i = (stretch.from ≤ i) × (i < stretch.to)
 
--- the judged fixes are those in a range; where there is none, its two numbers are equal
-pub record IsJudgedRange (closes : ℤ) (volumes : List Volume) (fixes : List Fix) (range : ℕ × ℕ)
+-- the judged fixes are those of a stretch; where there is none, its two numbers are equal
+pub record IsJudgedRange (closes : ℤ) (volumes : List Volume) (fixes : List Fix) (stretch : Stretch)
     : Type 0 where
-  pub ordered : range.0 ≤ range.1
-  pub within : range.1 ≤ length fixes
-  pub each : (i : ℕ) → IsInRange range i → IsJudgedFix closes volumes fixes i
-  pub all : (i : ℕ) → IsJudgedFix closes volumes fixes i → IsInRange range i
+  pub ordered : stretch.from ≤ stretch.to
+  pub within : stretch.to ≤ length fixes
+  pub each : (i : ℕ) → IsInRange stretch i → IsJudgedFix closes volumes fixes i
+  pub all : (i : ℕ) → IsJudgedFix closes volumes fixes i → IsInRange stretch i

@@ -1,6 +1,7 @@
 pub mod Choices
 pub mod Claimed
 pub mod Claims
+pub mod Code
 pub mod Crossings
 pub mod Finishes
 pub mod Greatest
@@ -9,5 +10,4 @@ pub mod Laws
 pub mod Marking
 pub mod Outcome
 pub mod Starts
-pub mod Stretch
 pub mod Visits

@@ -3,6 +3,7 @@ use Rattle.std.specs.Prelude.{◌≡◌, ℕ, ◌<◌, List, slice_get, Bool, �
 use Rattle.gl_igc.specs.declared.recording.Recording.{Recording}
 use Rattle.gl_task.specs.declared.task.PilotStart.{PilotStart}
 use Rattle.gl_task.specs.declared.task.Start.{Start}
+use Rattle.gl_judge.specs.declared.stretch.Stretch.{Stretch}
 use Rattle.gl_judge.specs.Crossings.{Crosses}
 
 -- A time is in the window that an event opens: the window begins with the wait after the event, and
@@ -27,7 +28,7 @@ IsAnnounced (Some pilot) events time = HasEvent pilot events time
 -- The fix of this number is a legal start at a time: the start line is crossed there from the fix
 -- before it, from the second that opens the start up to the one that closes it, and the start is
 -- announced.
-pub record IsLegalStart (start : Start) (recording : Recording) (judged : ℕ × ℕ) (b : ℕ)
+pub record IsLegalStart (start : Start) (recording : Recording) (judged : Stretch) (b : ℕ)
     (time : ℤ) : Type 0 where
   pub crossed : Crosses start.line recording.fixes judged b time
   pub opened : start.opens ≤ℤ time
@@ -35,6 +36,6 @@ pub record IsLegalStart (start : Start) (recording : Recording) (judged : ℕ ×
   pub announced : IsAnnounced start.pilot recording.events time
 
 -- the fix of this number is a legal start
-pub record IsStart (start : Start) (recording : Recording) (judged : ℕ × ℕ) (b : ℕ) : Type 0 where
+pub record IsStart (start : Start) (recording : Recording) (judged : Stretch) (b : ℕ) : Type 0 where
   pub time : ℤ
   pub legal : IsLegalStart start recording judged b time

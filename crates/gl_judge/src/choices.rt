@@ -1,12 +1,12 @@
 ghost use Rattle.std.specs.Prelude.{ℕ, List, ◌≡◌, ◌≤◌, length, take, IfOk};
 ghost use Rattle.gl_goal.specs.AreaGoal.{area_rule};
 ghost use Rattle.gl_goal.specs.OutGoal.{out_rule};
-ghost use Rattle.gl_goal.specs.Rule.{IsLegal};
+ghost use Rattle.gl_goal.specs.Goal.{IsLegal};
 ghost use Rattle.gl_judge.specs.Choices.{IsOutChoice, area_choice, areas_choice, racing_choice};
 ghost use Rattle.gl_judge.specs.Greatest.{IsLeast};
 ghost use Rattle.gl_judge.specs.JudgedFixes.{IsInRange};
-ghost use Rattle.gl_judge.specs.Outcome.{HasFinished, IsOutlanded};
-ghost use Rattle.gl_judge.specs.Stretch.{range_of};
+ghost use Rattle.gl_judge.specs.Code.Outcome.{HasFinished};
+ghost use Rattle.gl_judge.specs.Outcome.{IsOutlanded};
 ghost use Rattle.gl_judge.specs.Visits.{HasVisit, VisitsFirst};
 
 use crate::course::{course_point, legs_to};
@@ -48,11 +48,11 @@ pub(crate) fn area_choice(
 /// The first fix with which a visit of so many zones ends, from a start on.
 fn first_visit(task: &Task, rec: &Recording, judged: Stretch, start: usize, count: usize) -> usize
     requires to_in_list { judged.to ≤ length rec.now.fixes }
-    requires start_judged { IsInRange (range_of judged) start }
-    requires visited { VisitsFirst rec.now.fixes (range_of judged) task.now.zones start count }
-    ensures judged { IsInRange (range_of judged) result }
+    requires start_judged { IsInRange judged start }
+    requires visited { VisitsFirst rec.now.fixes judged task.now.zones start count }
+    ensures judged { IsInRange judged result }
     ensures least { IsLeast
-        (HasVisit rec.now.fixes (range_of judged) (take count task.now.zones) start) result }
+        (HasVisit rec.now.fixes judged (take count task.now.zones) start) result }
 {
     let zones = &task.zones.as_slice()[..count];
     visit_zones(zones, rec.fixes.as_slice(), judged, start).last
@@ -70,9 +70,9 @@ fn racing_choice(
     count: usize,
 ) -> Result<OutGoal, AllocError>
     requires to_in_list { judged.to ≤ length rec.now.fixes }
-    requires outlanded { IsOutlanded task.now rec.now (range_of judged) window count }
+    requires outlanded { IsOutlanded task.now rec.now judged window count }
     ensures rule { IfOk result (λ goal. (from : ℕ)
-        × IsLeast (HasVisit rec.now.fixes (range_of judged) (take count task.now.zones)
+        × IsLeast (HasVisit rec.now.fixes judged (take count task.now.zones)
         window.first) from
         × (out_rule goal ≡ racing_choice task.now rec.now.fixes window count from)) }
     ensures legal { IfOk result (λ goal. (tuple : List ℕ) × IsLegal (out_rule goal) tuple) }
@@ -100,7 +100,7 @@ fn areas_choice(
     count: usize,
 ) -> Result<OutGoal, AllocError>
     requires to_in_list { judged.to ≤ length rec.now.fixes }
-    requires outlanded { IsOutlanded task.now rec.now (range_of judged) window count }
+    requires outlanded { IsOutlanded task.now rec.now judged window count }
     ensures rule { IfOk result
         (λ goal. out_rule goal ≡ areas_choice task.now rec.now.fixes window count) }
     ensures legal { IfOk result (λ goal. (tuple : List ℕ) × IsLegal (out_rule goal) tuple) }
@@ -126,9 +126,9 @@ pub(crate) fn out_choice(
     count: usize,
 ) -> Result<OutGoal, AllocError>
     requires to_in_list { judged.to ≤ length rec.now.fixes }
-    requires outlanded { IsOutlanded task.now rec.now (range_of judged) window count }
+    requires outlanded { IsOutlanded task.now rec.now judged window count }
     ensures rule { IfOk result (λ goal. IsOutChoice task.now.kind task.now rec.now.fixes
-        (range_of judged) window count (out_rule goal)) }
+        judged window count (out_rule goal)) }
     ensures legal { IfOk result (λ goal. (tuple : List ℕ) × IsLegal (out_rule goal) tuple) }
 {
     match task.kind {

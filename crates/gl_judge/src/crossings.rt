@@ -1,6 +1,5 @@
 ghost use Rattle.std.specs.Prelude.{◌≤◌, ℤ, length, IfSome, IfNone};
 ghost use Rattle.gl_judge.specs.Crossings.{Crosses};
-ghost use Rattle.gl_judge.specs.Stretch.{range_of};
 
 use crate::stretch::Stretch;
 use gl_igc::Recording;
@@ -12,9 +11,9 @@ use gl_zone::{Line, crossing};
 pub(crate) fn crossing_at(line: &Line, rec: &Recording, judged: Stretch, i: usize) -> Option<i32>
     requires { judged.to ≤ length rec.now.fixes }
     ensures some { IfSome result
-        (λ time. Crosses line.now rec.now.fixes (range_of judged) i time) }
+        (λ time. Crosses line.now rec.now.fixes judged i time) }
     ensures none { IfNone result
-        ((time : ℤ) → Crosses line.now rec.now.fixes (range_of judged) i time → ⊥) }
+        ((time : ℤ) → Crosses line.now rec.now.fixes judged i time → ⊥) }
 {
     if i <= judged.from || judged.to <= i {
         return None;

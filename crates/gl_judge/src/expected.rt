@@ -1,13 +1,11 @@
 ghost use Rattle.std.specs.Prelude.{◌≡◌, ◌-◌, ◌≤◌, ◌<◌, [], ◌∷◌, ◌++◌, length, IfOk, MatchOption};
-ghost use Rattle.gl_goal.specs.Rule.{Rule};
 ghost use Rattle.std.specs.Option.{option_to_list};
-ghost use Rattle.gl_judge.specs.Claimed.{rules_of_claims};
+ghost use Rattle.gl_judge.specs.Claimed.{FlightClaim, rules_of_claims};
 ghost use Rattle.gl_judge.specs.Claims.{AreChoices, AreExpected, HaveLegal, claim_if, free_claims, triangle_claims};
 ghost use Rattle.gl_judge.specs.Outcome.{IsJudged, IsOutcome, OnFinished};
-ghost use Rattle.gl_judge.specs.Stretch.{range_of};
 
 use crate::choices::{area_choice, out_choice};
-use crate::judged_fixes::judged_fixes;
+use crate::judged_fixes::judged_range;
 use crate::judging::outcome_of;
 use crate::outcome::Judged;
 use crate::stretch::Stretch;
@@ -35,9 +33,9 @@ fn chosen_claim(
     outcome: Judged,
 ) -> Result<Option<(ClaimKind, AnyGoal)>, AllocError>
     requires to_in_list { judged.to ≤ length rec.now.fixes }
-    requires outcome { IsOutcome task.now rec.now (range_of judged) outcome }
+    requires outcome { IsOutcome task.now rec.now judged outcome }
     ensures expected { IfOk result (λ claim. AreChoices task.now.kind task.now rec.now.fixes
-        (range_of judged) outcome (rules_of_claims (option_to_list claim))) }
+        judged outcome (rules_of_claims (option_to_list claim))) }
     ensures legal { IfOk result (λ claim. HaveLegal (rules_of_claims (option_to_list claim))) }
 {
     match (outcome, task.kind) {
@@ -57,11 +55,11 @@ fn chosen_claim(
 fn listed_range(asked: bool, judged: Stretch) -> Option<(u32, u32)>
     requires { judged.to ≤ 90_000 }
     ensures { MatchOption result
-        ((claim : ClaimKind × Rule) → claim_if asked (range_of judged) claim ≡ [])
+        ((claim : FlightClaim) → claim_if asked judged claim ≡ [])
         (λ range. (range.0 ≡ judged.from) × (range.1 ≡ judged.to - 1) × (range.0 ≤ range.1)
         × (range.1 < judged.to)
-        × ((claim : ClaimKind × Rule)
-        → claim_if asked (range_of judged) claim ≡ claim ∷ [])) }
+        × ((claim : FlightClaim)
+        → claim_if asked judged claim ≡ claim ∷ [])) }
 {
     if !asked || judged.to <= judged.from {
         return None;
@@ -79,7 +77,7 @@ fn free_claim(
 ) -> Result<Option<(ClaimKind, AnyGoal)>, AllocError>
     requires to_in_list { judged.to ≤ length rec.now.fixes }
     ensures expected { IfOk result (λ claim. rules_of_claims (option_to_list claim)
-        ≡ free_claims task.now rec.now.fixes (range_of judged)) }
+        ≡ free_claims task.now rec.now.fixes judged) }
     ensures legal { IfOk result (λ claim. HaveLegal (rules_of_claims (option_to_list claim))) }
 {
     let Some((first, last)) = listed_range(task.free, judged) else {
@@ -99,7 +97,7 @@ fn triangle_claim(
 ) -> Result<Option<(ClaimKind, AnyGoal)>, AllocError>
     requires to_in_list { judged.to ≤ length rec.now.fixes }
     ensures expected { IfOk result (λ claim. rules_of_claims (option_to_list claim)
-        ≡ triangle_claims task.now rec.now.fixes (range_of judged)) }
+        ≡ triangle_claims task.now rec.now.fixes judged) }
     ensures legal { IfOk result (λ claim. HaveLegal (rules_of_claims (option_to_list claim))) }
 {
     let Some((first, last)) = listed_range(task.triangle, judged) else {
@@ -132,7 +130,8 @@ fn listed(
     Ok(claims)
 }
 
-/// How a flight is judged, as [`judge`](crate::judge) has it, and the claims that are expected of it,
+/// How a flight is judged, as [`judge`](crate::judge) has it, and the claims that are expected of
+/// it,
 /// as [`claims`] has them. The only error is want of memory.
 pub fn judge_flight(
     alloc: Global,
@@ -148,7 +147,7 @@ pub fn judge_flight(
         AreExpected task.now air.now rec.now (rules_of_claims flight.claims.items)) }
     ensures legal { IfOk result (λ flight. HaveLegal (rules_of_claims flight.claims.items)) }
 {
-    let judged = judged_fixes(task, air, rec);
+    let judged = judged_range(task, air, rec);
     let outcome = outcome_of(task, rec, judged);
     let chosen = chosen_claim(alloc, task, rec, judged, outcome)?;
     let free = free_claim(alloc, task, rec, judged)?;

@@ -2,7 +2,6 @@ ghost use Rattle.std.specs.Prelude.{ℕ, ◌≡◌, ◌≤◌, ◌<◌, ◌+◌,
 ghost use Rattle.gl_judge.specs.Finishes.{IsAtFinish, IsFinish, IsInRing, lead_of};
 ghost use Rattle.gl_judge.specs.Greatest.{IsGreatest};
 ghost use Rattle.gl_judge.specs.JudgedFixes.{IsInRange};
-ghost use Rattle.gl_judge.specs.Stretch.{range_of};
 ghost use Rattle.gl_judge.specs.Visits.{CanFinish};
 ghost use Rattle.gl_sphere.specs.Distance.{squared_chord, written_distance};
 
@@ -24,9 +23,9 @@ fn is_in_ring(x: Vec3, at: Vec3, radius: u64) -> bool
 fn ring_at(at: Vec3, radius: u64, rec: &Recording, judged: Stretch, f: usize) -> Option<i32>
     requires { judged.to ≤ length rec.now.fixes }
     ensures some { IfSome result
-        (λ time. IsInRing at radius rec.now.fixes (range_of judged) f time) }
+        (λ time. IsInRing at radius rec.now.fixes judged f time) }
     ensures none { IfNone result
-        ((time : ℤ) → IsInRing at radius rec.now.fixes (range_of judged) f time → ⊥) }
+        ((time : ℤ) → IsInRing at radius rec.now.fixes judged f time → ⊥) }
 {
     if f < judged.from || judged.to <= f {
         return None;
@@ -43,9 +42,9 @@ fn ring_at(at: Vec3, radius: u64, rec: &Recording, judged: Stretch, f: usize) ->
 fn finish_at(finish: &Finish, rec: &Recording, judged: Stretch, f: usize) -> Option<i32>
     requires { judged.to ≤ length rec.now.fixes }
     ensures some { IfSome result
-        (λ time. IsAtFinish finish.now rec.now.fixes (range_of judged) f time) }
+        (λ time. IsAtFinish finish.now rec.now.fixes judged f time) }
     ensures none { IfNone result
-        ((time : ℤ) → IsAtFinish finish.now rec.now.fixes (range_of judged) f time → ⊥) }
+        ((time : ℤ) → IsAtFinish finish.now rec.now.fixes judged f time → ⊥) }
 {
     match finish {
         Finish::Ring { at, radius } => ring_at(*at, *radius, rec, judged, f),
@@ -71,13 +70,13 @@ pub(crate) fn first_finish(
     visited: usize,
 ) -> Option<Passing>
     requires to_in_list { judged.to ≤ length rec.now.fixes }
-    requires visited_judged { IsInRange (range_of judged) visited }
+    requires visited_judged { IsInRange judged visited }
     ensures finish { IfSome result
-        (λ p. IsFinish finish.now rec.now.fixes (range_of judged) visited p.fix p.second) }
+        (λ p. IsFinish finish.now rec.now.fixes judged visited p.fix p.second) }
     ensures first { IfSome result (λ p. (f : ℕ) (time : ℤ)
-        → IsFinish finish.now rec.now.fixes (range_of judged) visited f time → p.fix ≤ f) }
+        → IsFinish finish.now rec.now.fixes judged visited f time → p.fix ≤ f) }
     ensures none { IfNone result ((f : ℕ) (time : ℤ)
-        → IsFinish finish.now rec.now.fixes (range_of judged) visited f time → ⊥) }
+        → IsFinish finish.now rec.now.fixes judged visited f time → ⊥) }
 {
     for f in visited + lead(finish)..judged.to {
         if let Some(second) = finish_at(finish, rec, judged, f) {
@@ -90,11 +89,11 @@ pub(crate) fn first_finish(
 /// The last fix that a finish may come after.
 pub(crate) fn last_before_finish(finish: &Finish, rec: &Recording, judged: Stretch) -> Option<usize>
     requires { judged.to ≤ length rec.now.fixes }
-    ensures judged { IfSome result (IsInRange (range_of judged)) }
+    ensures judged { IfSome result (IsInRange judged) }
     ensures last { IfSome result
-        (IsGreatest (CanFinish finish.now rec.now.fixes (range_of judged) [])) }
+        (IsGreatest (CanFinish finish.now rec.now.fixes judged [])) }
     ensures none { IfNone result
-        ((b : ℕ) → CanFinish finish.now rec.now.fixes (range_of judged) [] b → ⊥) }
+        ((b : ℕ) → CanFinish finish.now rec.now.fixes judged [] b → ⊥) }
 {
     for f in (judged.from..judged.to).rev() {
         if finish_at(finish, rec, judged, f).is_some() {

@@ -1,6 +1,5 @@
 ghost use Rattle.std.specs.Prelude.{◌≡◌, position, int_le, int_lt, pos};
 ghost use Rattle.gl_judge.specs.JudgedFixes.{IsJudgedRange, first_of_day};
-ghost use Rattle.gl_judge.specs.Stretch.{range_of};
 
 use crate::stretch::Stretch;
 use gl_airspace::{Airspace, cut};
@@ -35,9 +34,12 @@ fn first_too_late(fixes: &[Fix], closes: i32) -> Option<usize>
     fixes.iter().position(|fix| is_too_late(fix, closes))
 }
 
-/// The judged fixes of a flight.
-pub(crate) fn judged_fixes(task: &Task, air: &Airspace, rec: &Recording) -> Stretch
-    ensures range { IsJudgedRange task.now.closes air.now.volumes rec.now.fixes (range_of result) }
+/// The judged fixes of a flight. They begin at the first fix with second 0 or more, and end before
+/// the first fix after the task's last second or inside a volume, whichever comes first. Both
+/// numbers are equal where no fix is judged; the first is then that of the first fix with second 0
+/// or more as well, or how many fixes there are.
+pub fn judged_range(task: &Task, air: &Airspace, rec: &Recording) -> Stretch
+    ensures range { IsJudgedRange task.now.closes air.now.volumes rec.now.fixes result }
     ensures first { result.from ≡ first_of_day rec.now.fixes }
 {
     let fixes = rec.fixes.as_slice();
@@ -45,16 +47,4 @@ pub(crate) fn judged_fixes(task: &Task, air: &Airspace, rec: &Recording) -> Stre
     let end = first_too_late(fixes, task.closes).unwrap_or(fixes.len());
     let to = from + cut(air, &fixes[from..end.max(from)]);
     Stretch { from, to }
-}
-
-/// The judged fixes of a flight, from the first number up to but without the second. They begin at
-/// the first fix with second 0 or more, and end before the first fix after the task's last second
-/// or inside a volume, whichever comes first. Both numbers are equal where no fix is judged; the
-/// first is then that of the first fix with second 0 or more as well, or how many fixes there are.
-pub fn judged_range(task: &Task, air: &Airspace, rec: &Recording) -> (u32, u32)
-    ensures range { IsJudgedRange task.now.closes air.now.volumes rec.now.fixes result }
-    ensures first { result.0 ≡ first_of_day rec.now.fixes }
-{
-    let judged = judged_fixes(task, air, rec);
-    (judged.from as u32, judged.to as u32)
 }

@@ -3,11 +3,10 @@ ghost use Rattle.gl_judge.specs.Greatest.{IsGreatest, IsLeast};
 ghost use Rattle.gl_judge.specs.JudgedFixes.{IsInRange};
 ghost use Rattle.gl_judge.specs.Outcome.{IsCompleteStart, IsJudged, IsOutcome, OnFinished};
 ghost use Rattle.gl_judge.specs.Starts.{IsLegalStart, IsStart};
-ghost use Rattle.gl_judge.specs.Stretch.{range_of};
 ghost use Rattle.gl_judge.specs.Visits.{CanFinish, HasVisit, VisitsFirst};
 
 use crate::finishes::first_finish;
-use crate::judged_fixes::judged_fixes;
+use crate::judged_fixes::judged_range;
 use crate::outcome::{Judged, Window};
 use crate::passing::Passing;
 use crate::starts::{first_start, last_start};
@@ -21,11 +20,11 @@ use gl_task::Task;
 fn last_complete_start(task: &Task, rec: &Recording, judged: Stretch) -> Option<Passing>
     requires { judged.to ≤ length rec.now.fixes }
     ensures legal { IfSome result
-        (λ p. IsLegalStart task.now.start rec.now (range_of judged) p.fix p.second) }
+        (λ p. IsLegalStart task.now.start rec.now judged p.fix p.second) }
     ensures last { IfSome result
-        (λ p. IsGreatest (IsCompleteStart task.now rec.now (range_of judged)) p.fix) }
+        (λ p. IsGreatest (IsCompleteStart task.now rec.now judged) p.fix) }
     ensures none { IfNone result
-        ((b : ℕ) → IsCompleteStart task.now rec.now (range_of judged) b → ⊥) }
+        ((b : ℕ) → IsCompleteStart task.now rec.now judged b → ⊥) }
 {
     let ready = last_ready(task, rec, judged)?;
     last_start(&task.start, rec, judged, ready)
@@ -42,10 +41,10 @@ fn flown(start: i32, finish: i32) -> u32
 /// The first fix with which a visit of all zones ends, from a complete start on.
 fn first_end(task: &Task, rec: &Recording, judged: Stretch, start: usize) -> usize
     requires to_in_list { judged.to ≤ length rec.now.fixes }
-    requires complete { IsCompleteStart task.now rec.now (range_of judged) start }
-    ensures judged { IsInRange (range_of judged) result }
+    requires complete { IsCompleteStart task.now rec.now judged start }
+    ensures judged { IsInRange judged result }
     ensures least { IsLeast
-        (HasVisit rec.now.fixes (range_of judged) task.now.zones start) result }
+        (HasVisit rec.now.fixes judged task.now.zones start) result }
 {
     let zones = task.zones.as_slice();
     visit_zones(zones, rec.fixes.as_slice(), judged, start).last
@@ -54,9 +53,9 @@ fn first_end(task: &Task, rec: &Recording, judged: Stretch, start: usize) -> usi
 /// The outcome of a flight with a complete start, of which this is the last.
 fn finished(task: &Task, rec: &Recording, judged: Stretch, start: Passing) -> Judged
     requires to_in_list { judged.to ≤ length rec.now.fixes }
-    requires legal { IsLegalStart task.now.start rec.now (range_of judged) start.fix start.second }
-    requires last { IsGreatest (IsCompleteStart task.now rec.now (range_of judged)) start.fix }
-    ensures { IsOutcome task.now rec.now (range_of judged) result }
+    requires legal { IsLegalStart task.now.start rec.now judged start.fix start.second }
+    requires last { IsGreatest (IsCompleteStart task.now rec.now judged) start.fix }
+    ensures { IsOutcome task.now rec.now judged result }
 {
     let end = first_end(task, rec, judged, start.fix);
     match first_finish(&task.finish, rec, judged, end) {
@@ -75,8 +74,8 @@ fn finished(task: &Task, rec: &Recording, judged: Stretch, start: Passing) -> Ju
 /// The outcome of a flight with a complete start.
 fn finished_from_last(task: &Task, rec: &Recording, judged: Stretch, first: usize) -> Judged
     requires to_in_list { judged.to ≤ length rec.now.fixes }
-    requires complete { IsCompleteStart task.now rec.now (range_of judged) first }
-    ensures { IsOutcome task.now rec.now (range_of judged) result }
+    requires complete { IsCompleteStart task.now rec.now judged first }
+    ensures { IsOutcome task.now rec.now judged result }
 {
     match last_complete_start(task, rec, judged) {
         Some(start) => finished(task, rec, judged, start),
@@ -87,12 +86,12 @@ fn finished_from_last(task: &Task, rec: &Recording, judged: Stretch, first: usiz
 /// The outcome of a flight without a complete start, whose first legal start is this.
 fn outlanded(task: &Task, rec: &Recording, judged: Stretch, start: Passing, count: usize) -> Judged
     requires to_in_list { judged.to ≤ length rec.now.fixes }
-    requires legal { IsLegalStart task.now.start rec.now (range_of judged) start.fix start.second }
-    requires first { IsLeast (IsStart task.now.start rec.now (range_of judged)) start.fix }
-    requires incomplete { (b : ℕ) → IsCompleteStart task.now rec.now (range_of judged) b → ⊥ }
+    requires legal { IsLegalStart task.now.start rec.now judged start.fix start.second }
+    requires first { IsLeast (IsStart task.now.start rec.now judged) start.fix }
+    requires incomplete { (b : ℕ) → IsCompleteStart task.now rec.now judged b → ⊥ }
     requires visited { IsGreatest
-        (VisitsFirst rec.now.fixes (range_of judged) task.now.zones start.fix) count }
-    ensures { IsOutcome task.now rec.now (range_of judged) result }
+        (VisitsFirst rec.now.fixes judged task.now.zones start.fix) count }
+    ensures { IsOutcome task.now rec.now judged result }
 {
     Judged::Outlanded {
         window: Window {
@@ -108,14 +107,14 @@ fn outlanded(task: &Task, rec: &Recording, judged: Stretch, start: Passing, coun
 /// visits got so far from it.
 fn can_finish(task: &Task, rec: &Recording, judged: Stretch, from: usize, visited: Visited) -> bool
     requires to_in_list { judged.to ≤ length rec.now.fixes }
-    requires judged { IsInRange (range_of judged) visited.last }
+    requires judged { IsInRange judged visited.last }
     requires most { IsGreatest
-        (VisitsFirst rec.now.fixes (range_of judged) task.now.zones from) visited.count }
+        (VisitsFirst rec.now.fixes judged task.now.zones from) visited.count }
     requires least { IsLeast
-        (HasVisit rec.now.fixes (range_of judged) (take visited.count task.now.zones) from)
+        (HasVisit rec.now.fixes judged (take visited.count task.now.zones) from)
         visited.last }
     ensures { IsTrue result
-        ↔ CanFinish task.now.finish rec.now.fixes (range_of judged) task.now.zones from }
+        ↔ CanFinish task.now.finish rec.now.fixes judged task.now.zones from }
 {
     if visited.count < task.zones.len() {
         return false;
@@ -127,9 +126,9 @@ fn can_finish(task: &Task, rec: &Recording, judged: Stretch, from: usize, visite
 /// visited, so one pass shows whether any start is complete.
 fn outcome_from(task: &Task, rec: &Recording, judged: Stretch, first: Passing) -> Judged
     requires to_in_list { judged.to ≤ length rec.now.fixes }
-    requires legal { IsLegalStart task.now.start rec.now (range_of judged) first.fix first.second }
-    requires first { IsLeast (IsStart task.now.start rec.now (range_of judged)) first.fix }
-    ensures { IsOutcome task.now rec.now (range_of judged) result }
+    requires legal { IsLegalStart task.now.start rec.now judged first.fix first.second }
+    requires first { IsLeast (IsStart task.now.start rec.now judged) first.fix }
+    ensures { IsOutcome task.now rec.now judged result }
 {
     let zones = task.zones.as_slice();
     let visited = visit_zones(zones, rec.fixes.as_slice(), judged, first.fix);
@@ -143,7 +142,7 @@ fn outcome_from(task: &Task, rec: &Recording, judged: Stretch, first: Passing) -
 /// The outcome of a flight with these judged fixes.
 pub(crate) fn outcome_of(task: &Task, rec: &Recording, judged: Stretch) -> Judged
     requires { judged.to ≤ length rec.now.fixes }
-    ensures { IsOutcome task.now rec.now (range_of judged) result }
+    ensures { IsOutcome task.now rec.now judged result }
 {
     match first_start(&task.start, rec, judged) {
         Some(first) => outcome_from(task, rec, judged, first),
@@ -162,6 +161,6 @@ pub fn judge(task: &Task, air: &Airspace, rec: &Recording) -> Judged
     ensures judged { IsJudged task.now air.now rec.now result }
     ensures seconds { OnFinished result (λ window seconds. seconds ≤ 100_000) }
 {
-    let judged = judged_fixes(task, air, rec);
+    let judged = judged_range(task, air, rec);
     outcome_of(task, rec, judged)
 }

@@ -25,3 +25,4 @@ pub use judged_fixes::judged_range;
 pub use judging::judge;
 pub use marking::mark;
 pub use outcome::{Judged, Window};
+pub use stretch::Stretch;

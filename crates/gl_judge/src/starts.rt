@@ -1,7 +1,6 @@
 ghost use Rattle.std.specs.Prelude.{ℕ, ◌≤◌, ◌<◌, ℤ, length, IfSome, IfNone};
 ghost use Rattle.gl_judge.specs.Greatest.{IsLeast};
 ghost use Rattle.gl_judge.specs.Starts.{IsLegalStart, IsStart};
-ghost use Rattle.gl_judge.specs.Stretch.{range_of};
 
 use crate::announcement::is_announced;
 use crate::crossings::crossing_at;
@@ -14,9 +13,9 @@ use gl_task::Start;
 fn start_at(start: &Start, rec: &Recording, judged: Stretch, b: usize) -> Option<i32>
     requires { judged.to ≤ length rec.now.fixes }
     ensures some { IfSome result
-        (λ time. IsLegalStart start.now rec.now (range_of judged) b time) }
+        (λ time. IsLegalStart start.now rec.now judged b time) }
     ensures none { IfNone result
-        ((time : ℤ) → IsLegalStart start.now rec.now (range_of judged) b time → ⊥) }
+        ((time : ℤ) → IsLegalStart start.now rec.now judged b time → ⊥) }
 {
     let time = crossing_at(&start.line, rec, judged, b)?;
     if time < start.opens || start.close < time {
@@ -33,11 +32,11 @@ fn start_at(start: &Start, rec: &Recording, judged: Stretch, b: usize) -> Option
 pub(crate) fn first_start(start: &Start, rec: &Recording, judged: Stretch) -> Option<Passing>
     requires { judged.to ≤ length rec.now.fixes }
     ensures legal { IfSome result
-        (λ p. IsLegalStart start.now rec.now (range_of judged) p.fix p.second) }
+        (λ p. IsLegalStart start.now rec.now judged p.fix p.second) }
     ensures least { IfSome result
-        (λ p. IsLeast (IsStart start.now rec.now (range_of judged)) p.fix) }
+        (λ p. IsLeast (IsStart start.now rec.now judged) p.fix) }
     ensures none { IfNone result
-        ((b : ℕ) → IsStart start.now rec.now (range_of judged) b → ⊥) }
+        ((b : ℕ) → IsStart start.now rec.now judged b → ⊥) }
 {
     for b in judged.from..judged.to {
         if let Some(second) = start_at(start, rec, judged, b) {
@@ -57,12 +56,12 @@ pub(crate) fn last_start(
     requires to_in_list { judged.to ≤ length rec.now.fixes }
     requires limit_judged { limit < judged.to }
     ensures legal { IfSome result
-        (λ p. IsLegalStart start.now rec.now (range_of judged) p.fix p.second) }
+        (λ p. IsLegalStart start.now rec.now judged p.fix p.second) }
     ensures within { IfSome result (λ p. p.fix ≤ limit) }
     ensures last { IfSome result (λ p. (b : ℕ)
-        → IsStart start.now rec.now (range_of judged) b → b ≤ limit → b ≤ p.fix) }
+        → IsStart start.now rec.now judged b → b ≤ limit → b ≤ p.fix) }
     ensures none { IfNone result ((b : ℕ)
-        → IsStart start.now rec.now (range_of judged) b → b ≤ limit → ⊥) }
+        → IsStart start.now rec.now judged b → b ≤ limit → ⊥) }
 {
     for b in (judged.from..limit + 1).rev() {
         if let Some(second) = start_at(start, rec, judged, b) {

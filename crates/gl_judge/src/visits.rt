@@ -1,7 +1,6 @@
 ghost use Rattle.std.specs.Prelude.{ℕ, ◌≡◌, ◌≤◌, ◌<◌, ◌↔◌, IsTrue, length, take, slice_get, IsSomeAnd, IfSome, IfNone};
 ghost use Rattle.gl_judge.specs.Greatest.{IsGreatest, IsLeast};
 ghost use Rattle.gl_judge.specs.JudgedFixes.{IsInRange};
-ghost use Rattle.gl_judge.specs.Stretch.{range_of};
 ghost use Rattle.gl_judge.specs.Visits.{CanFinish, HasVisit, IsInZone, VisitsFirst};
 ghost use Rattle.gl_zone.specs.Zones.{is_in_zone};
 
@@ -32,12 +31,12 @@ pub(crate) fn is_in_zone(zone: &Zone, fixes: &[Fix], i: usize) -> bool
 fn first_in_zone(zone: &Zone, fixes: &[Fix], judged: Stretch, from: usize) -> Option<usize>
     requires to_in_list { judged.to ≤ length fixes.now }
     requires from_judged { judged.from ≤ from }
-    ensures found { IfSome result (IsInZone fixes.now (range_of judged) zone.now) }
+    ensures found { IfSome result (IsInZone fixes.now judged zone.now) }
     ensures after { IfSome result (λ z. from ≤ z) }
     ensures first { IfSome result (λ z. (i : ℕ)
-        → from ≤ i → IsInZone fixes.now (range_of judged) zone.now i → z ≤ i) }
+        → from ≤ i → IsInZone fixes.now judged zone.now i → z ≤ i) }
     ensures none { IfNone result ((i : ℕ)
-        → from ≤ i → IsInZone fixes.now (range_of judged) zone.now i → ⊥) }
+        → from ≤ i → IsInZone fixes.now judged zone.now i → ⊥) }
 {
     for i in from..judged.to {
         if is_in_zone(zone, fixes, i) {
@@ -51,12 +50,12 @@ fn first_in_zone(zone: &Zone, fixes: &[Fix], judged: Stretch, from: usize) -> Op
 fn last_in_zone(zone: &Zone, fixes: &[Fix], judged: Stretch, limit: usize) -> Option<usize>
     requires to_in_list { judged.to ≤ length fixes.now }
     requires limit_judged { limit < judged.to }
-    ensures found { IfSome result (IsInZone fixes.now (range_of judged) zone.now) }
+    ensures found { IfSome result (IsInZone fixes.now judged zone.now) }
     ensures before { IfSome result (λ z. z ≤ limit) }
     ensures last { IfSome result (λ z. (i : ℕ)
-        → i ≤ limit → IsInZone fixes.now (range_of judged) zone.now i → i ≤ z) }
+        → i ≤ limit → IsInZone fixes.now judged zone.now i → i ≤ z) }
     ensures none { IfNone result ((i : ℕ)
-        → i ≤ limit → IsInZone fixes.now (range_of judged) zone.now i → ⊥) }
+        → i ≤ limit → IsInZone fixes.now judged zone.now i → ⊥) }
 {
     for i in (judged.from..limit + 1).rev() {
         if is_in_zone(zone, fixes, i) {
@@ -69,12 +68,12 @@ fn last_in_zone(zone: &Zone, fixes: &[Fix], judged: Stretch, limit: usize) -> Op
 /// How far the zones are visited from the fix of a number on, each as early as can be.
 pub(crate) fn visit_zones(zones: &[Zone], fixes: &[Fix], judged: Stretch, from: usize) -> Visited
     requires to_in_list { judged.to ≤ length fixes.now }
-    requires from_judged { IsInRange (range_of judged) from }
-    ensures judged { IsInRange (range_of judged) result.last }
+    requires from_judged { IsInRange judged from }
+    ensures judged { IsInRange judged result.last }
     ensures most { IsGreatest
-        (VisitsFirst fixes.now (range_of judged) zones.now from) result.count }
+        (VisitsFirst fixes.now judged zones.now from) result.count }
     ensures least { IsLeast
-        (HasVisit fixes.now (range_of judged) (take result.count zones.now) from) result.last }
+        (HasVisit fixes.now judged (take result.count zones.now) from) result.last }
 {
     let mut last = from;
     for (count, zone) in zones.iter().enumerate() {
@@ -92,11 +91,11 @@ pub(crate) fn visit_zones(zones: &[Zone], fixes: &[Fix], judged: Stretch, from: 
 /// The last fix from which all zones can be visited with a finish after them.
 pub(crate) fn last_ready(task: &Task, rec: &Recording, judged: Stretch) -> Option<usize>
     requires { judged.to ≤ length rec.now.fixes }
-    ensures judged { IfSome result (IsInRange (range_of judged)) }
+    ensures judged { IfSome result (IsInRange judged) }
     ensures last { IfSome result (IsGreatest
-        (CanFinish task.now.finish rec.now.fixes (range_of judged) task.now.zones)) }
+        (CanFinish task.now.finish rec.now.fixes judged task.now.zones)) }
     ensures none { IfNone result ((b : ℕ)
-        → CanFinish task.now.finish rec.now.fixes (range_of judged) task.now.zones b → ⊥) }
+        → CanFinish task.now.finish rec.now.fixes judged task.now.zones b → ⊥) }
 {
     let zones = task.zones.as_slice();
     let fixes = rec.fixes.as_slice();

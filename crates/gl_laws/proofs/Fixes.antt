@@ -44,7 +44,8 @@ up-nil = refl
 -- a line that isn't good gives none
 no_more : (above : Lines) (line : List ℕ) → observation_of (extension_below above) line ≡ None → used_fixes (above ++ line ∷ []) ≡ used_fixes above
 no_more above line none =
-    fixes-up (above ++ line ∷ []) ∙ ap reverse (up-more above line ∙ ap (λ (seen : Option Observation). with_line (length above + 1) seen (up above)) none ∙ with_line-none (length above + 1) (up above)) ∙ sym (fixes-up above)
+    fixes-up (above ++ line ∷ []) ∙ ap reverse (up-more above line ∙ ap (λ (seen : Option Observation). with_line (length above + 1) seen (up above)) none
+    ∙ with_line-none (length above + 1) (up above)) ∙ sym (fixes-up above)
 
 -- the own second of a good line
 own_of : Lines → Observation → ℕ
@@ -60,19 +61,25 @@ next above seen = next_fix (length above + 1) seen (up above)
 left_more : (above : Lines) (line : List ℕ) (seen : Observation) → observation_of (extension_below above) line ≡ Some seen → may above seen ≡ false → used_fixes (above ++ line ∷ []) ≡ used_fixes above
 unfolding may
 left_more above line seen good left =
-    fixes-up (above ++ line ∷ []) ∙ ap reverse (up-more above line ∙ ap (λ (seen : Option Observation). with_line (length above + 1) seen (up above)) good ∙ with_line-left (length above + 1) seen (up above) left) ∙ sym (fixes-up above)
+    fixes-up (above ++ line ∷ []) ∙ ap reverse (up-more above line ∙ ap (λ (seen : Option Observation). with_line (length above + 1) seen (up above)) good
+    ∙ with_line-left (length above + 1) seen (up above) left) ∙ sym (fixes-up above)
 
-one_more : (above : Lines) (line : List ℕ) (seen : Observation) → observation_of (extension_below above) line ≡ Some seen → may above seen ≡ true → used_fixes (above ++ line ∷ []) ≡ used_fixes above ++ next above seen ∷ []
+one_more : (above : Lines) (line : List ℕ) (seen : Observation) → observation_of (extension_below above) line ≡ Some seen → may above seen ≡ true
+    → used_fixes (above ++ line ∷ []) ≡ used_fixes above ++ next above seen ∷ []
 unfolding may next
 one_more above line seen good follows =
-    fixes-up (above ++ line ∷ []) ∙ ap reverse (up-more above line ∙ ap (λ (seen : Option Observation). with_line (length above + 1) seen (up above)) good ∙ with_line-used (length above + 1) seen (up above) follows)
+    fixes-up (above ++ line ∷ []) ∙ ap reverse (up-more above line ∙ ap (λ (seen : Option Observation). with_line (length above + 1) seen (up above)) good
+    ∙ with_line-used (length above + 1) seen (up above) follows)
     ∙ reverse-cons (next_fix (length above + 1) seen (up above)) (up above) ∙ ap (λ (fixes : List UsedFix). fixes ++ next_fix (length above + 1) seen (up above) ∷ []) (sym (fixes-up above))
 
 -- what holds without a line and is kept by one line more holds of all
-by_lines : (P : Lines → List UsedFix → Type 0) → P [] [] → ((above : Lines) (line : List ℕ) → P above (used_fixes above) → P (above ++ line ∷ []) (used_fixes above)) → ((above : Lines) (line : List ℕ) (seen : Observation) → observation_of (extension_below above) line ≡ Some seen → may above seen ≡ true → P above (used_fixes above) → P (above ++ line ∷ []) (used_fixes above ++ next above seen ∷ [])) → (lines : Lines) → P lines (used_fixes lines)
+by_lines : (P : Lines → List UsedFix → Type 0) → P [] [] → ((above : Lines) (line : List ℕ) → P above (used_fixes above) → P (above ++ line ∷ []) (used_fixes above))
+    → ((above : Lines) (line : List ℕ) (seen : Observation) → observation_of (extension_below above) line ≡ Some seen → may above seen ≡ true → P above (used_fixes above)
+    → P (above ++ line ∷ []) (used_fixes above ++ next above seen ∷ [])) → (lines : Lines) → P lines (used_fixes lines)
 by_lines P none same more lines = subst (λ (lines : Lines). P lines (used_fixes lines)) (reverse-reverse lines) (upwards (reverse lines))
   where
-    seen_or : (above : Lines) (line : List ℕ) → P above (used_fixes above) → (seen : Option Observation) → observation_of (extension_below above) line ≡ seen → P (above ++ line ∷ []) (used_fixes (above ++ line ∷ []))
+    seen_or : (above : Lines) (line : List ℕ) → P above (used_fixes above) → (seen : Option Observation) → observation_of (extension_below above) line ≡ seen
+        → P (above ++ line ∷ []) (used_fixes (above ++ line ∷ []))
     seen_or above line before None is = subst (P (above ++ line ∷ [])) (sym (no_more above line is)) (same above line before)
     seen_or above line before (Some seen) is = elim (cases_Bool (may above seen)) [
       | inl follows ↦ subst (P (above ++ line ∷ [])) (sym (one_more above line seen is follows)) (more above line seen is follows before)
@@ -82,7 +89,8 @@ by_lines P none same more lines = subst (λ (lines : Lines). P lines (used_fixes
     upwards : (lines : Lines) → P (reverse lines) (used_fixes (reverse lines))
     upwards [] = subst (P []) (sym (fixes-up [] ∙ ap reverse up-nil)) none
     upwards (line ∷ above) =
-        subst (λ (lines : Lines). P lines (used_fixes lines)) (sym (reverse-cons line above)) (seen_or (reverse above) line (upwards above) (observation_of (extension_below (reverse above)) line) refl)
+        subst (λ (lines : Lines). P lines (used_fixes lines)) (sym (reverse-cons line above))
+        (seen_or (reverse above) line (upwards above) (observation_of (extension_below (reverse above)) line) refl)
 
 -- a fix of some lines is one of these and one line more
 stands-more : (above : Lines) (line : List ℕ) (fix : UsedFix) → StandsIn above fix → StandsIn (above ++ line ∷ []) fix
@@ -102,7 +110,8 @@ stands-next above line seen good = record { above = above; line = line; below = 
 pub stand : FixesStandAtTheirLines
 stand = by_lines (λ lines fixes. All (StandsIn lines) fixes) (All-nil (StandsIn []))
     (λ above line before. All-weaker (StandsIn above) (StandsIn (above ++ line ∷ [])) (stands-more above line) (used_fixes above) before)
-    (λ above line seen good follows before. All-push (StandsIn (above ++ line ∷ [])) (used_fixes above) (next above seen) (All-weaker (StandsIn above) (StandsIn (above ++ line ∷ [])) (stands-more above line) (used_fixes above) before) (stands-next above line seen good))
+    (λ above line seen good follows before. All-push (StandsIn (above ++ line ∷ [])) (used_fixes above) (next above seen)
+    (All-weaker (StandsIn above) (StandsIn (above ++ line ∷ [])) (stands-more above line) (used_fixes above) before) (stands-next above line seen good))
 
 -- the last of some fixes
 last_own-last : (earlier : List UsedFix) (last : UsedFix) (lines : Lines) → used_fixes lines ≡ earlier ++ last ∷ [] → last_own (up lines) ≡ Some last.own
@@ -128,7 +137,8 @@ left-out last own left = elim (cases_lt last own) [
 out_may_not : (above : Lines) (seen : Observation) → IsOutOfTime above seen → may above seen ≡ false
 unfolding may
 out_may_not above seen out =
-    ap (λ (last : Option ℕ). may_follow last (own_second last seen.time)) (last_own-last out.earlier out.last above out.fixes) ∙ out-left out.last.own (own_second (Some out.last.own) seen.time) out.out
+    ap (λ (last : Option ℕ). may_follow last (own_second last seen.time)) (last_own-last out.earlier out.last above out.fixes)
+    ∙ out-left out.last.own (own_second (Some out.last.own) seen.time) out.out
 
 none_follows : (own : ℕ) → may_follow None own ≡ false → ⊥
 unfolding may_follow
@@ -180,7 +190,8 @@ timed line time is = by_hours (number_of (columns 2 3 line)) (number_of (columns
     of_test h m s true test is = let same : 3600 * h + 60 * m + s ≡ time = cc in grind (arith, nat_tests)
     of_test h m s false test is = absurd (cc)
 
-    by_hours : (hours minutes seconds : Option ℕ) → (hours >>= λ h. minutes >>= λ m. seconds >>= λ s. if nat_le h 23 && nat_le m 59 && nat_le s 59 then Some (3600 * h + 60 * m + s) else None) ≡ Some time → time < 86_400
+    by_hours : (hours minutes seconds : Option ℕ) → (hours >>= λ h. minutes >>= λ m. seconds >>= λ s. if nat_le h 23 && nat_le m 59 && nat_le s 59 then Some (3600 * h + 60 * m + s) else None)
+        ≡ Some time → time < 86_400
     by_hours None m s is = absurd (cc)
     by_hours (Some h) None s is = absurd (cc)
     by_hours (Some h) (Some m) None is = absurd (cc)
@@ -194,11 +205,15 @@ good_time line above seen good = by_test (nat_le 35 (length line) && is_fix_line
     extension : Extension
     extension = extension_below above
 
-    of_height : (time : ℕ) (lat lon alt : ℤ) (low : Bool) → time_of_day line ≡ Some time → cond low (Some (record { time = time; lat = lat; lon = lon; alt = alt; enl = noise_of extension.enl line })) None ≡ Some seen → seen.time < 86_400
-    of_height time lat lon alt true is says = let same : record { time = time; lat = lat; lon = lon; alt = alt; enl = noise_of extension.enl line } ≡ seen = cc in subst (λ (t : ℕ). t < 86_400) (ap (λ (o : Observation). o.time) same) (timed line time is)
+    of_height : (time : ℕ) (lat lon alt : ℤ) (low : Bool) → time_of_day line ≡ Some time
+        → cond low (Some (record { time = time; lat = lat; lon = lon; alt = alt; enl = noise_of extension.enl line })) None ≡ Some seen → seen.time < 86_400
+    of_height time lat lon alt true is says = let same : record { time = time; lat = lat; lon = lon; alt = alt; enl = noise_of extension.enl line } ≡ seen = cc in
+        subst (λ (t : ℕ). t < 86_400) (ap (λ (o : Observation). o.time) same) (timed line time is)
     of_height time lat lon alt false is says = absurd (cc)
 
-    of_parts : (time : Option ℕ) (lat lon pressure alt : Option ℤ) → time_of_day line ≡ time → (time >>= λ t. lat >>= λ a. lon >>= λ o. pressure >>= λ p. alt >>= λ h. if int_le h highest then Some (record { time = t; lat = a; lon = o; alt = h; enl = noise_of extension.enl line }) else None) ≡ Some seen → seen.time < 86_400
+    of_parts : (time : Option ℕ) (lat lon pressure alt : Option ℤ) → time_of_day line ≡ time
+        → (time >>= λ t. lat >>= λ a. lon >>= λ o. pressure >>= λ p. alt >>= λ h. if int_le h highest then Some
+        (record { time = t; lat = a; lon = o; alt = h; enl = noise_of extension.enl line }) else None) ≡ Some seen → seen.time < 86_400
     of_parts None lat lon pressure alt is says = absurd (cc)
     of_parts (Some time) None lon pressure alt is says = absurd (cc)
     of_parts (Some time) (Some lat) None pressure alt is says = absurd (cc)
@@ -206,8 +221,11 @@ good_time line above seen good = by_test (nat_le 35 (length line) && is_fix_line
     of_parts (Some time) (Some lat) (Some lon) (Some pressure) None is says = absurd (cc)
     of_parts (Some time) (Some lat) (Some lon) (Some pressure) (Some alt) is says = of_height time lat lon alt (int_le alt highest) is says
 
-    by_test : (b : Bool) → cond b (time_of_day line >>= λ t. latitude_of (decimals_of extension.lad line) (columns 8 15 line) >>= λ a. longitude_of (decimals_of extension.lod line) (columns 16 24 line) >>= λ o. altitude_of (columns 26 30 line) >>= λ p. altitude_of (columns 31 35 line) >>= λ h. if int_le h highest then Some (record { time = t; lat = a; lon = o; alt = h; enl = noise_of extension.enl line }) else None) None ≡ Some seen → seen.time < 86_400
-    by_test true says = of_parts (time_of_day line) (latitude_of (decimals_of extension.lad line) (columns 8 15 line)) (longitude_of (decimals_of extension.lod line) (columns 16 24 line)) (altitude_of (columns 26 30 line)) (altitude_of (columns 31 35 line)) refl says
+    by_test : (b : Bool) → cond b (time_of_day line >>= λ t. latitude_of (decimals_of extension.lad line) (columns 8 15 line) >>= λ a. longitude_of (decimals_of extension.lod line)
+        (columns 16 24 line) >>= λ o. altitude_of (columns 26 30 line) >>= λ p. altitude_of (columns 31 35 line) >>= λ h. if int_le h highest then Some
+        (record { time = t; lat = a; lon = o; alt = h; enl = noise_of extension.enl line }) else None) None ≡ Some seen → seen.time < 86_400
+    by_test true says = of_parts (time_of_day line) (latitude_of (decimals_of extension.lad line) (columns 8 15 line)) (longitude_of (decimals_of extension.lod line) (columns 16 24 line))
+        (altitude_of (columns 26 30 line)) (altitude_of (columns 31 35 line)) refl says
     by_test false says = absurd (cc)
 
 own-time : (last : Option ℕ) (time : ℕ) → time < 86_400 → own_second last time % 86_400 ≡ time
@@ -223,7 +241,8 @@ pub keep_time : FixesKeepTheTimeOfDay
 unfolding next
 keep_time = by_lines (λ lines fixes. All (λ (fix : UsedFix). fix.own % 86_400 ≡ fix.seen.time) fixes) (All-nil (λ (fix : UsedFix). fix.own % 86_400 ≡ fix.seen.time))
     (λ above line before. before)
-    (λ above line seen good follows before. All-push (λ (fix : UsedFix). fix.own % 86_400 ≡ fix.seen.time) (used_fixes above) (next above seen) before (own-time (last_own (up above)) seen.time (good_time line above seen good)))
+    (λ above line seen good follows before. All-push (λ (fix : UsedFix). fix.own % 86_400 ≡ fix.seen.time) (used_fixes above) (next above seen) before
+    (own-time (last_own (up above)) seen.time (good_time line above seen good)))
 
 -- a number is at most the last one, and there is one
 abbrev IsAtMost : ℕ → Option ℕ → Type 0
@@ -249,18 +268,28 @@ unfolding may next
 ordered-more above line seen follows before =
     let fixes = used_fixes above in
     let fix : UsedFix = next_fix (length above + 1) seen (up above) in
-    let lower : All (λ (old : UsedFix). old.own < fix.own) fixes = All-weaker (λ (old : UsedFix). IsAtMost old.own (last_own (reverse fixes))) (λ (old : UsedFix). old.own < fix.own) (λ old most. follows-above (last_own (up above)) fix.own old.own follows (subst (λ (ups : List UsedFix). IsAtMost old.own (last_own ups)) (up-fixes above) most)) fixes before.latest in
+    let lower : All (λ (old : UsedFix). old.own < fix.own) fixes = All-weaker (λ (old : UsedFix). IsAtMost old.own (last_own (reverse fixes))) (λ (old : UsedFix). old.own < fix.own)
+    (λ old most. follows-above (last_own (up above)) fix.own old.own follows (subst (λ (ups : List UsedFix). IsAtMost old.own (last_own ups)) (up-fixes above) most)) fixes before.latest in
     let newest : last_own (reverse (fixes ++ fix ∷ [])) ≡ Some fix.own = ap last_own (reverse-append fixes (fix ∷ [])) in
     record {
       pairs = all_pairs_push comes_before fixes fix before.pairs (λ k d within. (omega (arith, before.above k d within), lower k d within));
-      above = All-push (λ (old : UsedFix). old.line ≤ length (above ++ line ∷ [])) fixes fix (All-weaker (λ (old : UsedFix). old.line ≤ length above) (λ (old : UsedFix). old.line ≤ length (above ++ line ∷ [])) (λ old most. line-more above line old.line most) fixes before.above) (omega (arith, length-append above (line ∷ [])));
-      latest = subst (λ (last : Option ℕ). All (λ (old : UsedFix). IsAtMost old.own last) (fixes ++ fix ∷ [])) (sym newest) (All-push (λ (old : UsedFix). old.own ≤ fix.own) fixes fix (All-weaker (λ (old : UsedFix). old.own < fix.own) (λ (old : UsedFix). old.own ≤ fix.own) (λ old less. omega (arith, less)) fixes lower) (omega arith));
+      above = All-push (λ (old : UsedFix). old.line ≤ length (above ++ line ∷ [])) fixes fix
+          (All-weaker (λ (old : UsedFix). old.line ≤ length above) (λ (old : UsedFix). old.line ≤ length (above ++ line ∷ [])) (λ old most. line-more above line old.line most) fixes before.above)
+          (omega (arith, length-append above (line ∷ [])));
+      latest = subst (λ (last : Option ℕ). All (λ (old : UsedFix). IsAtMost old.own last) (fixes ++ fix ∷ [])) (sym newest)
+          (All-push (λ (old : UsedFix). old.own ≤ fix.own) fixes fix (All-weaker (λ (old : UsedFix). old.own < fix.own) (λ (old : UsedFix). old.own ≤ fix.own)
+          (λ old less. omega (arith, less)) fixes lower) (omega arith));
     }
 
 ordered : (lines : Lines) → Ordered lines (used_fixes lines)
 ordered = by_lines Ordered
     (record { pairs = λ i j d below within. absurd (omega (arith, below, within)); above = All-nil (λ (fix : UsedFix). fix.line ≤ 0); latest = All-nil (λ (fix : UsedFix). IsAtMost fix.own None) })
-    (λ above line before. record { pairs = before.pairs; above = All-weaker (λ (old : UsedFix). old.line ≤ length above) (λ (old : UsedFix). old.line ≤ length (above ++ line ∷ [])) (λ old most. line-more above line old.line most) (used_fixes above) before.above; latest = before.latest })
+    (λ above line before. record {
+      pairs = before.pairs;
+      above = All-weaker (λ (old : UsedFix). old.line ≤ length above) (λ (old : UsedFix). old.line ≤ length (above ++ line ∷ []))
+          (λ old most. line-more above line old.line most) (used_fixes above) before.above;
+      latest = before.latest;
+    })
     (λ above line seen good follows before. ordered-more above line seen follows before)
 
 pub in_order : FixesComeInOrder

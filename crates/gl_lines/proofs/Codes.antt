@@ -50,7 +50,8 @@ pub length-take_while : (p : ℕ → Bool) (text : List ℕ) → length (take_wh
 length-take_while p text = length-take-le (prefix_len p text) text (prefix_len-le-length p text)
 
 -- a text that is cut behind its front
-pub cut_front : (p : ℕ → Bool) (text front back : List ℕ) (k : ℕ) → k ≡ length (take_while p text) → front ≡ take k text → back ≡ drop k text → (list_all p front ≡ true) × Stops p back × (text ≡ front ++ back)
+pub cut_front : (p : ℕ → Bool) (text front back : List ℕ) (k : ℕ) → k ≡ length (take_while p text) → front ≡ take k text → back ≡ drop k text
+    → (list_all p front ≡ true) × Stops p back × (text ≡ front ++ back)
 cut_front p text front back k count is_front is_back =
     let n = prefix_len p text in
     let same : k ≡ n = count ∙ length-take_while p text in
@@ -101,7 +102,8 @@ pub record Continues {X : Type 0} (word : X → List ℕ) (Is : X → Type 0) (x
   pub text : rest ≡ spaced (map word others) ++ 10 ∷ more
 
 -- words that were read are the first of those that are spelled
-pub words_front : {X : Type 0} (word : X → List ℕ) (Is : X → Type 0) → IsSpelledOnce word Is → (xs ys : List X) (rest more : List ℕ) → All Is xs → All Is ys → (0 < length xs → Stops is_ascii_digit rest) → spaced (map word xs) ++ rest ≡ spaced (map word ys) ++ 10 ∷ more → Continues word Is xs ys rest more
+pub words_front : {X : Type 0} (word : X → List ℕ) (Is : X → Type 0) → IsSpelledOnce word Is → (xs ys : List X) (rest more : List ℕ) → All Is xs → All Is ys
+    → (0 < length xs → Stops is_ascii_digit rest) → spaced (map word xs) ++ rest ≡ spaced (map word ys) ++ 10 ∷ more → Continues word Is xs ys rest more
 words_front word Is once [] ys rest more is_xs is_ys stops same = record { others = ys; each = is_ys; list = refl; text = same }
 words_front word Is once (x ∷ xs) [] rest more is_xs is_ys stops same =
     let byte : 32 ≡ 10 = ap (λ (l : List ℕ). get_or l 0 0) same in absurd (omega (arith, byte))
@@ -109,7 +111,8 @@ words_front {X} word Is once (x ∷ xs) (y ∷ ys) rest more is_xs is_ys stops s
     let tails : (word x ++ spaced (map word xs)) ++ rest ≡ (word y ++ spaced (map word ys)) ++ 10 ∷ more = cc in
     let apart : word x ++ (spaced (map word xs) ++ rest) ≡ word y ++ (spaced (map word ys) ++ 10 ∷ more) =
     sym (append_assoc (word x) (spaced (map word xs)) rest) ∙ tails ∙ append_assoc (word y) (spaced (map word ys)) (10 ∷ more) in
-    let parts = once x y (spaced (map word xs) ++ rest) (spaced (map word ys) ++ 10 ∷ more) (All-head Is x xs is_xs) (All-head Is y ys is_ys) (spaced_stops word xs rest (stops (omega arith))) (spaced_stops word ys (10 ∷ more) refl) apart in
+    let parts = once x y (spaced (map word xs) ++ rest) (spaced (map word ys) ++ 10 ∷ more) (All-head Is x xs is_xs) (All-head Is y ys is_ys) (spaced_stops word xs rest (stops (omega arith)))
+    (spaced_stops word ys (10 ∷ more) refl) apart in
     let on = words_front word Is once xs ys rest more (All-tail Is x xs is_xs) (All-tail Is y ys is_ys) (λ some. stops (omega arith)) parts.1 in
     let first : x ≡ y = parts.0 in
     record {
@@ -120,7 +123,8 @@ words_front {X} word Is once (x ∷ xs) (y ∷ ys) rest more is_xs is_ys stops s
     }
 
 -- the digits at the front of a text are those of its number
-pub number_front : (limit n : ℕ) (text front back rest : List ℕ) → limit ≤ 2 ^ 64 → list_all is_ascii_digit front ≡ true → Stops is_ascii_digit back → text ≡ front ++ back → IsNumberAt limit text n rest → (front ≡ decimal n) × (back ≡ rest)
+pub number_front : (limit n : ℕ) (text front back rest : List ℕ) → limit ≤ 2 ^ 64 → list_all is_ascii_digit front ≡ true → Stops is_ascii_digit back → text ≡ front ++ back
+    → IsNumberAt limit text n rest → (front ≡ decimal n) × (back ≡ rest)
 number_front limit n text front back rest most digits stops is at =
     front_unique is_ascii_digit front (decimal n) back rest digits (decimal_digits n (omega (arith, at.below, most))) stops at.stops (sym is ∙ at.is)
 
@@ -129,17 +133,21 @@ number_same m n text rest more one other =
     (number_unique m n rest more one.below (omega (arith, other.below)) one.stops other.stops (sym one.is ∙ other.is)).0
 
 -- the low end of a span is the number at its front
-pub low_front : (text : List ℕ) (low : ℕ) (rest : List ℕ) (span : ℕ × ℕ) (more : List ℕ) → IsNumberAt (2 ^ 32) text low rest → IsSpanAt text span more → (low ≡ span.0) × (rest ≡ 45 ∷ (decimal span.1 ++ more))
+pub low_front : (text : List ℕ) (low : ℕ) (rest : List ℕ) (span : ℕ × ℕ) (more : List ℕ) → IsNumberAt (2 ^ 32) text low rest → IsSpanAt text span more
+    → (low ≡ span.0) × (rest ≡ 45 ∷ (decimal span.1 ++ more))
 low_front text low rest span more number at =
-    number_unique low span.0 rest (45 ∷ (decimal span.1 ++ more)) (omega (arith, number.below)) (omega (arith, at.is_span.0, at.is_span.1)) number.stops refl (sym number.is ∙ at.is ∙ span_is span more)
+    number_unique low span.0 rest (45 ∷ (decimal span.1 ++ more)) (omega (arith, number.below)) (omega (arith, at.is_span.0, at.is_span.1)) number.stops refl (sym number.is ∙ at.is
+    ∙ span_is span more)
 
-pub high_at : (text behind : List ℕ) (low : ℕ) (rest : List ℕ) (span : ℕ × ℕ) (more : List ℕ) → IsNumberAt (2 ^ 32) text low rest → rest ≡ 45 ∷ behind → IsSpanAt text span more → IsNumberAt (2 ^ 32) behind span.1 more
+pub high_at : (text behind : List ℕ) (low : ℕ) (rest : List ℕ) (span : ℕ × ℕ) (more : List ℕ) → IsNumberAt (2 ^ 32) text low rest → rest ≡ 45 ∷ behind → IsSpanAt text span more
+    → IsNumberAt (2 ^ 32) behind span.1 more
 high_at text behind low rest span more number hyphen at =
     let both : 45 ∷ behind ≡ 45 ∷ (decimal span.1 ++ more) = sym hyphen ∙ (low_front text low rest span more number at).1 in
     let tail : behind ≡ decimal span.1 ++ more = cc in
     record { below = at.is_span.1; is = tail; stops = at.stops }
 
-pub span_front : (text behind : List ℕ) (low : ℕ) (rest : List ℕ) (high : ℕ) (last : List ℕ) (span : ℕ × ℕ) (more : List ℕ) → IsNumberAt (2 ^ 32) text low rest → rest ≡ 45 ∷ behind → IsNumberAt (2 ^ 32) behind high last → IsSpanAt text span more → (low ≡ span.0) × (high ≡ span.1)
+pub span_front : (text behind : List ℕ) (low : ℕ) (rest : List ℕ) (high : ℕ) (last : List ℕ) (span : ℕ × ℕ) (more : List ℕ) → IsNumberAt (2 ^ 32) text low rest → rest ≡ 45 ∷ behind
+    → IsNumberAt (2 ^ 32) behind high last → IsSpanAt text span more → (low ≡ span.0) × (high ≡ span.1)
 span_front text behind low rest high last span more number hyphen end at =
     let other = high_at text behind low rest span more number hyphen at in (
       (low_front text low rest span more number at).0,

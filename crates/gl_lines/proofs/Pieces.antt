@@ -14,7 +14,8 @@ pieces_push f g xs x =
     ap (flat_map f) (map_push g xs x) ∙ flat_map-append f (map g xs) (g x ∷ []) ∙ ap (λ l. flat_map f (map g xs) ++ l) (append-nil (f (g x)))
 
 -- one piece more
-pub pieces_more : {A B C : Type 0} (f : B → List C) (g : A → B) (before : List C) (xs : List A) (i : ℕ) (d : A) → i < length xs → (before ++ flat_map f (map g (take i xs))) ++ f (g (get_or xs i d)) ≡ before ++ flat_map f (map g (take (i + 1) xs))
+pub pieces_more : {A B C : Type 0} (f : B → List C) (g : A → B) (before : List C) (xs : List A) (i : ℕ) (d : A) → i < length xs
+    → (before ++ flat_map f (map g (take i xs))) ++ f (g (get_or xs i d)) ≡ before ++ flat_map f (map g (take (i + 1) xs))
 pieces_more f g before xs i d below =
     append_assoc before (flat_map f (map g (take i xs))) (f (g (get_or xs i d)))
     ∙ ap (λ l. before ++ l) (sym (ap (λ l. flat_map f (map g l)) (take_more xs i d below) ∙ pieces_push f g (take i xs) (get_or xs i d)))

@@ -6,7 +6,8 @@ use Rattle.std.proofs.lemmas.List.{append-nil, append_cancel_left, get_or_at, le
 use Rattle.std.proofs.lemmas.List.Concat.{flat_map-append}
 use Rattle.gl_lines.specs.declared.error.ProofError.{ProofError}
 use Rattle.gl_lines.specs.declared.error.ProofError.TheVariants.{Heading, Line as WrongLine, Cut, Memory}
-use Rattle.gl_lines.specs.Grammar.{Grammar, IsPlain, ended_line, spelled_lines}
+use Rattle.gl_lines.specs.Grammar.{Grammar, ended_line, spelled_lines}
+use Rattle.gl_lines.specs.Code.Grammar.{IsPlain}
 use Rattle.gl_lines.specs.Misfit.{IsMisfit, OrMemory}
 use Rattle.gl_lines.specs.Refusal.{Follow, HasLine, IsCut, IsFirstWrong, IsHeadless, IsRefusal, NoneFollows, RunsThrough, last_line}
 
@@ -19,7 +20,8 @@ last-append last [] b = refl
 last-append last (l ∷ ls) b = last-append l ls b
 
 -- a line more
-pub runs_more : {L : Type 0} (grammar : Grammar L) (text : List ℕ) (lines : List L) (rest : List ℕ) (line : L) (more : List ℕ) → RunsThrough grammar text lines rest → rest ≡ ended_line grammar line ++ more → grammar.IsLine line → grammar.may_follow (last_line grammar.heading lines) line ≡ true → RunsThrough grammar text (lines ++ line ∷ []) more
+pub runs_more : {L : Type 0} (grammar : Grammar L) (text : List ℕ) (lines : List L) (rest : List ℕ) (line : L) (more : List ℕ) → RunsThrough grammar text lines rest
+    → rest ≡ ended_line grammar line ++ more → grammar.IsLine line → grammar.may_follow (last_line grammar.heading lines) line ≡ true → RunsThrough grammar text (lines ++ line ∷ []) more
 runs_more grammar text lines rest line more runs front is may =
     let all = spelled_lines grammar (grammar.heading ∷ lines) in
     let added : spelled_lines grammar (grammar.heading ∷ (lines ++ line ∷ [])) ≡ all ++ ended_line grammar line =
@@ -42,7 +44,8 @@ spelled_on : {L : Type 0} (grammar : Grammar L) (line : L) (lines : List L) (r :
 spelled_on grammar line lines r = append_assoc (ended_line grammar line) (spelled_lines grammar lines) r
 
 -- two runs behind which no further line may stand are one
-pub stuck_unique : {L : Type 0} (grammar : Grammar L) → IsPlain grammar → (last : L) (us vs : List L) (r q : List ℕ) → Follow grammar last us → Follow grammar last vs → NoneFollows grammar (last_line last us) r → NoneFollows grammar (last_line last vs) q → spelled_lines grammar us ++ r ≡ spelled_lines grammar vs ++ q → (us ≡ vs) × (r ≡ q)
+pub stuck_unique : {L : Type 0} (grammar : Grammar L) → IsPlain grammar → (last : L) (us vs : List L) (r q : List ℕ) → Follow grammar last us → Follow grammar last vs
+    → NoneFollows grammar (last_line last us) r → NoneFollows grammar (last_line last vs) q → spelled_lines grammar us ++ r ≡ spelled_lines grammar vs ++ q → (us ≡ vs) × (r ≡ q)
 stuck_unique grammar plain last [] [] r q follow_us follow_vs none_us none_vs same = (refl, same)
 stuck_unique grammar plain last [] (v ∷ vs) r q follow_us follow_vs none_us none_vs same =
     absurd (none_us v (spelled_lines grammar vs ++ q) follow_vs.0 follow_vs.1 (same ∙ spelled_on grammar v vs q))
@@ -51,7 +54,8 @@ stuck_unique grammar plain last (u ∷ us) [] r q follow_us follow_vs none_us no
 stuck_unique {L} grammar plain last (u ∷ us) (v ∷ vs) r q follow_us follow_vs none_us none_vs same =
     let one = plain.once u v (spelled_lines grammar us ++ r) (spelled_lines grammar vs ++ q) follow_us.0 follow_vs.0 (sym (spelled_on grammar u us r) ∙ same ∙ spelled_on grammar v vs q) in
     let first : u ≡ v = one.0 in
-    let rest = stuck_unique grammar plain u us vs r q follow_us.2 (subst (λ (l : L). Follow grammar l vs) (sym first) follow_vs.2) none_us (subst (λ (l : L). NoneFollows grammar (last_line l vs) q) (sym first) none_vs) one.1 in
+    let rest = stuck_unique grammar plain u us vs r q follow_us.2 (subst (λ (l : L). Follow grammar l vs) (sym first) follow_vs.2) none_us
+    (subst (λ (l : L). NoneFollows grammar (last_line l vs) q) (sym first) none_vs) one.1 in
     (λ i. first i ∷ rest.0 i, rest.1)
 
 -- a run of a text behind which no further line may stand
@@ -112,7 +116,8 @@ wrong_number {L} grammar plain text m n one other =
     one.counted ∙ ap (λ (lines : List L). length lines + 2) same.0 ∙ sym other.counted
 
 -- one refusal is told of a text, beside want of memory
-pub refused_once : {L : Type 0} (grammar : Grammar L) → IsPlain grammar → (text : List ℕ) (a b : ProofError) → (a ≡ Memory → ⊥) → (b ≡ Memory → ⊥) → IsRefusal grammar text a → IsRefusal grammar text b → a ≡ b
+pub refused_once : {L : Type 0} (grammar : Grammar L) → IsPlain grammar → (text : List ℕ) (a b : ProofError) → (a ≡ Memory → ⊥) → (b ≡ Memory → ⊥) → IsRefusal grammar text a → IsRefusal grammar text b
+    → a ≡ b
 refused_once grammar plain text Memory b some_a some_b is_a is_b = absurd (some_a refl)
 refused_once grammar plain text a Memory some_a some_b is_a is_b = absurd (some_b refl)
 refused_once grammar plain text Heading Heading some_a some_b is_a is_b = refl
@@ -140,7 +145,8 @@ full_cut grammar plain text lines full cut =
     let same = stuck_same grammar plain text lines cut.lines [] cut.rest (full_stuck grammar plain text lines full) (cut_stuck grammar text cut) in
     cut.unended (ap (last_line grammar.heading) (sym same.0) ∙ full.ends)
 
-pub full_refused : {L : Type 0} (grammar : Grammar L) → IsPlain grammar → (text : List ℕ) (lines : List L) (error : ProofError) → IsFull grammar text lines → IsRefusal grammar text error → error ≡ Memory
+pub full_refused : {L : Type 0} (grammar : Grammar L) → IsPlain grammar → (text : List ℕ) (lines : List L) (error : ProofError) → IsFull grammar text lines → IsRefusal grammar text error
+    → error ≡ Memory
 full_refused grammar plain text lines Memory full is = refl
 full_refused grammar plain text lines Heading full is = absurd (runs_headed grammar text lines [] full.runs is)
 full_refused grammar plain text lines (WrongLine told) full is = absurd (full_wrong grammar plain text lines is.0 full is.1)
@@ -152,7 +158,9 @@ full_unique grammar plain text us vs one other =
     (stuck_same grammar plain text us vs [] [] (full_stuck grammar plain text us one) (full_stuck grammar plain text vs other)).0
 
 -- where the line that comes next may not stand there
-pub misfit_refused : {L : Type 0} (grammar : Grammar L) (text : List ℕ) (lines : List L) (rest : List ℕ) (number : ℕ) (error : ProofError) → RunsThrough grammar text lines rest → NoneFollows grammar (last_line grammar.heading lines) rest → (last_line grammar.heading lines ≡ grammar.last → ⊥) → number ≡ min (length lines + 2) 4_294_967_295 → IsMisfit rest number error → IsRefusal grammar text error
+pub misfit_refused : {L : Type 0} (grammar : Grammar L) (text : List ℕ) (lines : List L) (rest : List ℕ) (number : ℕ) (error : ProofError) → RunsThrough grammar text lines rest
+    → NoneFollows grammar (last_line grammar.heading lines) rest → (last_line grammar.heading lines ≡ grammar.last → ⊥) → number ≡ min (length lines + 2) 4_294_967_295 → IsMisfit rest number error
+    → IsRefusal grammar text error
 misfit_refused grammar text lines rest number Heading runs none unended counted misfit = absurd misfit
 misfit_refused grammar text lines rest number (WrongLine told) runs none unended counted misfit =
     (length lines + 2, record { lines = lines; rest = rest; runs = runs; counted = refl; wrong = inl (misfit.0, none) }, misfit.1 ∙ counted)
@@ -161,7 +169,9 @@ misfit_refused grammar text lines rest number Cut runs none unended counted misf
 misfit_refused grammar text lines rest number Memory runs none unended counted misfit = absurd misfit
 
 -- where a line begins behind the last one
-pub after_refused : {L : Type 0} (grammar : Grammar L) (text : List ℕ) (lines : List L) (rest : List ℕ) (number told : ℕ) (after : List ℕ) → RunsThrough grammar text lines rest → rest ≡ ended_line grammar grammar.last ++ after → grammar.IsLine grammar.last → grammar.may_follow (last_line grammar.heading lines) grammar.last ≡ true → (after ≡ [] → ⊥) → number ≡ min (length lines + 2) 4_294_967_295 → told ≡ min (number + 1) 4_294_967_295 → IsRefusal grammar text (WrongLine told)
+pub after_refused : {L : Type 0} (grammar : Grammar L) (text : List ℕ) (lines : List L) (rest : List ℕ) (number told : ℕ) (after : List ℕ) → RunsThrough grammar text lines rest
+    → rest ≡ ended_line grammar grammar.last ++ after → grammar.IsLine grammar.last → grammar.may_follow (last_line grammar.heading lines) grammar.last ≡ true → (after ≡ [] → ⊥)
+    → number ≡ min (length lines + 2) 4_294_967_295 → told ≡ min (number + 1) 4_294_967_295 → IsRefusal grammar text (WrongLine told)
 after_refused grammar text lines rest number told after runs front is may some counted is_told = (
   length lines + 2 + 1,
   record {

@@ -17,7 +17,8 @@ pub number_once : IsSpelledOnce decimal (λ fix. fix < 2 ^ 32)
 number_once x y r q is_x is_y stops_r stops_q same = number_unique x y r q (omega arith) (omega arith) stops_r stops_q same
 
 -- a word more was read
-pub word_taken : {X : Type 0} (word : X → List ℕ) (xs : List X) (x : X) (text rest behind after : List ℕ) → text ≡ spaced (map word xs) ++ rest → rest ≡ 32 ∷ behind → behind ≡ word x ++ after → text ≡ spaced (map word (xs ++ x ∷ [])) ++ after
+pub word_taken : {X : Type 0} (word : X → List ℕ) (xs : List X) (x : X) (text rest behind after : List ℕ) → text ≡ spaced (map word xs) ++ rest → rest ≡ 32 ∷ behind → behind ≡ word x ++ after
+    → text ≡ spaced (map word (xs ++ x ∷ [])) ++ after
 word_taken word xs x text rest behind after is space is_word =
     let front = spaced (map word xs) in
     let one : rest ≡ (32 ∷ word x) ++ after = space ∙ ap (λ (l : List ℕ). 32 ∷ l) is_word in
@@ -31,7 +32,8 @@ pub record Next {X : Type 0} (word : X → List ℕ) (Is : X → Type 0) (behind
   pub others : List X
   pub text : behind ≡ word next ++ (spaced (map word others) ++ 10 ∷ more)
 
-pub next_word : {X : Type 0} (word : X → List ℕ) (Is : X → Type 0) (xs ys : List X) (rest behind more : List ℕ) → rest ≡ 32 ∷ behind → Continues word Is xs ys rest more → (length xs < length ys) × Next word Is behind more
+pub next_word : {X : Type 0} (word : X → List ℕ) (Is : X → Type 0) (xs ys : List X) (rest behind more : List ℕ) → rest ≡ 32 ∷ behind → Continues word Is xs ys rest more
+    → (length xs < length ys) × Next word Is behind more
 next_word {X} word Is xs ys rest behind more space on = next_of on.others on.each on.list (sym space ∙ on.text) where
   next_of : (others : List X) → All Is others → ys ≡ xs ++ others → 32 ∷ behind ≡ spaced (map word others) ++ 10 ∷ more → (length xs < length ys) × Next word Is behind more
   next_of [] each list text = let byte : 32 ≡ 10 = ap (λ (l : List ℕ). get_or l 0 0) text in absurd (omega (arith, byte))
@@ -49,7 +51,8 @@ pub number_next : (behind more : List ℕ) (next : Next decimal (λ fix. fix < 2
 number_next behind more next = record { below = next.is_next; is = next.text; stops = spaced_stops decimal next.others (10 ∷ more) refl }
 
 -- where no word stands there, nothing more is spelled
-pub no_word : {X : Type 0} (word : X → List ℕ) (Is : X → Type 0) (xs ys : List X) (rest more : List ℕ) → ((behind : List ℕ) → rest ≡ 32 ∷ behind → ⊥) → Continues word Is xs ys rest more → (ys ≡ xs) × (rest ≡ 10 ∷ more)
+pub no_word : {X : Type 0} (word : X → List ℕ) (Is : X → Type 0) (xs ys : List X) (rest more : List ℕ) → ((behind : List ℕ) → rest ≡ 32 ∷ behind → ⊥) → Continues word Is xs ys rest more
+    → (ys ≡ xs) × (rest ≡ 10 ∷ more)
 no_word {X} word Is xs ys rest more none on = last_of on.others on.list on.text where
   last_of : (others : List X) → ys ≡ xs ++ others → rest ≡ spaced (map word others) ++ 10 ∷ more → (ys ≡ xs) × (rest ≡ 10 ∷ more)
   last_of [] list text = (list ∙ append-nil xs, text)
@@ -76,7 +79,8 @@ total_unique text (Some m) (Some n) r q one other =
     (ap Some parts.0, cc)
 
 -- the number at the front of a total's text is the total
-pub total_front : (text : List ℕ) (n : ℕ) (rest : List ℕ) (total : Option ℕ) (more : List ℕ) → IsNumberAt (2 ^ 64) text n rest → ((r : List ℕ) → text ≡ codes "NONE" ++ 10 ∷ r → ⊥) → IsTotalAt text total more → rest ≡ 10 ∷ more
+pub total_front : (text : List ℕ) (n : ℕ) (rest : List ℕ) (total : Option ℕ) (more : List ℕ) → IsNumberAt (2 ^ 64) text n rest → ((r : List ℕ) → text ≡ codes "NONE" ++ 10 ∷ r → ⊥)
+    → IsTotalAt text total more → rest ≡ 10 ∷ more
 total_front text n rest None more number none at = absurd (none more at)
 total_front text n rest (Some total) more number none at =
     (number_unique n total rest (10 ∷ more) number.below at.0 number.stops refl (sym number.is ∙ at.1)).1

@@ -1,5 +1,5 @@
 -- A kind of text that is made of lines, each ended by LF.
-use Rattle.std.specs.Prelude.{◌≡◌, ℕ, Bool, true, false, List, [], ◌∷◌, ◌++◌}
+use Rattle.std.specs.Prelude.{ℕ, Bool, List, [], ◌∷◌, ◌++◌}
 use Rattle.std.specs.List.{flat_map}
 
 -- What lines there are and how each is spelled, without its LF; what can stand in one; which line
@@ -18,11 +18,3 @@ ended_line grammar line = grammar.spelling line ++ 10 ∷ []
 -- lines, each with its LF
 abbrev pub spelled_lines : {L : Type 0} → Grammar L → List L → List ℕ
 spelled_lines grammar lines = flat_map (ended_line grammar) lines
-
--- Two lines that stand at the front of one text are the same line, and nothing may stand behind the
--- line that ends a text.
-pub record IsPlain {L : Type 0} (grammar : Grammar L) : Type 0 where
-  pub once : (line other : L) (rest more : List ℕ) → grammar.IsLine line → grammar.IsLine other
-      → ended_line grammar line ++ rest ≡ ended_line grammar other ++ more
-      → (line ≡ other) × (rest ≡ more)
-  pub ends : (line : L) → grammar.may_follow grammar.last line ≡ false

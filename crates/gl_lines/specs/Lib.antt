@@ -1,3 +1,4 @@
+pub mod Code
 pub mod Fronts
 pub mod Grammar
 pub mod Kept

@@ -1,4 +1,5 @@
-//! What the texts of proofs have in common: lines that end in LF, words parted by one space, numbers
+//! What the texts of proofs have in common: lines that end in LF, words parted by one space,
+//! numbers
 //! and spans with one spelling, and what is told of a text with a line that may not stand where it
 //! stands.
 #![tactic(auto)]

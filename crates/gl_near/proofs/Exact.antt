@@ -8,7 +8,7 @@ use Rattle.gl_near.specs.Pairing.{Pairing, whole_cell}
 use Rattle.gl_near.specs.Certificate.{IsSound}
 use Rattle.gl_near.specs.declared.answer.NearVerdict.{NearVerdict}
 use Rattle.gl_near.specs.declared.answer.NearVerdict.TheVariants.{Yes, Pair, Total, Extra, Place, Cell, Open}
-use Rattle.gl_near.specs.Laws.Pairs.{reached_once}
+use Rattle.gl_near.proofs.PairsLemmas.{reached_once}
 use Rattle.gl_near.specs.Verdict.{AreSaid, IsClosedAt, IsVerdict, cells_of}
 use Rattle.gl_near.proofs.Said.{certificate_said, verdict_said}
 

@@ -11,10 +11,12 @@ use Rattle.gl_near.specs.Verdict.{IsVerdict}
 use Rattle.gl_near.proofs.Exact.{verdict_unique}
 
 -- a certificate gets no other verdict
-pub certificate_yes : (pairing : Pairing) (best : Option NearBest) (boxes : List (List (ℕ × ℕ) × NearWhy)) (verdict : NearVerdict) → IsVerdict pairing best boxes verdict → IsCertificate pairing best boxes → verdict ≡ Yes
+pub certificate_yes : (pairing : Pairing) (best : Option NearBest) (boxes : List (List (ℕ × ℕ) × NearWhy)) (verdict : NearVerdict) → IsVerdict pairing best boxes verdict
+    → IsCertificate pairing best boxes → verdict ≡ Yes
 certificate_yes pairing best boxes verdict said certificate = verdict_unique pairing best boxes verdict Yes said certificate
 
 -- yes exactly for a certificate
-pub yes_exactly : (pairing : Pairing) (best : Option NearBest) (boxes : List (List (ℕ × ℕ) × NearWhy)) (verdict : NearVerdict) → IsVerdict pairing best boxes verdict → (verdict ≡ Yes) ↔ IsCertificate pairing best boxes
+pub yes_exactly : (pairing : Pairing) (best : Option NearBest) (boxes : List (List (ℕ × ℕ) × NearWhy)) (verdict : NearVerdict) → IsVerdict pairing best boxes verdict
+    → (verdict ≡ Yes) ↔ IsCertificate pairing best boxes
 yes_exactly pairing best boxes verdict said =
     (λ same. subst (IsVerdict pairing best boxes) same said, λ certificate. certificate_yes pairing best boxes verdict said certificate)

@@ -1,7 +1,9 @@
 pub mod Exact
 pub mod Judged
+pub mod Least
 pub mod Lines
 pub mod Numbers
+pub mod PairsLemmas
 pub mod Reading
 pub mod Said
 pub mod Squares

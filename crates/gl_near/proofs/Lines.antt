@@ -7,13 +7,13 @@ use Rattle.std.specs.Prelude.{All, codes}
 use Rattle.std.proofs.lemmas.List.{append-nil, append_cancel_left}
 use Rattle.std.proofs.lemmas.List.Elements.{All-cons, All-head, All-nil, All-tail}
 use Rattle.gl_lines.specs.Fronts.{IsNumberAt, IsSpanAt, IsTotalAt, Reads, Stops}
-use Rattle.gl_lines.specs.Grammar.{IsPlain}
+use Rattle.gl_lines.specs.Code.Grammar.{IsPlain}
 use Rattle.gl_lines.specs.Words.{IsSpan, spaced, span_word, total_word}
 use Rattle.gl_lines.proofs.Codes.{number_unique, span_unique, words_front}
 use Rattle.gl_lines.proofs.Words.{feed_first, no_word, span_once, total_there, total_unique}
 use Rattle.gl_near.specs.declared.found.NearWhy.{NearWhy}
 use Rattle.gl_near.specs.declared.found.NearWhy.TheVariants.{Time, Near}
-use Rattle.gl_near.specs.Fronts.{IsBoxAt, IsLeastAt, IsPairAt, IsReasonAt}
+use Rattle.gl_near.specs.Code.Fronts.{IsBoxAt, IsLeastAt, IsPairAt, IsReasonAt}
 use Rattle.gl_near.specs.Line.{AreTwoSpans, Line, HeadingLine, LeastLine, PairLine, BoxLine, EndLine, IsLine, ended, near_grammar, reason_word}
 
 -- the byte with which a line begins
@@ -56,7 +56,8 @@ reason_unique Time Near r q same = let byte : 84 ≡ 78 = ap (λ (l : List ℕ).
 reason_unique Near Time r q same = let byte : 78 ≡ 84 = ap (λ (l : List ℕ). get_or l 0 0) same in absurd (omega (arith, byte))
 
 -- the pair at the front of a text
-pub numbers_unique : (m n i j : ℕ) (r q : List ℕ) → m < 2 ^ 32 → n < 2 ^ 32 → i < 2 ^ 32 → j < 2 ^ 32 → decimal m ++ 32 ∷ (decimal n ++ 10 ∷ r) ≡ decimal i ++ 32 ∷ (decimal j ++ 10 ∷ q) → (m ≡ i) × (n ≡ j) × (r ≡ q)
+pub numbers_unique : (m n i j : ℕ) (r q : List ℕ) → m < 2 ^ 32 → n < 2 ^ 32 → i < 2 ^ 32 → j < 2 ^ 32 → decimal m ++ 32 ∷ (decimal n ++ 10 ∷ r) ≡ decimal i ++ 32 ∷ (decimal j ++ 10 ∷ q)
+    → (m ≡ i) × (n ≡ j) × (r ≡ q)
 numbers_unique m n i j r q small_m small_n small_i small_j same =
     let firsts = number_unique m i (32 ∷ (decimal n ++ 10 ∷ r)) (32 ∷ (decimal j ++ 10 ∷ q)) (omega (arith, small_m)) (omega (arith, small_i)) refl refl same in
     let tails : decimal n ++ 10 ∷ r ≡ decimal j ++ 10 ∷ q = let both = firsts.1 in cc in
@@ -77,7 +78,8 @@ line_unique (PairLine m n) (PairLine i j) r q is_l is_m same =
     let numbers = numbers_unique m n i j r q is_l.0 is_l.1 is_m.0 is_m.1 words in
     (λ k. PairLine (numbers.0 k) (numbers.1 k), numbers.2)
 line_unique (BoxLine why spans) (BoxLine reason others) r q is_l is_m same =
-    let words : reason_word why ++ (spaced (map span_word spans) ++ 10 ∷ r) ≡ reason_word reason ++ (spaced (map span_word others) ++ 10 ∷ q) = append_cancel_left (codes "BOX ") _ _ (sym (box_is why spans r) ∙ same ∙ box_is reason others q) in
+    let words : reason_word why ++ (spaced (map span_word spans) ++ 10 ∷ r) ≡ reason_word reason ++ (spaced (map span_word others) ++ 10 ∷ q) =
+    append_cancel_left (codes "BOX ") _ _ (sym (box_is why spans r) ∙ same ∙ box_is reason others q) in
     let letter = reason_unique why reason _ _ words in
     let on = words_front span_word IsSpan span_once spans others (10 ∷ r) q is_l.each is_m.each (λ some. refl) letter.1 in
     let last = no_word span_word IsSpan spans others (10 ∷ r) q (feed_first r) on in
@@ -99,7 +101,8 @@ least_there : (text tail : List ℕ) (total : Option ℕ) (rest : List ℕ) → 
 least_there text tail None rest front at = (tt, front ∙ ap (λ (l : List ℕ). codes "LEAST " ++ l) at ∙ sym (least_is None rest))
 least_there text tail (Some total) rest front at = (at.0, front ∙ ap (λ (l : List ℕ). codes "LEAST " ++ l) at.1 ∙ sym (least_is (Some total) rest))
 
-pub least_read : (text tail : List ℕ) (taken : Option (Option ℕ × Bor (List ℕ))) → text ≡ codes "LEAST " ++ tail → Reads (λ total. total) (IsTotalAt tail) taken → Reads (λ total. total) (IsLeastAt text) taken
+pub least_read : (text tail : List ℕ) (taken : Option (Option ℕ × Bor (List ℕ))) → text ≡ codes "LEAST " ++ tail → Reads (λ total. total) (IsTotalAt tail) taken
+    → Reads (λ total. total) (IsLeastAt text) taken
 least_read text tail None front none = λ total rest at.
     none total rest (total_there tail total rest at.0 (append_cancel_left (codes "LEAST ") _ _ (sym front ∙ at.1 ∙ least_is total rest)))
 least_read text tail (Some taken) front at = least_there text tail taken.0 taken.1.now front at
@@ -113,15 +116,6 @@ pub number_passed : (text rest more : List ℕ) (read number : ℕ) → IsNumber
 number_passed text rest more read number at small stops is =
     (number_unique read number rest more (omega (arith, at.below)) (omega (arith, small)) at.stops stops (sym at.is ∙ is)).1
 
--- a pair, part by part
-pub pair_read : (text after rest behind last end : List ℕ) (first second : ℕ) → text ≡ codes "PAIR " ++ after → IsNumberAt (2 ^ 32) after first rest → rest ≡ 32 ∷ behind → IsNumberAt (2 ^ 32) behind second last → last ≡ 10 ∷ end → IsPairAt text (first, second) end
-pair_read text after rest behind last end first second front one space other feed = (
-  (one.below, other.below),
-  front
-      ∙ ap (λ (l : List ℕ). codes "PAIR " ++ l) (one.is ∙ ap (λ (l : List ℕ). decimal first ++ l) (space ∙ ap (λ (l : List ℕ). 32 ∷ l) (other.is ∙ ap (λ (l : List ℕ). decimal second ++ l) feed)))
-      ∙ sym (pair_is first second end),
-)
-
 -- the parts of the line of a box
 pub record BoxParts (text : List ℕ) (box : List (ℕ × ℕ) × NearWhy) (more : List ℕ) : Type 0 where
   pub first : ℕ × ℕ
@@ -134,7 +128,8 @@ two_spaced : (a b r : List ℕ) → spaced (a ∷ b ∷ []) ++ 10 ∷ r ≡ 32 �
 two_spaced a b r =
     append_assoc (32 ∷ a) (spaced (b ∷ [])) (10 ∷ r) ∙ ap (λ (l : List ℕ). (32 ∷ a) ++ (l ++ 10 ∷ r)) (append-nil (32 ∷ b))
 
-pub two_box_is : (why : NearWhy) (first second : ℕ × ℕ) (r : List ℕ) → ended (BoxLine why (first ∷ second ∷ [])) ++ r ≡ codes "BOX " ++ (reason_word why ++ 32 ∷ (span_word first ++ 32 ∷ (span_word second ++ 10 ∷ r)))
+pub two_box_is : (why : NearWhy) (first second : ℕ × ℕ) (r : List ℕ) → ended (BoxLine why (first ∷ second ∷ [])) ++ r
+    ≡ codes "BOX " ++ (reason_word why ++ 32 ∷ (span_word first ++ 32 ∷ (span_word second ++ 10 ∷ r)))
 two_box_is why first second r =
     box_is why (first ∷ second ∷ []) r ∙ ap (λ (l : List ℕ). codes "BOX " ++ (reason_word why ++ l)) (two_spaced (span_word first) (span_word second) r)
 
@@ -154,7 +149,8 @@ pub box_parts : (text : List ℕ) (box : List (ℕ × ℕ) × NearWhy) (more : L
 box_parts text box more at = parts_of text box.0 box.1 more at.0.two at.0.each at.1
 
 -- behind the letter of a reason that was read
-pub reason_passed : (text after : List ℕ) (why : NearWhy) (box : List (ℕ × ℕ) × NearWhy) (more : List ℕ) → IsReasonAt text why after → (parts : BoxParts text box more) → after ≡ span_word parts.first ++ 32 ∷ (span_word parts.second ++ 10 ∷ more)
+pub reason_passed : (text after : List ℕ) (why : NearWhy) (box : List (ℕ × ℕ) × NearWhy) (more : List ℕ) → IsReasonAt text why after → (parts : BoxParts text box more)
+    → after ≡ span_word parts.first ++ 32 ∷ (span_word parts.second ++ 10 ∷ more)
 reason_passed text after why box more at parts =
     let words = append_cancel_left (codes "BOX ") _ _ (sym at ∙ parts.is) in
     let tails = (reason_unique why box.1 _ _ words).1 in
@@ -166,14 +162,16 @@ span_passed text rest more read span at is_span stops is =
     (span_unique read span rest more at.is_span is_span at.stops stops (sym at.is ∙ is)).1
 
 -- a box, part by part
-pub box_read : (text after rest behind last end : List ℕ) (why : NearWhy) (first second : ℕ × ℕ) (spans : List (ℕ × ℕ)) → IsReasonAt text why after → IsSpanAt after first rest → rest ≡ 32 ∷ behind → IsSpanAt behind second last → last ≡ 10 ∷ end → spans ≡ first ∷ second ∷ [] → IsBoxAt text (spans, why) end
+pub box_read : (text after rest behind last end : List ℕ) (why : NearWhy) (first second : ℕ × ℕ) (spans : List (ℕ × ℕ)) → IsReasonAt text why after → IsSpanAt after first rest → rest ≡ 32 ∷ behind
+    → IsSpanAt behind second last → last ≡ 10 ∷ end → spans ≡ first ∷ second ∷ [] → IsBoxAt text (spans, why) end
 box_read text after rest behind last end why first second spans reason one space other feed are = (
   subst AreTwoSpans (sym are) (record {
     two = omega arith;
     each = All-cons IsSpan first (second ∷ []) one.is_span (All-cons IsSpan second [] other.is_span (All-nil IsSpan));
   }),
   reason
-      ∙ ap (λ (l : List ℕ). codes "BOX " ++ (reason_word why ++ 32 ∷ l)) (one.is ∙ ap (λ (l : List ℕ). span_word first ++ l) (space ∙ ap (λ (l : List ℕ). 32 ∷ l) (other.is ∙ ap (λ (l : List ℕ). span_word second ++ l) feed)))
+      ∙ ap (λ (l : List ℕ). codes "BOX " ++ (reason_word why ++ 32 ∷ l)) (one.is
+      ∙ ap (λ (l : List ℕ). span_word first ++ l) (space ∙ ap (λ (l : List ℕ). 32 ∷ l) (other.is ∙ ap (λ (l : List ℕ). span_word second ++ l) feed)))
       ∙ sym (two_box_is why first second end)
       ∙ ap (λ (s : List (ℕ × ℕ)). ended (BoxLine why s) ++ end) (sym are),
 )

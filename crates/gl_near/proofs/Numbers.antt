@@ -3,10 +3,11 @@ use Rattle.std.proofs.Common.{◌≡◌, ◌∙◌, sym, ap, refl, ℕ, ◌<◌,
 use Rattle.std.proofs.lemmas.List.{map-append, take_more}
 use Rattle.std.proofs.lemmas.Option.{get_or_from_slice_get}
 use Rattle.gl_igc.specs.declared.fix.Fix.{Fix}
-use Rattle.gl_hull.specs.Laws.Held.{named}
+use Rattle.gl_hull.proofs.Held.{named}
 
 -- one number more names one fix more
-pub one_more : (fixes : List Fix) (numbers pushed : List ℕ) (number : ℕ) → number < length fixes → pushed ≡ numbers ++ number ∷ [] → map (slice_get fixes) numbers ≡ map Some (take number fixes) → map (slice_get fixes) pushed ≡ map Some (take (number + 1) fixes)
+pub one_more : (fixes : List Fix) (numbers pushed : List ℕ) (number : ℕ) → number < length fixes → pushed ≡ numbers ++ number ∷ [] → map (slice_get fixes) numbers ≡ map Some (take number fixes)
+    → map (slice_get fixes) pushed ≡ map Some (take (number + 1) fixes)
 one_more fixes numbers pushed number below is before =
     let fix = named fixes number below in
     let there : get_or fixes number fix.0 ≡ fix.0 = get_or_from_slice_get fixes number fix.0 fix.0 fix.1 in

@@ -13,7 +13,7 @@ use Rattle.gl_lines.proofs.Pieces.{pieces_push}
 use Rattle.gl_lines.proofs.Refused.{IsFull, after_refused, follow_append, full_refused, full_unique, last-append, misfit_refused, refused_once, runs_more}
 use Rattle.gl_near.specs.declared.found.NearBest.{NearBest}
 use Rattle.gl_near.specs.declared.found.NearWhy.{NearWhy}
-use Rattle.gl_near.specs.Fronts.{LacksBest, NoBox, NoLeast, NoPair}
+use Rattle.gl_near.specs.Code.Fronts.{LacksBest, NoBox, NoLeast, NoPair}
 use Rattle.gl_near.specs.Line.{AreTwoSpans, IsBest, IsTextOf, Line, HeadingLine, LeastLine, PairLine, BoxLine, EndLine, IsLine, box_line, ended, front_lines, goes_on, lines_of, may_follow, near_grammar, near_text, spelled}
 use Rattle.gl_near.proofs.Lines.{near_plain}
 
@@ -21,7 +21,8 @@ use Rattle.gl_near.proofs.Lines.{near_plain}
 abbrev pub GoesOn : Line → Type 0
 GoesOn last = (next : Line) → may_follow last next ≡ goes_on next
 
-boxes_follow : (last : Line) (boxes : List (List (ℕ × ℕ) × NearWhy)) → GoesOn last → All (λ box. AreTwoSpans box.0) boxes → Follow near_grammar last (map box_line boxes) × GoesOn (last_line last (map box_line boxes))
+boxes_follow : (last : Line) (boxes : List (List (ℕ × ℕ) × NearWhy)) → GoesOn last → All (λ box. AreTwoSpans box.0) boxes
+    → Follow near_grammar last (map box_line boxes) × GoesOn (last_line last (map box_line boxes))
 boxes_follow last [] on each = (tt, on)
 boxes_follow last (box ∷ boxes) on each =
     let rest = boxes_follow (box_line box) boxes (λ next. refl) (All-tail (λ (b : List (ℕ × ℕ) × NearWhy). AreTwoSpans b.0) box boxes each) in
@@ -32,21 +33,24 @@ front_follow None is = ((tt, refl, tt), λ next. refl)
 front_follow (Some best) is = ((is.total, refl, ((is.first, is.second), refl, tt)), λ next. refl)
 
 -- the lines before the end stand where they may, and boxes or the end may stand behind them
-pub lines_follow : (best : Option NearBest) (boxes : List (List (ℕ × ℕ) × NearWhy)) → IfSome best IsBest → All (λ box. AreTwoSpans box.0) boxes → Follow near_grammar HeadingLine (front_lines best ++ map box_line boxes) × GoesOn (last_line HeadingLine (front_lines best ++ map box_line boxes))
+pub lines_follow : (best : Option NearBest) (boxes : List (List (ℕ × ℕ) × NearWhy)) → IfSome best IsBest → All (λ box. AreTwoSpans box.0) boxes
+    → Follow near_grammar HeadingLine (front_lines best ++ map box_line boxes) × GoesOn (last_line HeadingLine (front_lines best ++ map box_line boxes))
 lines_follow best boxes is each =
     let front = front_follow best is in
     let rest = boxes_follow (last_line HeadingLine (front_lines best)) boxes front.1 each in
     (follow_append near_grammar HeadingLine (front_lines best) (map box_line boxes) front.0 rest.0, subst GoesOn (sym (last-append HeadingLine (front_lines best) (map box_line boxes))) rest.1)
 
 -- what was read, up to what follows the boxes
-pub read_runs : (text lines rest last : List ℕ) (best : Option NearBest) (boxes : List (List (ℕ × ℕ) × NearWhy)) → text ≡ ended HeadingLine ++ lines → lines ≡ spelled (front_lines best) ++ rest → rest ≡ spelled (map box_line boxes) ++ last → IfSome best IsBest → All (λ box. AreTwoSpans box.0) boxes → RunsThrough near_grammar text (front_lines best ++ map box_line boxes) last
+pub read_runs : (text lines rest last : List ℕ) (best : Option NearBest) (boxes : List (List (ℕ × ℕ) × NearWhy)) → text ≡ ended HeadingLine ++ lines → lines ≡ spelled (front_lines best) ++ rest
+    → rest ≡ spelled (map box_line boxes) ++ last → IfSome best IsBest → All (λ box. AreTwoSpans box.0) boxes → RunsThrough near_grammar text (front_lines best ++ map box_line boxes) last
 read_runs text lines rest last best boxes heading front back is each =
     let first = ended HeadingLine in
     let head = spelled (front_lines best) in
     let tail = spelled (map box_line boxes) in
     let joined : head ++ tail ≡ spelled (front_lines best ++ map box_line boxes) = sym (flat_map-append ended (front_lines best) (map box_line boxes)) in
     record {
-      is = heading ∙ ap (λ (l : List ℕ). first ++ l) (front ∙ ap (λ (l : List ℕ). head ++ l) back ∙ sym (append_assoc head tail last)) ∙ sym (append_assoc first (head ++ tail) last) ∙ ap (λ (l : List ℕ). (first ++ l) ++ last) joined;
+      is = heading ∙ ap (λ (l : List ℕ). first ++ l) (front ∙ ap (λ (l : List ℕ). head ++ l) back ∙ sym (append_assoc head tail last)) ∙ sym (append_assoc first (head ++ tail) last)
+          ∙ ap (λ (l : List ℕ). (first ++ l) ++ last) joined;
       follow = (lines_follow best boxes is each).0;
     }
 
@@ -58,13 +62,15 @@ pub lines_of_is : (best : Option NearBest) (boxes : List (List (ℕ × ℕ) × N
 lines_of_is best boxes = append_assoc (front_lines best) (map box_line boxes) (EndLine ∷ [])
 
 -- where the end follows the boxes, and nothing follows it
-pub read_text : (text last after : List ℕ) (best : Option NearBest) (boxes : List (List (ℕ × ℕ) × NearWhy)) → RunsThrough near_grammar text (before_end best boxes) last → last ≡ ended EndLine ++ after → after ≡ [] → IfSome best IsBest → All (λ box. AreTwoSpans box.0) boxes → IsTextOf text best boxes
+pub read_text : (text last after : List ℕ) (best : Option NearBest) (boxes : List (List (ℕ × ℕ) × NearWhy)) → RunsThrough near_grammar text (before_end best boxes) last → last ≡ ended EndLine ++ after
+    → after ≡ [] → IfSome best IsBest → All (λ box. AreTwoSpans box.0) boxes → IsTextOf text best boxes
 read_text text last after best boxes runs end none is each =
     let more = runs_more near_grammar text (before_end best boxes) last EndLine after runs end tt ((lines_follow best boxes is each).1 EndLine) in
     record {
       numbers = is;
       each = each;
-      is = more.is ∙ ap (λ (l : List ℕ). spelled (HeadingLine ∷ (before_end best boxes ++ EndLine ∷ [])) ++ l) none ∙ append-nil (spelled (HeadingLine ∷ (before_end best boxes ++ EndLine ∷ []))) ∙ ap (λ (l : List Line). spelled (HeadingLine ∷ l)) (lines_of_is best boxes);
+      is = more.is ∙ ap (λ (l : List ℕ). spelled (HeadingLine ∷ (before_end best boxes ++ EndLine ∷ [])) ++ l) none ∙ append-nil (spelled (HeadingLine ∷ (before_end best boxes ++ EndLine ∷ [])))
+          ∙ ap (λ (l : List Line). spelled (HeadingLine ∷ l)) (lines_of_is best boxes);
     }
 
 -- the text of a claim runs through to its end
@@ -119,7 +125,8 @@ text_unique text one other xs ys is_one is_other =
     lines_injective one other xs ys (full_unique near_grammar near_plain text (lines_of one xs) (lines_of other ys) (text_full text one xs is_one) (text_full text other ys is_other))
 
 -- behind boxes nothing may stand but a box or the end
-none_follows : (best : Option NearBest) (boxes : List (List (ℕ × ℕ) × NearWhy)) (rest : List ℕ) → IfSome best IsBest → All (λ box. AreTwoSpans box.0) boxes → NoBox rest → ((more : List ℕ) → rest ≡ ended EndLine ++ more → ⊥) → NoneFollows near_grammar (last_line HeadingLine (before_end best boxes)) rest
+none_follows : (best : Option NearBest) (boxes : List (List (ℕ × ℕ) × NearWhy)) (rest : List ℕ) → IfSome best IsBest → All (λ box. AreTwoSpans box.0) boxes → NoBox rest
+    → ((more : List ℕ) → rest ≡ ended EndLine ++ more → ⊥) → NoneFollows near_grammar (last_line HeadingLine (before_end best boxes)) rest
 none_follows best boxes rest is each no_box no_end line more is_line may text =
     neither line is_line (sym ((lines_follow best boxes is each).1 line) ∙ may) text where
       neither : (line : Line) → IsLine line → goes_on line ≡ true → rest ≡ ended line ++ more → ⊥
@@ -134,19 +141,26 @@ pub unended : (best : Option NearBest) (boxes : List (List (ℕ × ℕ) × NearW
 unended best boxes is each same =
     false≢true (sym (ap (λ (last : Line). may_follow last EndLine) same) ∙ (lines_follow best boxes is each).1 EndLine)
 
-counted_on : (line told front : ℕ) (boxes : List (List (ℕ × ℕ) × NearWhy)) (best : Option NearBest) → line ≡ 2 + length (front_lines best) → told ≡ min (line + length boxes) 4_294_967_295 → told ≡ min (length (before_end best boxes) + 2) 4_294_967_295
+counted_on : (line told front : ℕ) (boxes : List (List (ℕ × ℕ) × NearWhy)) (best : Option NearBest) → line ≡ 2 + length (front_lines best) → told ≡ min (line + length boxes) 4_294_967_295
+    → told ≡ min (length (before_end best boxes) + 2) 4_294_967_295
 counted_on line told front boxes best is counted =
     omega (arith, is, counted, length-append (front_lines best) (map box_line boxes), length-map boxes box_line)
 
 -- where neither a box nor the end comes next
-pub refused_end : (text last : List ℕ) (best : Option NearBest) (boxes : List (List (ℕ × ℕ) × NearWhy)) (line told : ℕ) (error : ProofError) → RunsThrough near_grammar text (before_end best boxes) last → IfSome best IsBest → All (λ box. AreTwoSpans box.0) boxes → NoBox last → ((more : List ℕ) → last ≡ ended EndLine ++ more → ⊥) → line ≡ 2 + length (front_lines best) → told ≡ min (line + length boxes) 4_294_967_295 → IsMisfit last told error → IsRefusal near_grammar text error
+pub refused_end : (text last : List ℕ) (best : Option NearBest) (boxes : List (List (ℕ × ℕ) × NearWhy)) (line told : ℕ) (error : ProofError)
+    → RunsThrough near_grammar text (before_end best boxes) last → IfSome best IsBest → All (λ box. AreTwoSpans box.0) boxes → NoBox last → ((more : List ℕ) → last ≡ ended EndLine ++ more → ⊥)
+    → line ≡ 2 + length (front_lines best) → told ≡ min (line + length boxes) 4_294_967_295 → IsMisfit last told error → IsRefusal near_grammar text error
 refused_end text last best boxes line told error runs is each no_box no_end is_line counted misfit =
-    misfit_refused near_grammar text (before_end best boxes) last told error runs (none_follows best boxes last is each no_box no_end) (unended best boxes is each) (counted_on line told 0 boxes best is_line counted) misfit
+    misfit_refused near_grammar text (before_end best boxes) last told error runs (none_follows best boxes last is each no_box no_end) (unended best boxes is each)
+    (counted_on line told 0 boxes best is_line counted) misfit
 
 -- where a line begins behind the end
-pub refused_after : (text last after : List ℕ) (best : Option NearBest) (boxes : List (List (ℕ × ℕ) × NearWhy)) (line number told : ℕ) → RunsThrough near_grammar text (before_end best boxes) last → IfSome best IsBest → All (λ box. AreTwoSpans box.0) boxes → last ≡ ended EndLine ++ after → (after ≡ [] → ⊥) → line ≡ 2 + length (front_lines best) → number ≡ min (line + length boxes) 4_294_967_295 → told ≡ min (number + 1) 4_294_967_295 → IsRefusal near_grammar text (WrongLine told)
+pub refused_after : (text last after : List ℕ) (best : Option NearBest) (boxes : List (List (ℕ × ℕ) × NearWhy)) (line number told : ℕ) → RunsThrough near_grammar text (before_end best boxes) last
+    → IfSome best IsBest → All (λ box. AreTwoSpans box.0) boxes → last ≡ ended EndLine ++ after → (after ≡ [] → ⊥) → line ≡ 2 + length (front_lines best)
+    → number ≡ min (line + length boxes) 4_294_967_295 → told ≡ min (number + 1) 4_294_967_295 → IsRefusal near_grammar text (WrongLine told)
 refused_after text last after best boxes line number told runs is each end some is_line counted is_told =
-    after_refused near_grammar text (before_end best boxes) last number told after runs end tt ((lines_follow best boxes is each).1 EndLine) some (counted_on line number 0 boxes best is_line counted) is_told
+    after_refused near_grammar text (before_end best boxes) last number told after runs end tt ((lines_follow best boxes is each).1 EndLine) some
+    (counted_on line number 0 boxes best is_line counted) is_told
 
 heading_none : (rest : List ℕ) → NoLeast rest → NoneFollows near_grammar HeadingLine rest
 heading_none rest none HeadingLine more is may text = false≢true may
@@ -175,7 +189,8 @@ refused_best text lines error heading lacks =
     ]
 
 -- a box more was read
-pub boxes_more : (text rest after : List ℕ) (said : List (List (ℕ × ℕ) × NearWhy)) (box : List (ℕ × ℕ) × NearWhy) → text ≡ spelled (map box_line said) ++ rest → rest ≡ ended (box_line box) ++ after → text ≡ spelled (map box_line (said ++ box ∷ [])) ++ after
+pub boxes_more : (text rest after : List ℕ) (said : List (List (ℕ × ℕ) × NearWhy)) (box : List (ℕ × ℕ) × NearWhy) → text ≡ spelled (map box_line said) ++ rest → rest ≡ ended (box_line box) ++ after
+    → text ≡ spelled (map box_line (said ++ box ∷ [])) ++ after
 boxes_more text rest after said box is line =
     let front = spelled (map box_line said) in
     is ∙ ap (λ (l : List ℕ). front ++ l) line ∙ sym (append_assoc front (ended (box_line box)) after) ∙ ap (λ (l : List ℕ). l ++ after) (sym (pieces_push ended box_line said box))

@@ -22,7 +22,8 @@ pub length-cells_of : (boxes : List (List (ℕ × ℕ) × NearWhy)) → length (
 length-cells_of boxes = length-map boxes (λ (box : List (ℕ × ℕ) × NearWhy). box.0)
 
 -- the verdict, where the claim holds
-pub said_verdict : (pairing : Pairing) (best : Option NearBest) (boxes : List (List (ℕ × ℕ) × NearWhy)) (said : Said) → IsSound pairing best → AreSaid pairing best boxes said → IsVerdict pairing best boxes (verdict_said said)
+pub said_verdict : (pairing : Pairing) (best : Option NearBest) (boxes : List (List (ℕ × ℕ) × NearWhy)) (said : Said) → IsSound pairing best → AreSaid pairing best boxes said
+    → IsVerdict pairing best boxes (verdict_said said)
 said_verdict pairing best boxes NoneWrong claimed is = record {
   sound = claimed;
   frontier = is.0;

@@ -5,7 +5,7 @@ use Rattle.gl_sphere.specs.declared.place.Vec3.{Vec3}
 use Rattle.gl_sphere.specs.Distance.{squared_chord, written_distance}
 use Rattle.gl_igc.specs.declared.fix.Fix.{Fix}
 use Rattle.gl_near.specs.Pairing.{IsLeast, place}
-use Rattle.gl_near.specs.Laws.Pairs.{same_fix, slice_get_below}
+use Rattle.gl_near.proofs.PairsLemmas.{same_fix, slice_get_below}
 
 pub slice_get_of : (fixes : List Fix) (k : ℕ) (fix : Fix) → k < length fixes → fix ≡ get_or fixes k fix → slice_get fixes k ≡ Some fix
 slice_get_of [] k fix below is = absurd (omega arith)
@@ -29,7 +29,8 @@ none_first flight point square has number other below at =
     omega (arith, sym has.is ∙ (ap (λ (fix : Fix). squared_chord fix.at point) same ∙ at.is))
 
 -- one fix more
-pub none_more : (flight : List Fix) (point : Vec3) (least square now count : ℕ) → NoneLess flight point least count → HasSquare flight point square count → now ≤ least → now ≤ square → NoneLess flight point now (count + 1)
+pub none_more : (flight : List Fix) (point : Vec3) (least square now count : ℕ) → NoneLess flight point least count → HasSquare flight point square count → now ≤ least → now ≤ square
+    → NoneLess flight point now (count + 1)
 none_more flight point least square now count none has few most number other below at =
     elim (cases_lt number count) [
       | inl before ↦ omega (arith, none number other before at, few)
@@ -40,7 +41,8 @@ none_more flight point least square now count none has few most number other bel
     ]
 
 -- so its distance is the least
-pub square_least : (flight : List Fix) (point : Vec3) (square number total : ℕ) → HasSquare flight point square number → NoneLess flight point square (length flight) → total ≡ written_distance square → ((other : ℕ) → square ≤ other → total ≤ written_distance other) → IsLeast (place flight point) (Some total)
+pub square_least : (flight : List Fix) (point : Vec3) (square number total : ℕ) → HasSquare flight point square number → NoneLess flight point square (length flight) → total ≡ written_distance square
+    → ((other : ℕ) → square ≤ other → total ≤ written_distance other) → IsLeast (place flight point) (Some total)
 square_least flight point square number total has none is rises = (
   (number, 0, record { fix = has.fix; there = has.there; only = refl; is = ap written_distance has.is ∙ sym is }),
   λ first second distance at.

@@ -1,17 +1,17 @@
 -- The open cells of a search: their work falls with each step, and with the boxes they part all pairs.
-use Rattle.std.proofs.Common.{◌≡◌, ◌∙◌, sym, ap, refl, subst, ℕ, zero, suc, ◌+◌, ◌-◌, ◌<◌, ◌≤◌, inl, inr, List, [], ◌∷◌, ◌++◌, length, get_or, take, map, slice_set, reverse, append_assoc, arith}
+use Rattle.std.proofs.Common.{◌≡◌, ◌∙◌, sym, ap, refl, subst, ℕ, zero, suc, ◌<◌, inl, inr, List, [], ◌∷◌, ◌++◌, length, get_or, map, reverse, append_assoc, arith}
 use Rattle.std.specs.Prelude.{◌↔◌, All, IfSome, IsNone, Option, Some, None}
 use Rattle.std.specs.Option.{option_to_list}
-use Rattle.std.proofs.lemmas.List.{append-nil, map-append, reverse-append, get_or-map, length-map, same_from_push, take_more, take_more_set, take_all, length-set}
-use Rattle.std.proofs.lemmas.List.Elements.{All-cons, All-nil, All-pop, All-push}
+use Rattle.std.proofs.lemmas.List.{append-nil, map-append, get_or-map, length-map}
+use Rattle.std.proofs.lemmas.List.Elements.{All-cons, All-nil, All-push}
 use Rattle.gl_box.specs.declared.cell.Cell.{Cell}
 use Rattle.gl_box.specs.Cell.{Covers, point, spans_of}
 use Rattle.gl_box.specs.Halves.{IsSingle, span_at}
 use Rattle.gl_box.specs.Frontier.{IsFrontier}
 use Rattle.gl_box.specs.Frontier.IsFrontier.{alone}
-use Rattle.gl_box.specs.Laws.Held.{length-covers}
-use Rattle.gl_box.specs.Laws.Spans.{length-spans_of}
-use Rattle.gl_box.specs.Laws.Nodes.{covers_lower, covers_node, member_node, covers_self, covers_through, covers_upper, halves_frontier, refined, spread, spread-lower, spread-upper}
+use Rattle.gl_box.proofs.Held.{length-covers}
+use Rattle.gl_box.proofs.Spans.{length-spans_of}
+use Rattle.gl_box.proofs.Nodes.{covers_lower, covers_node, member_node, covers_self, covers_through, covers_upper, halves_frontier, refined, spread, spread-lower, spread-upper}
 use Rattle.gl_near.specs.declared.dive.Candidate.{Candidate}
 use Rattle.gl_near.specs.declared.found.NearBest.{NearBest}
 use Rattle.gl_near.specs.declared.found.NearClosed.{NearClosed}
@@ -19,45 +19,15 @@ use Rattle.gl_near.specs.declared.found.NearWhy.{NearWhy}
 use Rattle.gl_near.specs.declared.found.NearWhy.TheVariants.{Time, Near}
 use Rattle.gl_near.specs.Pairing.{Fits, IsApart, IsLeast, IsPairing, IsReached, Pairing, flights, least, place, whole_cell}
 use Rattle.gl_near.specs.Certificate.{IsCertificate, IsClosedFor, IsSound, box_of, total_of}
-use Rattle.gl_near.specs.Search.{Advances, AreWithin, Closes, ClosesFor, Cuts, IsNoMore, IsUnderWay, Promises, in_order}
-use Rattle.gl_near.specs.Laws.Pairs.{single_reached}
-
--- how many steps a cell can take whose spans reach so far
-unfoldable pub turns : ℕ → ℕ
-turns zero = 1
-turns (suc reach) = suc (turns reach + turns reach)
-
-unfoldable pub work_of : List Cell → ℕ
-work_of [] = 0
-work_of (cell ∷ cells) = turns (spread (spans_of cell)) + work_of cells
-
-pub turns_some : (reach : ℕ) → 0 < turns reach
-unfolding turns
-turns_some zero = omega arith
-turns_some (suc reach) = omega arith
-
-turns_more : (less more : ℕ) → less ≤ more → turns less ≤ turns more
-unfolding turns
-turns_more zero more order = turns_some more
-turns_more (suc less) zero order = absurd (omega arith)
-turns_more (suc less) (suc more) order = omega (arith, turns_more less more (omega arith))
-
-pub turns_cut : (lower upper all : ℕ) → lower < all → upper < all → turns lower + turns upper < turns all
-unfolding turns
-turns_cut lower upper zero low high = absurd (omega arith)
-turns_cut lower upper (suc all) low high = omega (arith, turns_more lower all (omega arith), turns_more upper all (omega arith))
-
-pub work_of-append : (xs ys : List Cell) → work_of (xs ++ ys) ≡ work_of xs + work_of ys
-unfolding work_of
-work_of-append [] ys = omega arith
-work_of-append (x ∷ xs) ys = omega (arith, work_of-append xs ys)
-
-pub work_of-one : (cell : Cell) → work_of (cell ∷ []) ≡ turns (spread (spans_of cell))
-unfolding work_of
-work_of-one cell = omega arith
+use Rattle.gl_near.specs.Code.Search.{Advances, AreWithin, Closes, ClosesFor, Cuts, IsNoMore, IsUnderWay, Promises, in_order}
+use Rattle.gl_near.proofs.PairsLemmas.{single_reached}
+use Rattle.gl_text.proofs.Lists.{All-last}
+use Rattle.gl_box.proofs.Work.{work_of, turns_some, turns_cut, work_of-append, work_of-one}
+use Rattle.gl_box.proofs.Lows.{single_low, reverse-last}
 
 -- each step leaves less work
-pub work_falls : (pairing : Pairing) (total : Option ℕ) (before after : List Cell) (boxes_before boxes_after : List NearClosed) → Advances pairing total before after boxes_before boxes_after → work_of after < work_of before
+pub work_falls : (pairing : Pairing) (total : Option ℕ) (before after : List Cell) (boxes_before boxes_after : List NearClosed) → Advances pairing total before after boxes_before boxes_after
+    → work_of after < work_of before
 work_falls pairing total before after boxes_before boxes_after (inl closes) =
     let cell = closes.closes.cell in
     omega (arith, ap work_of closes.closes.top, work_of-append after (cell ∷ []), work_of-one cell, turns_some (spread (spans_of cell)))
@@ -66,30 +36,18 @@ work_falls pairing total before after boxes_before boxes_after (inr cuts) =
     let low = spread-lower (spans_of cuts.cell) (spans_of cuts.lower) (spans_of cuts.upper) cuts.halves in
     let high = spread-upper (spans_of cuts.cell) (spans_of cuts.lower) (spans_of cuts.upper) cuts.halves in
     let less = turns_cut _ _ _ low high in
-    omega (arith, less, ap work_of cuts.top, ap work_of cuts.cut, work_of-append rest (cuts.cell ∷ []), work_of-append (rest ++ cuts.upper ∷ []) (cuts.lower ∷ []), work_of-append rest (cuts.upper ∷ []), work_of-one cuts.cell, work_of-one cuts.lower, work_of-one cuts.upper)
-
--- the last element, and what stands before it
-pub top_is : {A : Type 0} (xs : List A) (n : ℕ) (x : A) → 0 < length xs → n ≡ length xs - 1 → x ≡ get_or xs n x → xs ≡ take n xs ++ x ∷ []
-top_is xs n x some last is =
-    let all : n + 1 ≡ length xs = omega arith in
-    sym (take_all (n + 1) xs (omega arith)) ∙ take_more xs n x (omega arith) ∙ ap (λ y. take n xs ++ y ∷ []) (sym is)
-
-pub set_top : {A : Type 0} (xs : List A) (n : ℕ) (x : A) → 0 < length xs → n ≡ length xs - 1 → slice_set xs n x ≡ take n xs ++ x ∷ []
-set_top xs n x some last =
-    let all : n + 1 ≡ length xs = omega arith in
-    sym (take_all (n + 1) (slice_set xs n x) (omega (arith, length-set xs n x))) ∙ take_more_set xs n x (omega arith)
-
--- two reads of the last element
-pub same_top : {A : Type 0} (xs ys zs : List A) (x y : A) → xs ≡ ys ++ x ∷ [] → xs ≡ zs ++ y ∷ [] → x ≡ y
-same_top xs ys zs x y one other = (same_from_push ys zs x y (sym one ∙ other)).1
-
--- a cell of single places is that of its low ends
-pub single_low : (cell : List (ℕ × ℕ)) → IsSingle cell → cell ≡ point (map (λ span. span.0) cell)
-single_low [] single = refl
-single_low (s ∷ ss) single =
-    let here : s.0 ≡ s.1 = single 0 s (omega arith) in
-    let rest = single_low ss (λ k d below. single (suc k) d (omega arith)) in
-    λ i. (s.0, sym here i) ∷ rest i
+    omega (
+      arith,
+      less,
+      ap work_of cuts.top,
+      ap work_of cuts.cut,
+      work_of-append rest (cuts.cell ∷ []),
+      work_of-append (rest ++ cuts.upper ∷ []) (cuts.lower ∷ []),
+      work_of-append rest (cuts.upper ∷ []),
+      work_of-one cuts.cell,
+      work_of-one cuts.lower,
+      work_of-one cuts.upper,
+    )
 
 -- a cell of two axes by its spans
 pair_of : (spans : List (ℕ × ℕ)) → length spans ≡ 2 → map (λ span. span.0) spans ≡ (span_at spans 0).0 ∷ (span_at spans 1).0 ∷ []
@@ -103,7 +61,8 @@ two_axes (flights one other apart) = refl
 two_axes (place flight at) = refl
 
 -- a single pair that isn't closed fits, and is as near as its hulls
-pub open_reached : (pairing : Pairing) (total : Option ℕ) (cell : List (ℕ × ℕ)) (distance first second : ℕ) → IsPairing pairing → Covers (whole_cell pairing) cell → IsSingle cell → Promises pairing total cell distance → first ≡ (span_at cell 0).0 → second ≡ (span_at cell 1).0 → IsReached pairing distance first second
+pub open_reached : (pairing : Pairing) (total : Option ℕ) (cell : List (ℕ × ℕ)) (distance first second : ℕ) → IsPairing pairing → Covers (whole_cell pairing) cell → IsSingle cell
+    → Promises pairing total cell distance → first ≡ (span_at cell 0).0 → second ≡ (span_at cell 1).0 → IsReached pairing distance first second
 open_reached pairing total cell distance first second is covers single promises low low_other =
     let two : length cell ≡ 2 = sym (length-covers (whole_cell pairing) cell covers) ∙ two_axes pairing in
     let places : map (λ span. span.0) cell ≡ first ∷ second ∷ [] = pair_of cell two ∙ (λ i. sym low i ∷ sym low_other i ∷ []) in
@@ -118,34 +77,26 @@ closed_longer pairing None new cell Near less closed = absurd closed
 closed_longer pairing (Some old) None cell Near less closed = absurd less
 closed_longer pairing (Some old) (Some new) cell Near less closed = omega arith
 
-pub no_more_self : (total : Option ℕ) → IsNoMore total total
-no_more_self None = tt
-no_more_self (Some total) = omega arith
-
--- a pair that passed the tests is nearer than what was found
-pub promised_less : (pairing : Pairing) (total : Option ℕ) (cell : List (ℕ × ℕ)) (distance : ℕ) → Promises pairing total cell distance → IsNoMore total (Some distance)
-promised_less pairing None cell distance promises = tt
-promised_less pairing (Some found) cell distance promises = omega (arith, promises.below found refl)
-
 abbrev cell_of : NearClosed → List (ℕ × ℕ)
 cell_of box = spans_of box.cell
 
-pub reverse-last : (xs : List Cell) (cell : Cell) → reverse (map spans_of (xs ++ cell ∷ [])) ≡ spans_of cell ∷ reverse (map spans_of xs)
-reverse-last xs cell = ap (λ (cells : List (List (ℕ × ℕ))). reverse cells) (map-append spans_of xs (cell ∷ [])) ∙ reverse-append (map spans_of xs) (spans_of cell ∷ [])
-
 -- a closed box stands where its cell stood
-in_order-closed : (before after : List Cell) (boxes_before boxes_after : List NearClosed) (why : NearWhy) → Closes before after boxes_before boxes_after why → in_order before boxes_before ≡ in_order after boxes_after
+in_order-closed : (before after : List Cell) (boxes_before boxes_after : List NearClosed) (why : NearWhy) → Closes before after boxes_before boxes_after why
+    → in_order before boxes_before ≡ in_order after boxes_after
 in_order-closed before after boxes_before boxes_after why closes =
     let cell = closes.cell in
     let box : NearClosed = record { cell = cell; why = why } in
     let left : in_order before boxes_before ≡ map cell_of boxes_before ++ (spans_of cell ∷ reverse (map spans_of after)) =
-    ap (λ (cells : List Cell). map cell_of boxes_before ++ reverse (map spans_of cells)) closes.top ∙ ap (λ (cells : List (List (ℕ × ℕ))). map cell_of boxes_before ++ cells) (reverse-last after cell) in
+    ap (λ (cells : List Cell). map cell_of boxes_before ++ reverse (map spans_of cells)) closes.top
+    ∙ ap (λ (cells : List (List (ℕ × ℕ))). map cell_of boxes_before ++ cells) (reverse-last after cell) in
     let right : in_order after boxes_after ≡ map cell_of boxes_before ++ (spans_of cell ∷ []) ++ reverse (map spans_of after) =
-    ap (λ (boxes : List NearClosed). map cell_of boxes ++ reverse (map spans_of after)) closes.box ∙ ap (λ (cells : List (List (ℕ × ℕ))). cells ++ reverse (map spans_of after)) (map-append cell_of boxes_before (box ∷ [])) in
+    ap (λ (boxes : List NearClosed). map cell_of boxes ++ reverse (map spans_of after)) closes.box
+    ∙ ap (λ (cells : List (List (ℕ × ℕ))). cells ++ reverse (map spans_of after)) (map-append cell_of boxes_before (box ∷ [])) in
     left ∙ sym (append_assoc (map cell_of boxes_before) (spans_of cell ∷ []) (reverse (map spans_of after))) ∙ sym right
 
 -- where a cell is cut, its halves stand where it stood
-in_order-cut : (whole : List (ℕ × ℕ)) (before after : List Cell) (boxes_before boxes_after : List NearClosed) → Cuts before after boxes_before boxes_after → IsFrontier whole (in_order before boxes_before) → IsFrontier whole (in_order after boxes_after)
+in_order-cut : (whole : List (ℕ × ℕ)) (before after : List Cell) (boxes_before boxes_after : List NearClosed) → Cuts before after boxes_before boxes_after
+    → IsFrontier whole (in_order before boxes_before) → IsFrontier whole (in_order after boxes_after)
 in_order-cut whole before after boxes_before boxes_after cuts parted_ =
     let rest = cuts.rest in
     let cell = cuts.cell in
@@ -155,9 +106,11 @@ in_order-cut whole before after boxes_before boxes_after cuts parted_ =
     let back = reverse (map spans_of rest) in
     let left : in_order before boxes_before ≡ front ++ (spans_of cell ∷ back) =
     ap (λ (cells : List Cell). front ++ reverse (map spans_of cells)) cuts.top ∙ ap (λ (cells : List (List (ℕ × ℕ))). front ++ cells) (reverse-last rest cell) in
-    let finer = refined whole (in_order before boxes_before) front back (spans_of cell) (spans_of lower ∷ spans_of upper ∷ []) parted_ left (halves_frontier (spans_of cell) (spans_of lower) (spans_of upper) cuts.halves) in
+    let finer = refined whole (in_order before boxes_before) front back (spans_of cell) (spans_of lower ∷ spans_of upper ∷ []) parted_ left
+    (halves_frontier (spans_of cell) (spans_of lower) (spans_of upper) cuts.halves) in
     let two : reverse (map spans_of after) ≡ spans_of lower ∷ spans_of upper ∷ back =
-    ap (λ (cells : List Cell). reverse (map spans_of cells)) cuts.cut ∙ reverse-last (rest ++ upper ∷ []) lower ∙ ap (λ (cells : List (List (ℕ × ℕ))). spans_of lower ∷ cells) (reverse-last rest upper) in
+    ap (λ (cells : List Cell). reverse (map spans_of cells)) cuts.cut ∙ reverse-last (rest ++ upper ∷ []) lower
+    ∙ ap (λ (cells : List (List (ℕ × ℕ))). spans_of lower ∷ cells) (reverse-last rest upper) in
     let right : in_order after boxes_after ≡ front ++ (spans_of lower ∷ spans_of upper ∷ back) =
     ap (λ (boxes : List NearClosed). map cell_of boxes ++ reverse (map spans_of after)) cuts.same ∙ ap (λ (cells : List (List (ℕ × ℕ))). front ++ cells) two in
     subst (IsFrontier whole) (sym right) finer
@@ -165,11 +118,10 @@ in_order-cut whole before after boxes_before boxes_after cuts parted_ =
 All_along : {A : Type 0} (P : A → Type 0) (xs ys : List A) → xs ≡ ys → All P xs → All P ys
 All_along P xs ys same all = subst (All P) same all
 
-All-last : {A : Type 0} (P : A → Type 0) (xs : List A) (x : A) → All P (xs ++ x ∷ []) → All P xs × P x
-All-last P xs x all = All-pop P (xs ++ x ∷ []) xs (Some x) refl all
-
 -- a search under way goes on
-under_way-closed : (pairing : Pairing) (old new : Option NearBest) (before after : List Cell) (boxes_before boxes_after : List NearClosed) → IsSound pairing new → IsNoMore (total_of old) (total_of new) → IsUnderWay pairing old before boxes_before → ClosesFor pairing (total_of new) before after boxes_before boxes_after → IsUnderWay pairing new after boxes_after
+under_way-closed : (pairing : Pairing) (old new : Option NearBest) (before after : List Cell) (boxes_before boxes_after : List NearClosed) → IsSound pairing new
+    → IsNoMore (total_of old) (total_of new) → IsUnderWay pairing old before boxes_before → ClosesFor pairing (total_of new) before after boxes_before boxes_after
+    → IsUnderWay pairing new after boxes_after
 under_way-closed pairing old new before after boxes_before boxes_after sound less way closes =
     let whole = whole_cell pairing in
     let cell = closes.closes.cell in
@@ -184,7 +136,8 @@ under_way-closed pairing old new before after boxes_before boxes_after sound les
       covered = (All-last Q after cell (All_along Q before (after ++ cell ∷ []) closes.closes.top way.covered)).0;
     }
 
-under_way-cut : (pairing : Pairing) (old new : Option NearBest) (before after : List Cell) (boxes_before boxes_after : List NearClosed) → IsSound pairing new → IsNoMore (total_of old) (total_of new) → IsUnderWay pairing old before boxes_before → Cuts before after boxes_before boxes_after → IsUnderWay pairing new after boxes_after
+under_way-cut : (pairing : Pairing) (old new : Option NearBest) (before after : List Cell) (boxes_before boxes_after : List NearClosed) → IsSound pairing new → IsNoMore (total_of old) (total_of new)
+    → IsUnderWay pairing old before boxes_before → Cuts before after boxes_before boxes_after → IsUnderWay pairing new after boxes_after
 under_way-cut pairing old new before after boxes_before boxes_after sound less way cuts =
     let whole = whole_cell pairing in
     let P : NearClosed → Type 0 = λ b. IsClosedFor pairing (total_of new) (spans_of b.cell) b.why in
@@ -196,15 +149,19 @@ under_way-cut pairing old new before after boxes_before boxes_after sound less w
       sound = sound;
       parted = in_order-cut whole before after boxes_before boxes_after cuts way.parted;
       closed = All_along P boxes_before boxes_after (sym cuts.same) (λ k d below. closed_longer pairing (total_of old) (total_of new) _ _ less (way.closed k d below));
-      covered = All_along Q ((cuts.rest ++ cuts.upper ∷ []) ++ cuts.lower ∷ []) after (sym cuts.cut) (All-push Q (cuts.rest ++ cuts.upper ∷ []) cuts.lower (All-push Q cuts.rest cuts.upper parts.0 high) low);
+      covered = All_along Q ((cuts.rest ++ cuts.upper ∷ []) ++ cuts.lower ∷ []) after (sym cuts.cut)
+          (All-push Q (cuts.rest ++ cuts.upper ∷ []) cuts.lower (All-push Q cuts.rest cuts.upper parts.0 high) low);
     }
 
-pub under_way_on : (pairing : Pairing) (old new : Option NearBest) (before after : List Cell) (boxes_before boxes_after : List NearClosed) → IsSound pairing new → IsNoMore (total_of old) (total_of new) → IsUnderWay pairing old before boxes_before → Advances pairing (total_of new) before after boxes_before boxes_after → IsUnderWay pairing new after boxes_after
+pub under_way_on : (pairing : Pairing) (old new : Option NearBest) (before after : List Cell) (boxes_before boxes_after : List NearClosed) → IsSound pairing new
+    → IsNoMore (total_of old) (total_of new) → IsUnderWay pairing old before boxes_before → Advances pairing (total_of new) before after boxes_before boxes_after
+    → IsUnderWay pairing new after boxes_after
 under_way_on pairing old new before after boxes_before boxes_after sound less way (inl closes) = under_way-closed pairing old new before after boxes_before boxes_after sound less way closes
 under_way_on pairing old new before after boxes_before boxes_after sound less way (inr cuts) = under_way-cut pairing old new before after boxes_before boxes_after sound less way cuts
 
 -- a search begins with the whole cell
-pub under_way_start : (pairing : Pairing) (best : Option NearBest) (cells : List Cell) (cell : Cell) (boxes : List NearClosed) → IsSound pairing best → boxes ≡ [] → cells ≡ cell ∷ [] → spans_of cell ≡ whole_cell pairing → IsUnderWay pairing best cells boxes
+pub under_way_start : (pairing : Pairing) (best : Option NearBest) (cells : List Cell) (cell : Cell) (boxes : List NearClosed) → IsSound pairing best → boxes ≡ [] → cells ≡ cell ∷ []
+    → spans_of cell ≡ whole_cell pairing → IsUnderWay pairing best cells boxes
 under_way_start pairing best cells cell boxes sound no_box one is =
     let whole = whole_cell pairing in
     let P : NearClosed → Type 0 = λ b. IsClosedFor pairing (total_of best) (spans_of b.cell) b.why in
@@ -222,7 +179,8 @@ map-boxes : (boxes : List NearClosed) → map (λ (box : List (ℕ × ℕ) × Ne
 map-boxes [] = refl
 map-boxes (box ∷ boxes) = ap (λ (cells : List (List (ℕ × ℕ))). spans_of box.cell ∷ cells) (map-boxes boxes)
 
-closed-boxes : (pairing : Pairing) (total : Option ℕ) (boxes : List NearClosed) → All (λ (b : NearClosed). IsClosedFor pairing total (spans_of b.cell) b.why) boxes → All (λ (box : List (ℕ × ℕ) × NearWhy). IsClosedFor pairing total box.0 box.1) (map box_of boxes)
+closed-boxes : (pairing : Pairing) (total : Option ℕ) (boxes : List NearClosed) → All (λ (b : NearClosed). IsClosedFor pairing total (spans_of b.cell) b.why) boxes
+    → All (λ (box : List (ℕ × ℕ) × NearWhy). IsClosedFor pairing total box.0 box.1) (map box_of boxes)
 closed-boxes pairing total [] closed k d below = absurd (omega arith)
 closed-boxes pairing total (box ∷ boxes) closed zero d below = closed 0 box (omega arith)
 closed-boxes pairing total (box ∷ boxes) closed (suc k) d below = closed-boxes pairing total boxes (λ j e inside. closed (suc j) e (omega arith)) k d (omega arith)
@@ -241,10 +199,12 @@ none_exactly pairing None least = (λ none. least, λ no_pair. refl)
 none_exactly pairing (Some best) least = (λ none. absurd (cc), λ no_pair. absurd (no_pair least.0.0 least.0.1 (best.total, least.0.2)))
 
 -- candidates in the whole cell, and one more
-pub within_some : (pairing : Pairing) (xs ys : List Candidate) (it : Option Candidate) (cell : Cell) → AreWithin pairing xs → Covers (whole_cell pairing) (spans_of cell) → IfSome it (λ candidate. candidate.cell ≡ cell) → ys ≡ xs ++ option_to_list it → AreWithin pairing ys
+pub within_some : (pairing : Pairing) (xs ys : List Candidate) (it : Option Candidate) (cell : Cell) → AreWithin pairing xs → Covers (whole_cell pairing) (spans_of cell)
+    → IfSome it (λ candidate. candidate.cell ≡ cell) → ys ≡ xs ++ option_to_list it → AreWithin pairing ys
 within_some pairing xs ys None cell within covers is more = subst (AreWithin pairing) (sym more) (subst (AreWithin pairing) (sym (append-nil xs)) within)
 within_some pairing xs ys (Some candidate) cell within covers is more =
-    subst (AreWithin pairing) (sym more) (All-push (λ (c : Candidate). Covers (whole_cell pairing) (spans_of c.cell)) xs candidate within (subst (λ (c : Cell). Covers (whole_cell pairing) (spans_of c)) (sym is) covers))
+    subst (AreWithin pairing) (sym more) (All-push (λ (c : Candidate). Covers (whole_cell pairing) (spans_of c.cell)) xs candidate within
+    (subst (λ (c : Cell). Covers (whole_cell pairing) (spans_of c)) (sym is) covers))
 
 -- each box of a certificate has two axes
 pub two_axes_each : (pairing : Pairing) (best : Option NearBest) (boxes : List NearClosed) → IsCertificate pairing best (map box_of boxes) → All (λ (box : NearClosed). box.cell.axes ≡ 2) boxes

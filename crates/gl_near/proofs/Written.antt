@@ -2,11 +2,7 @@
 use Rattle.std.proofs.Common.{◌≡◌, ◌∙◌, sym, ap, refl, Option, ℕ, ◌+◌, ◌<◌, List, [], ◌∷◌, ◌++◌, length, get_or, take, map, append_assoc, arith}
 use Rattle.std.proofs.lemmas.List.{append-nil, get_or-map, length-map}
 use Rattle.std.proofs.lemmas.List.Concat.{flat_map-append}
-use Rattle.gl_box.specs.declared.cell.Cell.{Cell}
-use Rattle.gl_box.specs.declared.span.Span.{Span}
-use Rattle.gl_box.specs.Cell.{ends, spans_of}
 use Rattle.gl_box.specs.Halves.{span_at}
-use Rattle.gl_box.specs.Laws.Spans.{length-spans_of, span_at-spans_of}
 use Rattle.gl_lines.proofs.Pieces.{pieces_more}
 use Rattle.gl_near.specs.declared.found.NearBest.{NearBest}
 use Rattle.gl_near.specs.declared.found.NearClosed.{NearClosed}
@@ -15,7 +11,8 @@ use Rattle.gl_near.specs.Certificate.{box_of}
 use Rattle.gl_near.specs.Line.{EndLine, HeadingLine, Line, box_line, ended, front_lines, near_text, spelled}
 
 -- one box more
-pub box_more : (before was now : List ℕ) (boxes : List NearClosed) (i : ℕ) (closed : NearClosed) → i < length boxes → closed ≡ get_or boxes i closed → was ≡ before ++ spelled (map box_line (take i (map box_of boxes))) → now ≡ was ++ ended (box_line (box_of closed)) → now ≡ before ++ spelled (map box_line (take (i + 1) (map box_of boxes)))
+pub box_more : (before was now : List ℕ) (boxes : List NearClosed) (i : ℕ) (closed : NearClosed) → i < length boxes → closed ≡ get_or boxes i closed
+    → was ≡ before ++ spelled (map box_line (take i (map box_of boxes))) → now ≡ was ++ ended (box_line (box_of closed)) → now ≡ before ++ spelled (map box_line (take (i + 1) (map box_of boxes)))
 box_more before was now boxes i closed below item is added =
     let front = before ++ spelled (map box_line (take i (map box_of boxes))) in
     let inside : i < length (map box_of boxes) = rw length-map below in
@@ -31,16 +28,9 @@ two (a ∷ []) long = absurd (omega arith)
 two (a ∷ b ∷ []) long = refl
 two (a ∷ b ∷ c ∷ rest) long = absurd (omega arith)
 
--- the spans of a cell of two axes
-pub two_spans : (cell : Cell) (a b : Span) → cell.axes ≡ 2 → a ≡ get_or cell.spans 0 a → b ≡ get_or cell.spans 1 b → spans_of cell ≡ ends a ∷ ends b ∷ []
-two_spans cell a b axes first second =
-    let long = length-spans_of cell in
-    let one : span_at (spans_of cell) 0 ≡ ends a = span_at-spans_of cell 0 a (omega arith) ∙ ap ends (sym first) in
-    let other : span_at (spans_of cell) 1 ≡ ends b = span_at-spans_of cell 1 b (omega arith) ∙ ap ends (sym second) in
-    two (spans_of cell) (omega (arith, long)) ∙ (λ i. one i ∷ other i ∷ [])
-
 -- the text of a claim, piece by piece
-pub claim_written : (before a b d all : List ℕ) (best : Option NearBest) (boxes : List (List (ℕ × ℕ) × NearWhy)) → a ≡ before ++ ended HeadingLine → b ≡ a ++ spelled (front_lines best) → d ≡ b ++ spelled (map box_line boxes) → all ≡ d ++ ended EndLine → all ≡ before ++ near_text best boxes
+pub claim_written : (before a b d all : List ℕ) (best : Option NearBest) (boxes : List (List (ℕ × ℕ) × NearWhy)) → a ≡ before ++ ended HeadingLine → b ≡ a ++ spelled (front_lines best)
+    → d ≡ b ++ spelled (map box_line boxes) → all ≡ d ++ ended EndLine → all ≡ before ++ near_text best boxes
 claim_written before a b d all best boxes one two three four =
     let front = front_lines best in
     let lines : List Line = map box_line boxes in

@@ -1,11 +1,10 @@
+pub mod Code
 pub mod Pairing
 pub mod Pairs
 pub mod Certificate
 pub mod Search
 pub mod Verdict
 pub mod Line
-pub mod Fronts
-pub mod Laws
 pub use Rattle.gl_box.specs.Cell
 pub use Rattle.gl_box.specs.Frontier
 pub use Rattle.gl_lines.specs.Grammar

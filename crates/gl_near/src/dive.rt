@@ -4,7 +4,7 @@ ghost use Rattle.gl_box.specs.Cell.{Covers, spans_of};
 ghost use Rattle.gl_near.specs.Pairing.{whole_cell};
 ghost use Rattle.gl_near.specs.Pairs.{pairing_of};
 ghost use Rattle.gl_near.specs.Certificate.{IsSound};
-ghost use Rattle.gl_near.specs.Search.{AreWithin};
+ghost use Rattle.gl_near.specs.Code.Search.{AreWithin};
 
 use crate::found::NearBest;
 use crate::pairs::Pairs;

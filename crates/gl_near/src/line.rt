@@ -2,7 +2,7 @@ ghost use Rattle.std.specs.Prelude.{◌≡◌, ◌∷◌, []};
 ghost use Rattle.gl_box.specs.Cell.{ends, spans_of};
 ghost use Rattle.gl_lines.specs.Fronts.{Reads};
 ghost use Rattle.gl_near.specs.Certificate.{box_of};
-ghost use Rattle.gl_near.specs.Fronts.{IsBoxAt, IsLeastAt, IsPairAt, IsReasonAt};
+ghost use Rattle.gl_near.specs.Code.Fronts.{IsBoxAt, IsLeastAt, IsPairAt, IsReasonAt};
 
 use crate::found::{NearClosed, NearWhy};
 use gl_box::{Cell, Span, Tuple};

@@ -5,7 +5,7 @@ ghost use Rattle.gl_lines.specs.Refusal.{IsRefusal};
 ghost use Rattle.gl_near.specs.declared.found.NearBest.{NearBest as Best};
 ghost use Rattle.gl_near.specs.declared.found.NearWhy.{NearWhy};
 ghost use Rattle.gl_near.specs.Certificate.{box_of};
-ghost use Rattle.gl_near.specs.Fronts.{AreBoxesAt, IsBestAt, LacksBest};
+ghost use Rattle.gl_near.specs.Code.Fronts.{AreBoxesAt, IsBestAt, LacksBest};
 ghost use Rattle.gl_near.specs.Line.{IsTextOf, near_grammar};
 
 use crate::claim::NearClaim;

@@ -3,7 +3,8 @@ ghost use Rattle.gl_box.specs.Cell.{Covers, spans_of};
 ghost use Rattle.gl_near.specs.Pairing.{Fits, IsLeast, whole_cell};
 ghost use Rattle.gl_near.specs.Pairs.{pairing_of};
 ghost use Rattle.gl_near.specs.Certificate.{IsSound, total_of};
-ghost use Rattle.gl_near.specs.Search.{Advances, Closes, IsCertified, IsNoMore, IsUnderWay};
+ghost use Rattle.gl_near.specs.Code.Search.{Advances, Closes, IsNoMore, IsUnderWay};
+ghost use Rattle.gl_near.specs.Search.{IsCertified};
 
 use crate::found::{NearBest, NearClosed, NearFound, NearWhy};
 use crate::pairs::Pairs;

@@ -3,7 +3,7 @@ ghost use Rattle.gl_box.specs.Cell.{Covers, spans_of};
 ghost use Rattle.gl_near.specs.Pairing.{whole_cell};
 ghost use Rattle.gl_near.specs.Pairs.{pairing_of};
 ghost use Rattle.gl_near.specs.Certificate.{IsSound, total_of};
-ghost use Rattle.gl_near.specs.Search.{IsTested};
+ghost use Rattle.gl_near.specs.Code.Search.{IsTested};
 
 use crate::found::{NearBest, NearWhy};
 use crate::pairs::Pairs;

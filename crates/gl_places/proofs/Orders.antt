@@ -6,7 +6,7 @@ use Rattle.std.proofs.lemmas.List.Sorted.{All-permutation, Contains-permutation,
 use Rattle.std.proofs.lemmas.Option.{slice_get-get_or}
 use Rattle.gl_igc.specs.declared.fix.Fix.{Fix}
 use Rattle.gl_goal.specs.Free.{numbers_from}
-use Rattle.gl_goal.specs.Laws.Free.{get_or-numbers_from, length-numbers_from}
+use Rattle.gl_goal.specs.Lemmas.Free.{get_or-numbers_from, length-numbers_from}
 use Rattle.gl_places.specs.declared.by_place.ByPlace.{ByPlace}
 use Rattle.gl_places.specs.ByPlace.{IsByPlace}
 
@@ -34,7 +34,8 @@ pub numbers_below : (fixes : List Fix) (by_place : ByPlace) → IsByPlace fixes 
 numbers_below fixes by_place is = permuted_below (length fixes) by_place.numbers.items is.numbers
 
 -- the fix at a place is the one with the number there
-pub numbered_fix : (fixes : List Fix) (by_place : ByPlace) → IsByPlace fixes by_place → (place : ℕ) (fix : Fix) → place < length by_place.hulls → slice_get fixes (get_or by_place.numbers.items place 0) ≡ Some fix → slice_get by_place.hulls place ≡ Some fix
+pub numbered_fix : (fixes : List Fix) (by_place : ByPlace) → IsByPlace fixes by_place → (place : ℕ) (fix : Fix) → place < length by_place.hulls
+    → slice_get fixes (get_or by_place.numbers.items place 0) ≡ Some fix → slice_get by_place.hulls place ≡ Some fix
 numbered_fix fixes by_place is place fix below named =
     let hulls = by_place.hulls in
     let numbers = by_place.numbers.items in
@@ -47,7 +48,8 @@ numbered_fix fixes by_place is place fix below named =
     slice_get-get_or hulls place fix below ∙ there
 
 -- a place for each number
-pub placed : (fixes : List Fix) (by_place : ByPlace) → IsByPlace fixes by_place → (number : ℕ) → number < length fixes → (place : ℕ) × (place < length fixes) × (get_or by_place.numbers.items place 0 ≡ number)
+pub placed : (fixes : List Fix) (by_place : ByPlace) → IsByPlace fixes by_place → (number : ℕ) → number < length fixes
+    → (place : ℕ) × (place < length fixes) × (get_or by_place.numbers.items place 0 ≡ number)
 placed fixes by_place is number below =
     let all = numbers_from 0 (length fixes) in
     let long = length-numbers_from 0 (length fixes) in

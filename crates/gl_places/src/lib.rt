@@ -1,4 +1,5 @@
-//! The fixes of a flight by place, in an order in which those that are near each other lie together:
+//! The fixes of a flight by place, in an order in which those that are near each other lie
+//! together:
 //! what a search halves where halves of the time don't help.
 #![tactic(auto)]
 

@@ -20,14 +20,16 @@ module _ {X A : Type 0} (f : X → List A) where
       let z = get_or ys i d in
       let rest = flat_map f (slice_set ys i x) in
       IsPermutation-trans (f x ++ (f y ++ flat_map f ys)) (f y ++ (f x ++ flat_map f ys)) (f z ++ (f y ++ rest)) (turned (f x) (f y) (flat_map f ys))
-      (IsPermutation-trans (f y ++ (f x ++ flat_map f ys)) (f y ++ (f z ++ rest)) (f z ++ (f y ++ rest)) (IsPermutation-append_right (f y) (f x ++ flat_map f ys) (f z ++ rest) (exchanged ys i x d (omega arith))) (turned (f y) (f z) rest))
+      (IsPermutation-trans (f y ++ (f x ++ flat_map f ys)) (f y ++ (f z ++ rest)) (f z ++ (f y ++ rest))
+      (IsPermutation-append_right (f y) (f x ++ flat_map f ys) (f z ++ rest) (exchanged ys i x d (omega arith))) (turned (f y) (f z) rest))
 
   swapped : (xs : List X) (i j : ℕ) (d : X) → i < length xs → j < length xs → IsPermutation (flat_map f xs) (flat_map f (slice_set (slice_set xs i (get_or xs j d)) j (get_or xs i d)))
   swapped [] i j d first second = absurd (omega arith)
   swapped (x ∷ xs) zero zero d first second = IsPermutation-refl (flat_map f (x ∷ xs))
   swapped (x ∷ xs) zero (suc j) d first second = exchanged xs j x d (omega arith)
   swapped (x ∷ xs) (suc i) zero d first second = exchanged xs i x d (omega arith)
-  swapped (x ∷ xs) (suc i) (suc j) d first second = IsPermutation-append_right (f x) (flat_map f xs) (flat_map f (slice_set (slice_set xs i (get_or xs j d)) j (get_or xs i d))) (swapped xs i j d (omega arith) (omega arith))
+  swapped (x ∷ xs) (suc i) (suc j) d first second = IsPermutation-append_right (f x) (flat_map f xs) (flat_map f (slice_set (slice_set xs i (get_or xs j d)) j (get_or xs i d)))
+      (swapped xs i j d (omega arith) (omega arith))
 
   some_element : (xs : List X) → 0 < length xs → X
   some_element [] some = absurd (omega arith)

@@ -9,12 +9,13 @@ use Rattle.gl_plain.specs.declared.found.Best.{Best}
 use Rattle.gl_plain.specs.declared.worker.Worker as code
 use Rattle.gl_plain.specs.Machine.{Worker}
 use Rattle.gl_plain.specs.Search.{IsNoLess, total_of}
-use Rattle.gl_plain.specs.Workers.{worker_of, workers_of}
+use Rattle.gl_plain.specs.Code.Workers.{worker_of, workers_of}
 use Rattle.gl_plain.proofs.Totals.{less_through}
 
 -- what comes from one worker more
 
-pub gathered_more : {X : Type 0} (f : Worker → List X) (workers : List code.Worker) (i : ℕ) (worker : code.Worker) (old new : List X) → i < length workers → worker ≡ get_or workers i worker → old ≡ flat_map f (workers_of (take i workers)) → new ≡ old ++ f (worker_of worker) → new ≡ flat_map f (workers_of (take (i + 1) workers))
+pub gathered_more : {X : Type 0} (f : Worker → List X) (workers : List code.Worker) (i : ℕ) (worker : code.Worker) (old new : List X) → i < length workers → worker ≡ get_or workers i worker
+    → old ≡ flat_map f (workers_of (take i workers)) → new ≡ old ++ f (worker_of worker) → new ≡ flat_map f (workers_of (take (i + 1) workers))
 gathered_more {X} f workers i worker old new below is so_far more =
     let last = worker_of worker in
     let longer : workers_of (take (i + 1) workers) ≡ workers_of (take i workers) ++ last ∷ [] =
@@ -24,7 +25,8 @@ gathered_more {X} f workers i worker old new below is so_far more =
     ∙ sym (flat_map-append f (workers_of (take i workers)) (last ∷ []))
     ∙ ap (flat_map f) (sym longer)
 
-pub gathered_all : {X : Type 0} (f : Worker → List X) (workers : List code.Worker) (i : ℕ) (all : List X) → length workers ≤ i → all ≡ flat_map f (workers_of (take i workers)) → all ≡ flat_map f (workers_of workers)
+pub gathered_all : {X : Type 0} (f : Worker → List X) (workers : List code.Worker) (i : ℕ) (all : List X) → length workers ≤ i → all ≡ flat_map f (workers_of (take i workers))
+    → all ≡ flat_map f (workers_of workers)
 gathered_all f workers i all past so_far = so_far ∙ ap (λ (ws : List code.Worker). flat_map f (workers_of ws)) (take_all i workers past)
 
 -- what was kept
@@ -33,7 +35,9 @@ among_some : (all : List (Option Best)) (o : Option Best) → Contains all o →
 among_some all None among = tt
 among_some all (Some best) among = among
 
-pub best_among : (workers : List code.Worker) (i : ℕ) (worker : code.Worker) (best better : Option Best) → i < length workers → worker ≡ get_or workers i worker → IfSome best (λ b. Contains (map (λ worker. worker.kept) workers) (Some b)) → (better ≡ best) ⊎ (better ≡ worker.kept) → IfSome better (λ b. Contains (map (λ worker. worker.kept) workers) (Some b))
+pub best_among : (workers : List code.Worker) (i : ℕ) (worker : code.Worker) (best better : Option Best) → i < length workers → worker ≡ get_or workers i worker
+    → IfSome best (λ b. Contains (map (λ worker. worker.kept) workers) (Some b)) → (better ≡ best) ⊎ (better ≡ worker.kept)
+    → IfSome better (λ b. Contains (map (λ worker. worker.kept) workers) (Some b))
 best_among workers i worker best better below at among (inl is) =
     subst (λ (o : Option Best). IfSome o (λ b. Contains (map (λ (worker : code.Worker). worker.kept) workers) (Some b))) (sym is) among
 best_among workers i worker best better below at among (inr is) =
@@ -43,13 +47,17 @@ best_among workers i worker best better below at among (inr is) =
     let here = subst (Contains kept) (read ∙ ap (λ (w : code.Worker). w.kept) (sym at) ∙ sym is) (Contains-get_or kept i None inside) in
     among_some kept better here
 
-pub no_less_more : (workers : List code.Worker) (i : ℕ) (worker : code.Worker) (best better : Option Best) → i < length workers → worker ≡ get_or workers i worker → All (λ worker. IsNoLess (total_of worker.kept) (total_of best)) (take i workers) → IsNoLess (total_of best) (total_of better) → IsNoLess (total_of worker.kept) (total_of better) → All (λ worker. IsNoLess (total_of worker.kept) (total_of better)) (take (i + 1) workers)
+pub no_less_more : (workers : List code.Worker) (i : ℕ) (worker : code.Worker) (best better : Option Best) → i < length workers → worker ≡ get_or workers i worker
+    → All (λ worker. IsNoLess (total_of worker.kept) (total_of best)) (take i workers) → IsNoLess (total_of best) (total_of better) → IsNoLess (total_of worker.kept) (total_of better)
+    → All (λ worker. IsNoLess (total_of worker.kept) (total_of better)) (take (i + 1) workers)
 no_less_more workers i worker best better below at so_far no_less other =
     let P : code.Worker → Type 0 = λ w. IsNoLess (total_of w.kept) (total_of better) in
-    let before = All-weaker (λ (w : code.Worker). IsNoLess (total_of w.kept) (total_of best)) P (λ w less. less_through (total_of w.kept) (total_of best) (total_of better) less no_less) (take i workers) so_far in
+    let before = All-weaker (λ (w : code.Worker). IsNoLess (total_of w.kept) (total_of best)) P (λ w less. less_through (total_of w.kept) (total_of best) (total_of better) less no_less)
+    (take i workers) so_far in
     subst (All P) (sym (take_more workers i worker below ∙ ap (λ (w : code.Worker). take i workers ++ w ∷ []) (sym at))) (All-push P (take i workers) worker before other)
 
-pub no_less_all : (workers : List code.Worker) (i : ℕ) (best : Option Best) → length workers ≤ i → All (λ worker. IsNoLess (total_of worker.kept) (total_of best)) (take i workers) → All (λ worker. IsNoLess (total_of worker.kept) (total_of best)) workers
+pub no_less_all : (workers : List code.Worker) (i : ℕ) (best : Option Best) → length workers ≤ i → All (λ worker. IsNoLess (total_of worker.kept) (total_of best)) (take i workers)
+    → All (λ worker. IsNoLess (total_of worker.kept) (total_of best)) workers
 no_less_all workers i best past so_far =
     subst (All (λ (worker : code.Worker). IsNoLess (total_of worker.kept) (total_of best))) (take_all i workers past) so_far
 
@@ -60,7 +68,3 @@ all_flat P f [] all = All-nil P
 all_flat {X} P f (x ∷ xs) all =
     let Q : X → Type 0 = λ x. All P (f x) in
     All-append P (f x) (flat_map f xs) (All-head Q x xs all) (all_flat P f xs (All-tail Q x xs all))
-
-pub all_unmap : {X Y : Type 0} (P : Y → Type 0) (f : X → Y) (xs : List X) → All P (map f xs) → All (λ x. P (f x)) xs
-all_unmap P f xs all k d below =
-    subst P (get_or-map f xs k d (f d) below) (all k (f d) (omega (arith, length-map xs f)))

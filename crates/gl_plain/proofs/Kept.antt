@@ -1,5 +1,5 @@
 -- What a worker does with the cell in its hand, and what it can't.
-use Rattle.std.proofs.Common.{◌≡◌, ◌∙◌, sym, ap, refl, subst, inr, ℕ, ◌<◌, true, false, List, [], ◌∷◌, map}
+use Rattle.std.proofs.Common.{◌≡◌, ◌∙◌, sym, ap, refl, subst, inr, ℕ, ◌<◌, true, false, List, map}
 use Rattle.std.specs.Prelude.{IfSome, IsNone, Option, Some, None, option_map}
 use Rattle.std.specs.Option.{is_some}
 use Rattle.std.proofs.lemmas.Bool.{false≢true}
@@ -10,19 +10,20 @@ use Rattle.gl_box.specs.declared.tuple.Tuple.{Tuple}
 use Rattle.gl_box.specs.Cell.{point, spans_of}
 use Rattle.gl_box.specs.Halves.{IsSingle}
 use Rattle.gl_box.specs.Tuple.{places_of}
-use Rattle.gl_goal.specs.Rule.{Rule, IsLegal, value}
+use Rattle.gl_goal.specs.Goal.{Goal, IsLegal, value}
 use Rattle.gl_plain.specs.declared.found.Best.{Best}
 use Rattle.gl_plain.specs.declared.worker.Worker as code
 use Rattle.gl_plain.specs.Machine.{Closes, IsFirstReason, Keeps, Tries, Worker, greater}
-use Rattle.gl_plain.specs.Workers.{kept_of, worker_of}
-use Rattle.gl_plain.proofs.Stack.{single_low}
+use Rattle.gl_plain.specs.Code.Workers.{kept_of, worker_of}
+use Rattle.gl_box.proofs.Lows.{single_low, point_low}
 
 held_spans : (worker : code.Worker) (cell : Cell) (spans : List (ℕ × ℕ)) → worker.hand ≡ Some cell → (worker_of worker).hand ≡ Some spans → spans_of cell ≡ spans
 held_spans worker cell spans is held =
     let both : Some (spans_of cell) ≡ Some spans = sym (ap (option_map spans_of) is) ∙ held in cc
 
 -- where no reason closes the cell
-pub not_closed : (rule : Rule) (worker : code.Worker) (cell : Cell) → worker.hand ≡ Some cell → ((why : Why) → IsFirstReason rule worker.seen (spans_of cell) why → ⊥) → Tries (Closes rule) (worker_of worker) (worker_of worker)
+pub not_closed : (rule : Goal) (worker : code.Worker) (cell : Cell) → worker.hand ≡ Some cell → ((why : Why) → IsFirstReason rule worker.seen (spans_of cell) why → ⊥)
+    → Tries (Closes rule) (worker_of worker) (worker_of worker)
 not_closed rule worker cell is none = inr (
   λ other closes. none closes.why (subst (λ (c : List (ℕ × ℕ)). IsFirstReason rule worker.seen c closes.why) (sym (held_spans worker cell closes.cell is closes.held)) closes.reason),
   refl,
@@ -32,25 +33,24 @@ not_closed rule worker cell is none = inr (
 point_single : (tuple : List ℕ) → IsSingle (point tuple)
 point_single tuple = All-map (λ (span : ℕ × ℕ). span.0 ≡ span.1) (λ (place : ℕ). (place, place)) tuple (λ k d below. refl)
 
-point_low : (tuple : List ℕ) → map (λ (span : ℕ × ℕ). span.0) (point tuple) ≡ tuple
-point_low [] = refl
-point_low (place ∷ places) = ap (λ (ps : List ℕ). place ∷ ps) (point_low places)
-
 -- what is kept is the tuple in the hand
-kept_tuple : (rule : Rule) (total : ℕ) (worker : code.Worker) (other : Worker) (cell : Cell) (tuple : Tuple) → worker.hand ≡ Some cell → places_of tuple ≡ map (λ span. span.0) (spans_of cell) → (keeps : Keeps rule total (worker_of worker) other) → keeps.tuple ≡ places_of tuple
+kept_tuple : (rule : Goal) (total : ℕ) (worker : code.Worker) (other : Worker) (cell : Cell) (tuple : Tuple) → worker.hand ≡ Some cell → places_of tuple ≡ map (λ span. span.0) (spans_of cell)
+    → (keeps : Keeps rule total (worker_of worker) other) → keeps.tuple ≡ places_of tuple
 kept_tuple rule total worker other cell tuple is low keeps =
     let spans = held_spans worker cell (point keeps.tuple) is keeps.held in
     sym (point_low keeps.tuple) ∙ ap (map (λ (span : ℕ × ℕ). span.0)) (sym spans) ∙ sym low
 
 -- a cell of several tuples
-pub several_not_kept : (rule : Rule) (worker : code.Worker) (cell : Cell) {X : Type 0} (halves : Option X) → worker.hand ≡ Some cell → (IsSingle (spans_of cell) → IsNone halves) → is_some halves ≡ true → (total : ℕ) (other : Worker) → Keeps rule total (worker_of worker) other → ⊥
+pub several_not_kept : (rule : Goal) (worker : code.Worker) (cell : Cell) {X : Type 0} (halves : Option X) → worker.hand ≡ Some cell → (IsSingle (spans_of cell) → IsNone halves)
+    → is_some halves ≡ true → (total : ℕ) (other : Worker) → Keeps rule total (worker_of worker) other → ⊥
 several_not_kept rule worker cell halves is single some total other keeps =
     let spans = held_spans worker cell (point keeps.tuple) is keeps.held in
     let none = single (subst IsSingle (sym spans) (point_single keeps.tuple)) in
     false≢true (sym none ∙ some)
 
 -- a tuple that isn't legal
-pub illegal_not_kept : (rule : Rule) (worker : code.Worker) (cell : Cell) (tuple : Tuple) → worker.hand ≡ Some cell → places_of tuple ≡ map (λ span. span.0) (spans_of cell) → (IsLegal rule (places_of tuple) → ⊥) → (total : ℕ) (other : Worker) → Keeps rule total (worker_of worker) other → ⊥
+pub illegal_not_kept : (rule : Goal) (worker : code.Worker) (cell : Cell) (tuple : Tuple) → worker.hand ≡ Some cell → places_of tuple ≡ map (λ span. span.0) (spans_of cell)
+    → (IsLegal rule (places_of tuple) → ⊥) → (total : ℕ) (other : Worker) → Keeps rule total (worker_of worker) other → ⊥
 illegal_not_kept rule worker cell tuple is low illegal total other keeps =
     illegal (subst (IsLegal rule) (kept_tuple rule total worker other cell tuple is low keeps) keeps.reached.legal)
 
@@ -63,13 +63,17 @@ above_kept None total above = tt
 above_kept (Some best) total above = above
 
 -- a tuple that is worth no more than what was kept
-pub less_not_kept : (rule : Rule) (worker : code.Worker) (cell : Cell) (tuple : Tuple) (worth : ℕ) → worker.hand ≡ Some cell → places_of tuple ≡ map (λ span. span.0) (spans_of cell) → worth ≡ value rule (places_of tuple) → (IfSome worker.kept (λ best. best.total < worth) → ⊥) → (total : ℕ) (other : Worker) → Keeps rule total (worker_of worker) other → ⊥
+pub less_not_kept : (rule : Goal) (worker : code.Worker) (cell : Cell) (tuple : Tuple) (worth : ℕ) → worker.hand ≡ Some cell → places_of tuple ≡ map (λ span. span.0) (spans_of cell)
+    → worth ≡ value rule (places_of tuple) → (IfSome worker.kept (λ best. best.total < worth) → ⊥) → (total : ℕ) (other : Worker) → Keeps rule total (worker_of worker) other → ⊥
 less_not_kept rule worker cell tuple worth is low value_is less total other keeps =
     let same : total ≡ worth = sym keeps.reached.worth ∙ ap (value rule) (kept_tuple rule total worker other cell tuple is low keeps) ∙ sym value_is in
     less (kept_above worker.kept worth (subst (λ (n : ℕ). IfSome (kept_of worker.kept) (λ k. k.0 < n)) same keeps.above))
 
 -- the worker keeps the tuple
-pub keeps_made : (rule : Rule) (worker : code.Worker) (changed : Worker) (cell : Cell) (tuple : Tuple) (total : ℕ) {X : Type 0} (halves : Option X) → worker.hand ≡ Some cell → (IsNone halves → IsSingle (spans_of cell)) → is_some halves ≡ false → places_of tuple ≡ map (λ span. span.0) (spans_of cell) → IsLegal rule (places_of tuple) → total ≡ value rule (places_of tuple) → IfSome worker.kept (λ best. best.total < total) → changed ≡ record (worker_of worker) { seen = greater worker.seen total; kept = Some (total, places_of tuple) } → Keeps rule total (worker_of worker) changed
+pub keeps_made : (rule : Goal) (worker : code.Worker) (changed : Worker) (cell : Cell) (tuple : Tuple) (total : ℕ) {X : Type 0} (halves : Option X) → worker.hand ≡ Some cell
+    → (IsNone halves → IsSingle (spans_of cell)) → is_some halves ≡ false → places_of tuple ≡ map (λ span. span.0) (spans_of cell) → IsLegal rule (places_of tuple)
+    → total ≡ value rule (places_of tuple) → IfSome worker.kept (λ best. best.total < total)
+    → changed ≡ record (worker_of worker) { seen = greater worker.seen total; kept = Some (total, places_of tuple) } → Keeps rule total (worker_of worker) changed
 keeps_made rule worker changed cell tuple total halves is single none low legal worth above changed_is = record {
   tuple = places_of tuple;
   held = ap (option_map spans_of) is ∙ ap Some (single_low (spans_of cell) (single none) ∙ ap point (sym low));

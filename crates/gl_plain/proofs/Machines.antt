@@ -15,8 +15,8 @@ use Rattle.gl_box.specs.declared.closed.Why.TheVariants.{Disordered, Shut, Bound
 use Rattle.gl_box.specs.Frontier.{IsNode, mult}
 use Rattle.gl_box.specs.Frontier.IsFrontier.{alone}
 use Rattle.gl_box.specs.Frontier.IsNode.{whole, half}
-use Rattle.gl_box.specs.Laws.Parts.{mult-append, mult-halves, mult-held}
-use Rattle.gl_goal.specs.Rule.{Rule, whole_cell}
+use Rattle.gl_box.proofs.Parts.{mult-append, mult-halves, mult-held}
+use Rattle.gl_goal.specs.Goal.{Goal, whole_cell}
 use Rattle.gl_goal.specs.Certificate.{IsClosedFor}
 use Rattle.gl_plain.specs.declared.schedule.Step.{Step}
 use Rattle.gl_plain.specs.declared.schedule.Step.TheVariants.{Take, Steal, Split, Close, Look, Raise}
@@ -29,7 +29,7 @@ use Rattle.gl_plain.proofs.Totals.{less_self, less_through}
 abbrev Box : Type 0
 Box = List (ℕ × ℕ) × Why
 
-abbrev node_of : Rule → List (ℕ × ℕ) → Type 0
+abbrev node_of : Goal → List (ℕ × ℕ) → Type 0
 node_of rule = IsNode (whole_cell rule.axes)
 
 -- totals that were found
@@ -68,7 +68,8 @@ sum_acts : (f : Worker → ℕ) (workers : List Worker) (number : ℕ) (old new 
 sum_acts f workers number old new there =
     omega (arith, sum_by-set f workers number new old (slice_get_within workers number old there), ap f (get_or_from_slice_get workers number old old there))
 
-kept_acts : (workers : List Worker) (number : ℕ) (old new : Worker) (total : ℕ) → slice_get workers number ≡ Some old → new.kept ≡ old.kept → IsKept workers total → IsKept (slice_set workers number new) total
+kept_acts : (workers : List Worker) (number : ℕ) (old new : Worker) (total : ℕ) → slice_get workers number ≡ Some old → new.kept ≡ old.kept → IsKept workers total
+    → IsKept (slice_set workers number new) total
 kept_acts workers number old new total there same is = elim (cases_eq is.number number) [
   | inl here ↦
       let one : Some is.worker ≡ Some old = sym is.there ∙ ap (slice_get workers) here ∙ there in
@@ -80,7 +81,8 @@ kept_acts workers number old new total there same is = elim (cases_eq is.number 
 
 -- how often a worker holds a tuple
 
-mult_cells : (worker : Worker) (tuple : List ℕ) → mult (worker_cells worker) tuple ≡ mult worker.deque tuple + mult (option_to_list worker.hand) tuple + mult (map (λ (box : Box). box.0) worker.closed) tuple
+mult_cells : (worker : Worker) (tuple : List ℕ) → mult (worker_cells worker) tuple
+    ≡ mult worker.deque tuple + mult (option_to_list worker.hand) tuple + mult (map (λ (box : Box). box.0) worker.closed) tuple
 mult_cells worker tuple =
     omega (arith, mult-append (open_cells worker) (map (λ (box : Box). box.0) worker.closed) tuple, mult-append worker.deque (option_to_list worker.hand) tuple)
 
@@ -110,7 +112,7 @@ splits_mult before after tuple splits =
       mult-halves splits.cell splits.lower splits.upper tuple splits.halves,
     )
 
-closes_mult : (rule : Rule) (before after : Worker) (tuple : List ℕ) → Closes rule before after → mult (worker_cells after) tuple ≡ mult (worker_cells before) tuple
+closes_mult : (rule : Goal) (before after : Worker) (tuple : List ℕ) → Closes rule before after → mult (worker_cells after) tuple ≡ mult (worker_cells before) tuple
 closes_mult rule before after tuple closes =
     let box : Box = (closes.cell, closes.why) in
     let done : Worker = record before { hand = None; closed = before.closed ++ box ∷ [] } in
@@ -127,7 +129,7 @@ closes_mult rule before after tuple closes =
 looks_mult : (word : Option ℕ) (before after : Worker) (tuple : List ℕ) → Looks word before after → mult (worker_cells after) tuple ≡ mult (worker_cells before) tuple
 looks_mult word before after tuple looks = ap (λ (w : Worker). mult (worker_cells w) tuple) looks
 
-keeps_mult : (rule : Rule) (total : ℕ) (before after : Worker) (tuple : List ℕ) → Keeps rule total before after → mult (worker_cells after) tuple ≡ mult (worker_cells before) tuple
+keeps_mult : (rule : Goal) (total : ℕ) (before after : Worker) (tuple : List ℕ) → Keeps rule total before after → mult (worker_cells after) tuple ≡ mult (worker_cells before) tuple
 keeps_mult rule total before after tuple keeps = ap (λ (w : Worker). mult (worker_cells w) tuple) keeps.is
 
 -- a worker stays safe
@@ -135,7 +137,7 @@ keeps_mult rule total before after tuple keeps = ap (λ (w : Worker). mult (work
 some_is : {X : Type 0} (P : X → Type 0) (o : Option X) (x : X) → o ≡ Some x → IfSome o P → P x
 some_is P o x is holds = subst (λ (p : Option _). IfSome p P) is holds
 
-takes_safe : (rule : Rule) (word : Option ℕ) (before after : Worker) → Takes before after → IsSafeWorker rule word before → IsSafeWorker rule word after
+takes_safe : (rule : Goal) (word : Option ℕ) (before after : Worker) → Takes before after → IsSafeWorker rule word before → IsSafeWorker rule word after
 takes_safe rule word before after takes safe =
     let parts = All-pop (node_of rule) before.deque takes.rest (Some takes.cell) takes.last safe.deque in
     subst (IsSafeWorker rule word) (sym takes.is) (record {
@@ -148,11 +150,13 @@ takes_safe rule word before after takes safe =
       within = safe.within;
     })
 
-splits_safe : (rule : Rule) (word : Option ℕ) (before after : Worker) → Splits before after → IsSafeWorker rule word before → IsSafeWorker rule word after
+splits_safe : (rule : Goal) (word : Option ℕ) (before after : Worker) → Splits before after → IsSafeWorker rule word before → IsSafeWorker rule word after
 splits_safe rule word before after splits safe =
     let node = some_is (node_of rule) before.hand splits.cell splits.held safe.hand in
-    let low : node_of rule splits.lower = half (whole_cell rule.axes) splits.cell splits.lower node (record { lower = splits.lower; upper = splits.upper; halves = splits.halves; either = inl refl }) in
-    let high : node_of rule splits.upper = half (whole_cell rule.axes) splits.cell splits.upper node (record { lower = splits.lower; upper = splits.upper; halves = splits.halves; either = inr refl }) in
+    let low : node_of rule splits.lower = half (whole_cell rule.axes) splits.cell splits.lower node
+    (record { lower = splits.lower; upper = splits.upper; halves = splits.halves; either = inl refl }) in
+    let high : node_of rule splits.upper = half (whole_cell rule.axes) splits.cell splits.upper node
+    (record { lower = splits.lower; upper = splits.upper; halves = splits.halves; either = inr refl }) in
     subst (IsSafeWorker rule word) (sym splits.is) (record {
       deque = All-push (node_of rule) before.deque splits.upper safe.deque high;
       hand = low;
@@ -163,28 +167,30 @@ splits_safe rule word before after splits safe =
       within = safe.within;
     })
 
-reason_closes : (rule : Rule) (total : Option ℕ) (cell : List (ℕ × ℕ)) (why : Why) → IsFirstReason rule total cell why → IsClosedFor rule total cell why
+reason_closes : (rule : Goal) (total : Option ℕ) (cell : List (ℕ × ℕ)) (why : Why) → IsFirstReason rule total cell why → IsClosedFor rule total cell why
 reason_closes rule total cell Disordered reason = reason
 reason_closes rule total cell Shut reason = reason.1
 reason_closes rule total cell Bound reason = reason.1
 
-closes_safe : (rule : Rule) (word : Option ℕ) (before after : Worker) → Closes rule before after → IsSafeWorker rule word before → IsSafeWorker rule word after
+closes_safe : (rule : Goal) (word : Option ℕ) (before after : Worker) → Closes rule before after → IsSafeWorker rule word before → IsSafeWorker rule word after
 closes_safe rule word before after closes safe =
     let node = some_is (node_of rule) before.hand closes.cell closes.held safe.hand in
     subst (IsSafeWorker rule word) (sym closes.is) (record {
       deque = safe.deque;
       hand = tt;
       boxes = All-push (λ (box : Box). node_of rule box.0) before.closed (closes.cell, closes.why) safe.boxes node;
-      closed = All-push (λ (box : Box). IsClosedFor rule before.seen box.0 box.1) before.closed (closes.cell, closes.why) safe.closed (reason_closes rule before.seen closes.cell closes.why closes.reason);
+      closed = All-push (λ (box : Box). IsClosedFor rule before.seen box.0 box.1) before.closed (closes.cell, closes.why) safe.closed
+          (reason_closes rule before.seen closes.cell closes.why closes.reason);
       seen = safe.seen;
       kept = safe.kept;
       within = safe.within;
     })
 
-pub closed_seen : (rule : Rule) (seen more : Option ℕ) (boxes : List Box) → IsNoLess seen more → All (λ box. IsClosedFor rule seen box.0 box.1) boxes → All (λ box. IsClosedFor rule more box.0 box.1) boxes
+pub closed_seen : (rule : Goal) (seen more : Option ℕ) (boxes : List Box) → IsNoLess seen more → All (λ box. IsClosedFor rule seen box.0 box.1) boxes
+    → All (λ box. IsClosedFor rule more box.0 box.1) boxes
 closed_seen rule seen more boxes no_less closed = λ k d below. closed_longer rule seen more _ _ no_less (closed k d below)
 
-looks_safe : (rule : Rule) (word : Option ℕ) (before after : Worker) → Looks word before after → IsSafeWorker rule word before → IsSafeWorker rule word after
+looks_safe : (rule : Goal) (word : Option ℕ) (before after : Worker) → Looks word before after → IsSafeWorker rule word before → IsSafeWorker rule word after
 looks_safe rule word before after looks safe = subst (IsSafeWorker rule word) (sym looks) (record {
   deque = safe.deque;
   hand = safe.hand;
@@ -195,7 +201,7 @@ looks_safe rule word before after looks safe = subst (IsSafeWorker rule word) (s
   within = safe.within;
 })
 
-keeps_safe : (rule : Rule) (word : Option ℕ) (total : ℕ) (before after : Worker) → Keeps rule total before after → IsSafeWorker rule word before → IsSafeWorker rule (greater word total) after
+keeps_safe : (rule : Goal) (word : Option ℕ) (total : ℕ) (before after : Worker) → Keeps rule total before after → IsSafeWorker rule word before → IsSafeWorker rule (greater word total) after
 keeps_safe rule word total before after keeps safe = subst (IsSafeWorker rule (greater word total)) (sym keeps.is) (record {
   deque = safe.deque;
   hand = safe.hand;
@@ -211,7 +217,7 @@ within_more None word more no_less within = tt
 within_more (Some kept) word more no_less within = less_through (Some kept.0) word more within no_less
 
 -- where the best word rises
-word_safe : (rule : Rule) (word more : Option ℕ) (worker : Worker) → IsNoLess word more → IsSafeWorker rule word worker → IsSafeWorker rule more worker
+word_safe : (rule : Goal) (word more : Option ℕ) (worker : Worker) → IsNoLess word more → IsSafeWorker rule word worker → IsSafeWorker rule more worker
 word_safe rule word more worker no_less safe = record {
   deque = safe.deque;
   hand = safe.hand;
@@ -224,7 +230,10 @@ word_safe rule word more worker no_less safe = record {
 
 -- the machine stays safe
 
-acts_safe : (rule : Rule) (Act : Worker → Worker → Type 0) (number : ℕ) (before after : State) → ((old new : Worker) (tuple : List ℕ) → Act old new → mult (worker_cells new) tuple ≡ mult (worker_cells old) tuple) → ((old new : Worker) → Act old new → IsSafeWorker rule before.word old → IsSafeWorker rule before.word new) → ((old new : Worker) → Act old new → new.kept ≡ old.kept) → Acts Act number before.workers after.workers × (after.word ≡ before.word) → IsSafe rule before → IsSafe rule after
+acts_safe : (rule : Goal) (Act : Worker → Worker → Type 0) (number : ℕ) (before after : State)
+    → ((old new : Worker) (tuple : List ℕ) → Act old new → mult (worker_cells new) tuple ≡ mult (worker_cells old) tuple)
+    → ((old new : Worker) → Act old new → IsSafeWorker rule before.word old → IsSafeWorker rule before.word new) → ((old new : Worker) → Act old new → new.kept ≡ old.kept)
+    → Acts Act number before.workers after.workers × (after.word ≡ before.word) → IsSafe rule before → IsSafe rule after
 acts_safe rule Act number before after same stays keeps (acts, word) safe =
     let old = there_at (IsSafeWorker rule before.word) before.workers number acts.worker acts.there safe.workers in
     let P : List Worker → Option ℕ → Type 0 = λ workers w. IsSafe rule (record { workers = workers; word = w }) in
@@ -238,7 +247,8 @@ acts_safe rule Act number before after same stays keeps (acts, word) safe =
     subst (λ (w : Option ℕ). P after.workers w) (sym word) (subst (λ (ws : List Worker). P ws before.word) (sym acts.is) made)
 
 -- the worker that raised the best word kept a tuple of that value
-raised_kept : (rule : Rule) (total found : ℕ) (number : ℕ) (workers : List Worker) (worker changed : Worker) → slice_get workers number ≡ Some worker → Keeps rule total worker changed → found ≡ total → IsKept (slice_set workers number changed) found
+raised_kept : (rule : Goal) (total found : ℕ) (number : ℕ) (workers : List Worker) (worker changed : Worker) → slice_get workers number ≡ Some worker → Keeps rule total worker changed → found ≡ total
+    → IsKept (slice_set workers number changed) found
 raised_kept rule total found number workers worker changed there keeps same = record {
   number = number;
   worker = changed;
@@ -248,7 +258,8 @@ raised_kept rule total found number workers worker changed there keeps same = re
 }
 
 -- a worker that kept the greater best word isn't the one that raises less
-other_kept : (rule : Rule) (total found : ℕ) (number : ℕ) (workers : List Worker) (worker changed : Worker) → slice_get workers number ≡ Some worker → Keeps rule total worker changed → total ≤ found → IsKept workers found → IsKept (slice_set workers number changed) found
+other_kept : (rule : Goal) (total found : ℕ) (number : ℕ) (workers : List Worker) (worker changed : Worker) → slice_get workers number ≡ Some worker → Keeps rule total worker changed → total ≤ found
+    → IsKept workers found → IsKept (slice_set workers number changed) found
 other_kept rule total found number workers worker changed there keeps less is =
     let apart : is.number ≢ number = λ here.
     let one : Some is.worker ≡ Some worker = sym is.there ∙ ap (slice_get workers) here ∙ there in
@@ -260,7 +271,8 @@ other_kept rule total found number workers worker changed there keeps less is =
 some_same : (a b : ℕ) → Some a ≡ Some b → a ≡ b
 some_same a b same = cc
 
-raise_word : (rule : Rule) (total found : ℕ) (number : ℕ) (workers : List Worker) (worker changed : Worker) (word : Option ℕ) → slice_get workers number ≡ Some worker → Keeps rule total worker changed → ((old : ℕ) → word ≡ Some old → IsKept workers old) → greater word total ≡ Some found → IsKept (slice_set workers number changed) found
+raise_word : (rule : Goal) (total found : ℕ) (number : ℕ) (workers : List Worker) (worker changed : Worker) (word : Option ℕ) → slice_get workers number ≡ Some worker → Keeps rule total worker changed
+    → ((old : ℕ) → word ≡ Some old → IsKept workers old) → greater word total ≡ Some found → IsKept (slice_set workers number changed) found
 raise_word rule total found number workers worker changed None there keeps kept is =
     raised_kept rule total found number workers worker changed there keeps (sym (some_same total found is))
 raise_word rule total found number workers worker changed (Some old) there keeps kept is =
@@ -272,7 +284,7 @@ raise_word rule total found number workers worker changed (Some old) there keeps
       | inr less ↦ raised_kept rule total found number workers worker changed there keeps (omega (arith, most, less))
     ]
 
-raise_safe : (rule : Rule) (number : ℕ) (before after : State) → Makes rule (Raise number) before after → IsSafe rule before → IsSafe rule after
+raise_safe : (rule : Goal) (number : ℕ) (before after : State) → Makes rule (Raise number) before after → IsSafe rule before → IsSafe rule after
 raise_safe rule number before after (total, acts, word) safe =
     let more = greater before.word total in
     let old = there_at (IsSafeWorker rule before.word) before.workers number acts.worker acts.there safe.workers in
@@ -288,7 +300,7 @@ raise_safe rule number before after (total, acts, word) safe =
     subst (λ (w : Option ℕ). P after.workers w) (sym word) (subst (λ (ws : List Worker). P ws more) (sym acts.is) made)
 
 -- a steal moves one cell
-steal_safe : (rule : Rule) (number other : ℕ) (before after : State) → Steals number other before.workers after.workers × (after.word ≡ before.word) → IsSafe rule before → IsSafe rule after
+steal_safe : (rule : Goal) (number other : ℕ) (before after : State) → Steals number other before.workers after.workers × (after.word ≡ before.word) → IsSafe rule before → IsSafe rule after
 steal_safe rule number other before after (steals, word) safe =
     let robbed : Worker = record steals.victim { deque = steals.rest } in
     let holder : Worker = record steals.thief { hand = Some steals.cell } in
@@ -339,7 +351,7 @@ steal_safe rule number other before after (steals, word) safe =
     } in
     subst (λ (w : Option ℕ). P after.workers w) (sym word) (subst (λ (ws : List Worker). P ws before.word) (sym steals.is) made)
 
-makes_safe : (rule : Rule) (step : Step) (before after : State) → Makes rule step before after → IsSafe rule before → IsSafe rule after
+makes_safe : (rule : Goal) (step : Step) (before after : State) → Makes rule step before after → IsSafe rule before → IsSafe rule after
 makes_safe rule (Take number) before after makes safe =
     acts_safe rule Takes number before after takes_mult (takes_safe rule before.word) (λ old new takes. ap (λ (w : Worker). w.kept) takes.is) makes safe
 makes_safe rule (Steal number other) before after makes safe = steal_safe rule number other before after makes safe
@@ -351,11 +363,11 @@ makes_safe rule (Look number) before after makes safe =
     acts_safe rule (Looks before.word) number before after (looks_mult before.word) (looks_safe rule before.word) (λ old new looks. ap (λ (w : Worker). w.kept) looks) makes safe
 makes_safe rule (Raise number) before after makes safe = raise_safe rule number before after makes safe
 
-pub moves_safe : (rule : Rule) (step : Step) (before after : State) → Moves rule step before after → IsSafe rule before → IsSafe rule after
+pub moves_safe : (rule : Goal) (step : Step) (before after : State) → Moves rule step before after → IsSafe rule before → IsSafe rule after
 moves_safe rule step before after (inl makes) safe = makes_safe rule step before after makes safe
 moves_safe rule step before after (inr stays) safe = subst (IsSafe rule) (sym stays.1) safe
 
-idle_safe : (rule : Rule) → IsSafeWorker rule None idle
+idle_safe : (rule : Goal) → IsSafeWorker rule None idle
 idle_safe rule = record {
   deque = All-nil (node_of rule);
   hand = tt;
@@ -367,7 +379,7 @@ idle_safe rule = record {
 }
 
 -- at first the whole cell holds each tuple once
-pub start_safe : (rule : Rule) (workers : ℕ) → IsSafe rule (start rule workers)
+pub start_safe : (rule : Goal) (workers : ℕ) → IsSafe rule (start rule workers)
 start_safe rule workers =
     let cell = whole_cell rule.axes in
     let first : Worker = record idle { deque = cell ∷ [] } in
@@ -391,7 +403,7 @@ start_safe rule workers =
       word = λ total is. absurd (cc);
     }
 
-pub runs_safe : (rule : Rule) (steps : List Step) (before after : State) → Runs rule before steps after → IsSafe rule before → IsSafe rule after
+pub runs_safe : (rule : Goal) (steps : List Step) (before after : State) → Runs rule before steps after → IsSafe rule before → IsSafe rule after
 runs_safe rule [] before after runs safe = subst (IsSafe rule) (sym runs) safe
 runs_safe rule (step ∷ steps) before after (next, moves, runs) safe = runs_safe rule steps next after runs (moves_safe rule step before next moves safe)
 
@@ -400,7 +412,8 @@ runs_safe rule (step ∷ steps) before after (next, moves, runs) safe = runs_saf
 unfoldable count_closed : State → ℕ
 count_closed state = sum_by (λ (worker : Worker). length worker.closed) state.workers
 
-acts_count : (Act : Worker → Worker → Type 0) (number : ℕ) (before after : State) → ((old new : Worker) → Act old new → length new.closed ≤ length old.closed + 1) → Acts Act number before.workers after.workers → count_closed after ≤ count_closed before + 1
+acts_count : (Act : Worker → Worker → Type 0) (number : ℕ) (before after : State) → ((old new : Worker) → Act old new → length new.closed ≤ length old.closed + 1)
+    → Acts Act number before.workers after.workers → count_closed after ≤ count_closed before + 1
 unfolding count_closed
 acts_count Act number before after more acts =
     let f : Worker → ℕ = λ worker. length worker.closed in
@@ -419,26 +432,27 @@ steal_count number other before after steals =
 same_closed : (old new : Worker) → new.closed ≡ old.closed → length new.closed ≤ length old.closed + 1
 same_closed old new same = omega (arith, ap length same)
 
-closes_count : (rule : Rule) (old new : Worker) → Closes rule old new → length new.closed ≤ length old.closed + 1
+closes_count : (rule : Goal) (old new : Worker) → Closes rule old new → length new.closed ≤ length old.closed + 1
 closes_count rule old new closes =
     let box : Box = (closes.cell, closes.why) in
     omega (arith, ap (λ (w : Worker). length w.closed) closes.is, length_push old.closed box)
 
-moves_count : (rule : Rule) (step : Step) (before after : State) → Moves rule step before after → count_closed after ≤ count_closed before + 1
+moves_count : (rule : Goal) (step : Step) (before after : State) → Moves rule step before after → count_closed after ≤ count_closed before + 1
 moves_count rule (Take number) before after (inl makes) = acts_count Takes number before after (λ old new takes. same_closed old new (ap (λ (w : Worker). w.closed) takes.is)) makes.0
 moves_count rule (Steal number other) before after (inl makes) = steal_count number other before after makes.0
 moves_count rule (Split number) before after (inl makes) = acts_count Splits number before after (λ old new splits. same_closed old new (ap (λ (w : Worker). w.closed) splits.is)) makes.0
 moves_count rule (Close number) before after (inl makes) = acts_count (Closes rule) number before after (closes_count rule) makes.0
 moves_count rule (Look number) before after (inl makes) = acts_count (Looks before.word) number before after (λ old new looks. same_closed old new (ap (λ (w : Worker). w.closed) looks)) makes.0
-moves_count rule (Raise number) before after (inl (total, makes, word)) = acts_count (Keeps rule total) number before after (λ old new keeps. same_closed old new (ap (λ (w : Worker). w.closed) keeps.is)) makes
+moves_count rule (Raise number) before after (inl (total, makes, word)) =
+    acts_count (Keeps rule total) number before after (λ old new keeps. same_closed old new (ap (λ (w : Worker). w.closed) keeps.is)) makes
 moves_count rule step before after (inr stays) = omega (arith, ap count_closed stays.1)
 
-runs_count : (rule : Rule) (steps : List Step) (before after : State) → Runs rule before steps after → count_closed after ≤ count_closed before + length steps
+runs_count : (rule : Goal) (steps : List Step) (before after : State) → Runs rule before steps after → count_closed after ≤ count_closed before + length steps
 runs_count rule [] before after runs = omega (arith, ap count_closed runs)
 runs_count rule (step ∷ steps) before after (next, moves, runs) = omega (arith, moves_count rule step before next moves, runs_count rule steps next after runs)
 
 -- the steps of a list close one cell each at most
-pub closed_few : (rule : Rule) (workers : ℕ) (steps : List Step) (after : State) → Runs rule (start rule workers) steps after → length (closed_in after) ≤ length steps
+pub closed_few : (rule : Goal) (workers : ℕ) (steps : List Step) (after : State) → Runs rule (start rule workers) steps after → length (closed_in after) ≤ length steps
 unfolding count_closed
 closed_few rule workers steps after runs =
     let f : Worker → ℕ = λ worker. length worker.closed in

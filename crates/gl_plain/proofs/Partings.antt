@@ -16,12 +16,12 @@ use Rattle.gl_box.specs.Halves.{AreHalves, IsHalf, IsSingle}
 use Rattle.gl_box.specs.Frontier.{IsFrontier, IsNode, mult}
 use Rattle.gl_box.specs.Frontier.IsFrontier.{alone, parted}
 use Rattle.gl_box.specs.Frontier.IsNode.{whole, half}
-use Rattle.gl_box.specs.Laws.Held.{holds_whole}
-use Rattle.gl_box.specs.Laws.Nodes.{covers_lower, covers_node, covers_upper, holds_through, member_node}
-use Rattle.gl_box.specs.Laws.Parts.{halves_parted, mult-append, mult-held}
-use Rattle.gl_box.specs.Laws.Spans.{single-narrow}
+use Rattle.gl_box.proofs.Held.{holds_whole}
+use Rattle.gl_box.proofs.Nodes.{covers_lower, covers_node, covers_upper, holds_through, member_node}
+use Rattle.gl_box.proofs.Parts.{halves_parted, mult-append, mult-held}
+use Rattle.gl_box.proofs.Spans.{single-narrow}
 use Rattle.gl_box.specs.Closed.{box_of}
-use Rattle.gl_goal.specs.Rule.{Rule, whole_cell}
+use Rattle.gl_goal.specs.Goal.{Goal, whole_cell}
 use Rattle.gl_goal.specs.Certificate.{IsCertificate, IsClosedFor}
 use Rattle.gl_walk.proofs.Frontiers.{lower_unique, upper_unique}
 use Rattle.gl_plain.specs.declared.found.Best.{Best}
@@ -117,14 +117,17 @@ plus_zero : (k : ℕ) → k ≡ k + 0
 plus_zero k = omega arith
 
 -- two cells that hold a tuple count both
-mult-two : (cells : List (List (ℕ × ℕ))) (j k : ℕ) (d : List (ℕ × ℕ)) (tuple : List ℕ) → j < k → k < length cells → Holds (get_or cells j d) tuple → Holds (get_or cells k d) tuple → 2 ≤ mult cells tuple
+mult-two : (cells : List (List (ℕ × ℕ))) (j k : ℕ) (d : List (ℕ × ℕ)) (tuple : List ℕ) → j < k → k < length cells → Holds (get_or cells j d) tuple → Holds (get_or cells k d) tuple
+    → 2 ≤ mult cells tuple
 mult-two cells j k d tuple before below one other =
     let front = mult-some (take k cells) j d tuple (omega (arith, length-take-le k cells (omega arith))) (subst (λ (c : List (ℕ × ℕ)). Holds c tuple) (sym (get_or-take k cells j d before)) one) in
-    let back = mult-some (drop k cells) 0 d tuple (omega (arith, length-drop k cells)) (subst (λ (c : List (ℕ × ℕ)). Holds c tuple) (ap (λ (i : ℕ). get_or cells i d) (plus_zero k) ∙ sym (get_or-drop k cells 0 d)) other) in
+    let back = mult-some (drop k cells) 0 d tuple (omega (arith, length-drop k cells))
+    (subst (λ (c : List (ℕ × ℕ)). Holds c tuple) (ap (λ (i : ℕ). get_or cells i d) (plus_zero k) ∙ sym (get_or-drop k cells 0 d)) other) in
     omega (arith, mult-cut cells k tuple)
 
 -- no tuple lies in two of the cells that part a whole
-never_twice : (cell : List (ℕ × ℕ)) (cells : List (List (ℕ × ℕ))) (j k : ℕ) (d : List (ℕ × ℕ)) (tuple : List ℕ) → AreParts cell cells → j < k → k < length cells → Holds (get_or cells j d) tuple → Holds (get_or cells k d) tuple → ⊥
+never_twice : (cell : List (ℕ × ℕ)) (cells : List (List (ℕ × ℕ))) (j k : ℕ) (d : List (ℕ × ℕ)) (tuple : List ℕ) → AreParts cell cells → j < k → k < length cells → Holds (get_or cells j d) tuple
+    → Holds (get_or cells k d) tuple → ⊥
 never_twice cell cells j k d tuple parts before below one other =
     let held : Holds cell tuple = holds_through cell (get_or cells k d) tuple (covers_node cell (get_or cells k d) (parts.nodes k d below)) other in
     let once = parts.once tuple held in
@@ -132,7 +135,8 @@ never_twice cell cells j k d tuple parts before below one other =
     absurd (omega arith)
 
 -- where they aren't one cell, none of the cells that part a whole is the whole
-none_whole : (cell : List (ℕ × ℕ)) (cells : List (List (ℕ × ℕ))) (k : ℕ) (d : List (ℕ × ℕ)) → AreParts cell cells → All HasTuple cells → length cells ≢ 1 → k < length cells → get_or cells k d ≡ cell → ⊥
+none_whole : (cell : List (ℕ × ℕ)) (cells : List (List (ℕ × ℕ))) (k : ℕ) (d : List (ℕ × ℕ)) → AreParts cell cells → All HasTuple cells → length cells ≢ 1 → k < length cells → get_or cells k d ≡ cell
+    → ⊥
 none_whole cell cells zero d parts some more below same =
     let next : 1 < length cells = omega (arith, more) in
     let other = some 1 d next in
@@ -145,7 +149,8 @@ none_whole cell cells (suc k) d parts some more below same =
     never_twice cell cells 0 (suc k) d other.0 parts (omega arith) below other.1 (subst (λ (c : List (ℕ × ℕ)). Holds c other.0) (sym same) held)
 
 -- where they aren't one cell, each of the cells that part a whole lies in one of its halves
-pub each_in_half : (cell lower upper : List (ℕ × ℕ)) (cells : List (List (ℕ × ℕ))) (k : ℕ) (d : List (ℕ × ℕ)) → AreParts cell cells → All HasTuple cells → length cells ≢ 1 → AreHalves cell lower upper → k < length cells → IsNode lower (get_or cells k d) ⊎ IsNode upper (get_or cells k d)
+pub each_in_half : (cell lower upper : List (ℕ × ℕ)) (cells : List (List (ℕ × ℕ))) (k : ℕ) (d : List (ℕ × ℕ)) → AreParts cell cells → All HasTuple cells → length cells ≢ 1 → AreHalves cell lower upper
+    → k < length cells → IsNode lower (get_or cells k d) ⊎ IsNode upper (get_or cells k d)
 each_in_half cell lower upper cells k d parts some more halves below = elim (node_cases cell lower upper (get_or cells k d) halves (parts.nodes k d below)) [
   | inl same ↦ absurd (none_whole cell cells k d parts some more below same)
   | inr within ↦ within
@@ -155,7 +160,8 @@ held_by_node : (cell node : List (ℕ × ℕ)) (tuple : List ℕ) → IsNode cel
 held_by_node cell node tuple is_node held = holds_through cell node tuple (covers_node cell node is_node) held
 
 -- cells that part a whole, those in its lower half first: the ones part the lower half, and the others the upper one
-pub parts_halved : (cell lower upper : List (ℕ × ℕ)) (cells : List (List (ℕ × ℕ))) (n : ℕ) → AreParts cell cells → AreHalves cell lower upper → All (IsNode lower) (take n cells) → All (IsNode upper) (drop n cells) → AreParts lower (take n cells) × AreParts upper (drop n cells)
+pub parts_halved : (cell lower upper : List (ℕ × ℕ)) (cells : List (List (ℕ × ℕ))) (n : ℕ) → AreParts cell cells → AreHalves cell lower upper → All (IsNode lower) (take n cells)
+    → All (IsNode upper) (drop n cells) → AreParts lower (take n cells) × AreParts upper (drop n cells)
 parts_halved cell lower upper cells n parts halves low high = (
   record {
     nodes = low;
@@ -181,7 +187,8 @@ behind : (cells : List (List (ℕ × ℕ))) (n k : ℕ) → k < length (drop n c
 behind cells n k below = omega (arith, length-drop n cells)
 
 -- what the lower half covers lies in it, and what it doesn't cover lies in the upper half
-pub parts_covered : (cell lower upper : List (ℕ × ℕ)) (cells : List (List (ℕ × ℕ))) (n : ℕ) → AreParts cell cells → All HasTuple cells → length cells ≢ 1 → AreHalves cell lower upper → All (Covers lower) (take n cells) → All (λ c. Covers lower c → ⊥) (drop n cells) → AreParts lower (take n cells) × AreParts upper (drop n cells)
+pub parts_covered : (cell lower upper : List (ℕ × ℕ)) (cells : List (List (ℕ × ℕ))) (n : ℕ) → AreParts cell cells → All HasTuple cells → length cells ≢ 1 → AreHalves cell lower upper
+    → All (Covers lower) (take n cells) → All (λ c. Covers lower c → ⊥) (drop n cells) → AreParts lower (take n cells) × AreParts upper (drop n cells)
 parts_covered cell lower upper cells n parts some more halves covered out =
     parts_halved cell lower upper cells n parts halves
     (λ k d below.
@@ -202,7 +209,8 @@ parts_covered cell lower upper cells n parts some more halves covered out =
     ]))
 
 -- where the first cells are a frontier of the lower half, the others part the upper one
-pub parts_passed : (cell lower upper : List (ℕ × ℕ)) (cells : List (List (ℕ × ℕ))) (n : ℕ) → AreParts cell cells → All HasTuple cells → length cells ≢ 1 → AreHalves cell lower upper → IsFrontier lower (take n cells) → AreParts upper (drop n cells)
+pub parts_passed : (cell lower upper : List (ℕ × ℕ)) (cells : List (List (ℕ × ℕ))) (n : ℕ) → AreParts cell cells → All HasTuple cells → length cells ≢ 1 → AreHalves cell lower upper
+    → IsFrontier lower (take n cells) → AreParts upper (drop n cells)
 parts_passed cell lower upper cells n parts some more halves frontier =
     (parts_halved cell lower upper cells n parts halves
     (λ k d below. subst (IsNode lower) (get_or_default (take n cells) k [] d below) (member_node lower (take n cells) k frontier below))
@@ -231,14 +239,16 @@ parts-single cell (one ∷ []) parts single some =
 parts-single cell (one ∷ (other ∷ cells)) parts single some =
     let same : one ≡ cell = node-single cell one single (parts.nodes 0 one (omega arith)) in
     let too : other ≡ cell = node-single cell other single (parts.nodes 1 one (omega arith)) in
-    absurd (never_twice cell (one ∷ (other ∷ cells)) 0 1 one some.0 parts (omega arith) (omega arith) (subst (λ (c : List (ℕ × ℕ)). Holds c some.0) (sym same) some.1) (subst (λ (c : List (ℕ × ℕ)). Holds c some.0) (sym too) some.1))
+    absurd (never_twice cell (one ∷ (other ∷ cells)) 0 1 one some.0 parts (omega arith) (omega arith) (subst (λ (c : List (ℕ × ℕ)). Holds c some.0) (sym same) some.1)
+    (subst (λ (c : List (ℕ × ℕ)). Holds c some.0) (sym too) some.1))
 
 only : (part : List (ℕ × ℕ)) (k : ℕ) (d : List (ℕ × ℕ)) (tuple : List ℕ) → k < 1 → Holds (get_or (part ∷ []) k d) tuple → Holds part tuple
 only part zero d tuple below held = held
 only part (suc k) d tuple below held = absurd (omega arith)
 
 -- a single part is the whole
-pub parts-one : (cell lower upper : List (ℕ × ℕ)) (cells : List (List (ℕ × ℕ))) → AreParts cell cells → AreHalves cell lower upper → HasTuple lower → HasTuple upper → length cells ≡ 1 → IsFrontier cell cells
+pub parts-one : (cell lower upper : List (ℕ × ℕ)) (cells : List (List (ℕ × ℕ))) → AreParts cell cells → AreHalves cell lower upper → HasTuple lower → HasTuple upper → length cells ≡ 1
+    → IsFrontier cell cells
 parts-one cell lower upper [] parts halves low high one = absurd (omega arith)
 parts-one cell lower upper (part ∷ []) parts halves low high one = elim (node_cases cell lower upper part halves (parts.nodes 0 part (omega arith))) [
   | inl same ↦ alone cell (part ∷ []) (ap (λ (c : List (ℕ × ℕ)). c ∷ []) same)
@@ -265,7 +275,8 @@ pub record PartedAt (P : Closed → Type 0) (boxes : List Closed) (count place :
   pub back : (k : ℕ) (d : Closed) → count ≤ k → k < place → P (get_or boxes k d) → ⊥
 
 -- one more box with P changes places with the first that has none of it
-pub parted_swap : (P : Closed → Type 0) (boxes after : List Closed) (count place : ℕ) → SwappedAt boxes after count place → count ≤ place → ((d : Closed) → P (get_or boxes place d)) → PartedAt P boxes count place → PartedAt P after (count + 1) (place + 1)
+pub parted_swap : (P : Closed → Type 0) (boxes after : List Closed) (count place : ℕ) → SwappedAt boxes after count place → count ≤ place → ((d : Closed) → P (get_or boxes place d))
+    → PartedAt P boxes count place → PartedAt P after (count + 1) (place + 1)
 parted_swap P boxes after count place swapped order here parted_ = record {
   front = λ k d below. elim (cases_order k count) [
     | inl same ↦ subst (λ (j : ℕ). P (get_or after j d)) (sym same) (subst P (sym (swapped.0 d)) (here d))
@@ -332,39 +343,52 @@ length-cells : (boxes : List Closed) → length boxes ≢ 1 → length (cells_of
 length-cells boxes more one = more (sym (length-map boxes cell_of) ∙ one)
 
 -- where the first boxes are a frontier of the lower half, the others part the upper one
-pub boxes_passed : (cell lower upper : Cell) (boxes back : List Closed) (count : ℕ) → AreParts (spans_of cell) (cells_of boxes) → length boxes ≢ 1 → AreHalves (spans_of cell) (spans_of lower) (spans_of upper) → IsFrontier (spans_of lower) (take count (cells_of boxes)) → back ≡ drop count boxes → AreParts (spans_of upper) (cells_of back)
+pub boxes_passed : (cell lower upper : Cell) (boxes back : List Closed) (count : ℕ) → AreParts (spans_of cell) (cells_of boxes) → length boxes ≢ 1
+    → AreHalves (spans_of cell) (spans_of lower) (spans_of upper) → IsFrontier (spans_of lower) (take count (cells_of boxes)) → back ≡ drop count boxes → AreParts (spans_of upper) (cells_of back)
 boxes_passed cell lower upper boxes back count parts more halves frontier is =
     let rest = parts_passed (spans_of cell) (spans_of lower) (spans_of upper) (cells_of boxes) count parts (boxes_held boxes) (length-cells boxes more) halves frontier in
     subst (AreParts (spans_of upper)) (drop-map cell_of count boxes ∙ ap cells_of (sym is)) rest
 
 -- boxes of which those that the lower half covers come first
-pub boxes_covered : (cell lower upper : Cell) (boxes after front back : List Closed) (count : ℕ) → AreParts (spans_of cell) (cells_of boxes) → length boxes ≢ 1 → AreHalves (spans_of cell) (spans_of lower) (spans_of upper) → IsPermutation boxes after → All (λ (box : Closed). Covers (spans_of lower) (spans_of box.cell)) (take count after) → All (λ (box : Closed). Covers (spans_of lower) (spans_of box.cell) → ⊥) (drop count after) → front ≡ take count after → back ≡ drop count after → AreParts (spans_of lower) (cells_of front) × AreParts (spans_of upper) (cells_of back)
+pub boxes_covered : (cell lower upper : Cell) (boxes after front back : List Closed) (count : ℕ) → AreParts (spans_of cell) (cells_of boxes) → length boxes ≢ 1
+    → AreHalves (spans_of cell) (spans_of lower) (spans_of upper) → IsPermutation boxes after → All (λ (box : Closed). Covers (spans_of lower) (spans_of box.cell)) (take count after)
+    → All (λ (box : Closed). Covers (spans_of lower) (spans_of box.cell) → ⊥) (drop count after) → front ≡ take count after → back ≡ drop count after
+    → AreParts (spans_of lower) (cells_of front) × AreParts (spans_of upper) (cells_of back)
 boxes_covered cell lower upper boxes after front back count parts more halves same covered out front_is back_is =
     let long : length after ≢ 1 = λ one. more (sym (length_permutation boxes after same) ∙ one) in
     let low = subst (All (Covers (spans_of lower))) (sym (take-map cell_of count after)) (All-map (Covers (spans_of lower)) cell_of (take count after) covered) in
-    let high = subst (All (λ (c : List (ℕ × ℕ)). Covers (spans_of lower) c → ⊥)) (sym (drop-map cell_of count after)) (All-map (λ (c : List (ℕ × ℕ)). Covers (spans_of lower) c → ⊥) cell_of (drop count after) out) in
-    let both = parts_covered (spans_of cell) (spans_of lower) (spans_of upper) (cells_of after) count (parts-permutation (spans_of cell) boxes after same parts) (boxes_held after) (length-cells after long) halves low high in (
+    let high = subst (All (λ (c : List (ℕ × ℕ)). Covers (spans_of lower) c → ⊥)) (sym (drop-map cell_of count after))
+    (All-map (λ (c : List (ℕ × ℕ)). Covers (spans_of lower) c → ⊥) cell_of (drop count after) out) in
+    let both = parts_covered (spans_of cell) (spans_of lower) (spans_of upper) (cells_of after) count (parts-permutation (spans_of cell) boxes after same parts) (boxes_held after)
+    (length-cells after long) halves low high in (
       subst (AreParts (spans_of lower)) (take-map cell_of count after ∙ ap cells_of (sym front_is)) both.0,
       subst (AreParts (spans_of upper)) (drop-map cell_of count after ∙ ap cells_of (sym back_is)) both.1,
     )
 
 -- frontiers of both halves, one behind the other
-pub boxes_joined : (cell lower upper : Cell) (front back : List Closed) → AreHalves (spans_of cell) (spans_of lower) (spans_of upper) → IsFrontier (spans_of lower) (cells_of front) → IsFrontier (spans_of upper) (cells_of back) → IsFrontier (spans_of cell) (cells_of (front ++ back))
-boxes_joined cell lower upper front back halves low high = parted (spans_of cell) (spans_of lower) (spans_of upper) (cells_of front) (cells_of back) (cells_of (front ++ back)) halves low high (map-append cell_of front back)
+pub boxes_joined : (cell lower upper : Cell) (front back : List Closed) → AreHalves (spans_of cell) (spans_of lower) (spans_of upper) → IsFrontier (spans_of lower) (cells_of front)
+    → IsFrontier (spans_of upper) (cells_of back) → IsFrontier (spans_of cell) (cells_of (front ++ back))
+boxes_joined cell lower upper front back halves low high = parted (spans_of cell) (spans_of lower) (spans_of upper) (cells_of front) (cells_of back) (cells_of (front ++ back)) halves low high
+    (map-append cell_of front back)
 
 pub boxes_single : (cell : Cell) (boxes : List Closed) → AreParts (spans_of cell) (cells_of boxes) → IsSingle (spans_of cell) → IsFrontier (spans_of cell) (cells_of boxes)
 boxes_single cell boxes parts single = parts-single (spans_of cell) (cells_of boxes) parts single (cell_held cell)
 
-pub boxes_one : (cell lower upper : Cell) (boxes : List Closed) → AreParts (spans_of cell) (cells_of boxes) → AreHalves (spans_of cell) (spans_of lower) (spans_of upper) → length boxes ≡ 1 → IsFrontier (spans_of cell) (cells_of boxes)
-boxes_one cell lower upper boxes parts halves one = parts-one (spans_of cell) (spans_of lower) (spans_of upper) (cells_of boxes) parts halves (cell_held lower) (cell_held upper) (length-map boxes cell_of ∙ one)
+pub boxes_one : (cell lower upper : Cell) (boxes : List Closed) → AreParts (spans_of cell) (cells_of boxes) → AreHalves (spans_of cell) (spans_of lower) (spans_of upper) → length boxes ≡ 1
+    → IsFrontier (spans_of cell) (cells_of boxes)
+boxes_one cell lower upper boxes parts halves one = parts-one (spans_of cell) (spans_of lower) (spans_of upper) (cells_of boxes) parts halves (cell_held lower) (cell_held upper)
+    (length-map boxes cell_of ∙ one)
 
 -- boxes that certify a total, in any order, part the cell that they certify
-pub certified_parts : (rule : Rule) (total : Option ℕ) (fixes : List ℕ) (boxes after : List Closed) → IsCertificate rule total fixes (map box_of boxes) → IsPermutation boxes after → AreParts (whole_cell rule.axes) (cells_of after)
+pub certified_parts : (rule : Goal) (total : Option ℕ) (fixes : List ℕ) (boxes after : List Closed) → IsCertificate rule total fixes (map box_of boxes) → IsPermutation boxes after
+    → AreParts (whole_cell rule.axes) (cells_of after)
 certified_parts rule total fixes boxes after certificate same =
-    parts-permutation (whole_cell rule.axes) boxes after same (frontier_parts (whole_cell rule.axes) (cells_of boxes) (subst (IsFrontier (whole_cell rule.axes)) (map-boxes boxes) certificate.frontier))
+    parts-permutation (whole_cell rule.axes) boxes after same (frontier_parts (whole_cell rule.axes) (cells_of boxes)
+    (subst (IsFrontier (whole_cell rule.axes)) (map-boxes boxes) certificate.frontier))
 
 -- boxes that are a frontier of the whole cell, as others that were closed for a total, certify that total
-pub certificate_of : (rule : Rule) (best : Option Best) (closed boxes : List Closed) → IsSound rule best → IsFrontier (whole_cell rule.axes) (cells_of boxes) → IsPermutation closed boxes → All (λ (b : Closed). IsClosedFor rule (total_of best) (spans_of b.cell) b.why) closed → IsCertificate rule (total_of best) (fixes_of rule best) (map box_of boxes)
+pub certificate_of : (rule : Goal) (best : Option Best) (closed boxes : List Closed) → IsSound rule best → IsFrontier (whole_cell rule.axes) (cells_of boxes) → IsPermutation closed boxes
+    → All (λ (b : Closed). IsClosedFor rule (total_of best) (spans_of b.cell) b.why) closed → IsCertificate rule (total_of best) (fixes_of rule best) (map box_of boxes)
 certificate_of rule best closed boxes sound frontier same each = record {
   claimed = claimed_best rule best sound;
   frontier = subst (IsFrontier (whole_cell rule.axes)) (sym (map-boxes boxes)) frontier;

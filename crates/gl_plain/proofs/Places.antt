@@ -3,17 +3,17 @@ use Rattle.std.proofs.Common.{◌≡◌, ◌∙◌, sym, subst, ℕ, zero, suc, 
 use Rattle.std.specs.Prelude.{All, IfSome, Option, None, Some}
 use Rattle.std.specs.Option.{option_to_list}
 use Rattle.std.proofs.lemmas.List.{append-nil}
-use Rattle.std.proofs.lemmas.List.Elements.{All-push}
+use Rattle.std.proofs.lemmas.List.Elements.{All-push, All-tail}
 use Rattle.gl_box.specs.declared.span.Span.{Span}
 use Rattle.gl_box.specs.declared.cell.Cell.{Cell}
 use Rattle.gl_box.specs.Cell.{Covers, ends, spans_of}
 use Rattle.gl_plain.specs.declared.dive.Candidate.{Candidate}
-use Rattle.gl_plain.specs.Candidate.{AreWithin}
+use Rattle.gl_plain.specs.Code.Steps.{AreWithin}
 use Rattle.gl_box.specs.declared.tuple.Tuple.{Tuple}
 use Rattle.gl_box.specs.Tuple.{places_of}
-use Rattle.gl_box.specs.Laws.Spans.{length-places_of}
-use Rattle.gl_goal.specs.Rule.{Rule, IsTuple, whole_cell}
-use Rattle.gl_goal.specs.Laws.Order.{length-tuple}
+use Rattle.gl_box.proofs.Spans.{length-places_of}
+use Rattle.gl_goal.specs.Goal.{Goal, IsTuple, whole_cell}
+use Rattle.gl_goal.specs.Lemmas.Points.{length-tuple}
 
 -- a tuple with another place on one axis
 pub tuple-set : (axes : List (List ℕ)) (tuple : List ℕ) (k place : ℕ) → IsTuple axes tuple → place < length (get_or axes k []) → IsTuple axes (slice_set tuple k place)
@@ -23,13 +23,10 @@ tuple-set (axis ∷ axes) [] k place fits inside = absurd fits
 tuple-set (axis ∷ axes) (p ∷ ps) zero place fits inside = (inside, fits.1)
 tuple-set (axis ∷ axes) (p ∷ ps) (suc k) place fits inside = (fits.0, tuple-set axes ps k place fits.1 inside)
 
-next_each : (P : List ℕ → Type 0) (axis : List ℕ) (axes : List (List ℕ)) → All P (axis ∷ axes) → All P axes
-next_each P axis axes each k d below = each (suc k) d (omega arith)
-
 -- the first place on each axis
 pub first_tuple : (axes : List (List ℕ)) → All (λ axis. 0 < length axis) axes → IsTuple axes (replicate (length axes) 0)
 first_tuple [] some = tt
-first_tuple (axis ∷ axes) some = (some 0 [] (omega arith), first_tuple axes (next_each (λ axis. 0 < length axis) axis axes some))
+first_tuple (axis ∷ axes) some = (some 0 [] (omega arith), first_tuple axes (All-tail (λ axis. 0 < length axis) axis axes some))
 
 pub axes-tuple : (axes : List (List ℕ)) (tuple : Tuple) → IsTuple axes (places_of tuple) → tuple.axes ≡ length axes
 axes-tuple axes tuple fits = sym (length-places_of tuple) ∙ length-tuple axes (places_of tuple) fits
@@ -45,16 +42,19 @@ lowest_tuple (axis ∷ axes) [] some covers = absurd covers
 lowest_tuple (axis ∷ axes) (span ∷ spans) some covers =
     let one : 0 < length axis = some 0 [] (omega arith) in
     let order : span.lo ≤ span.hi = span.ordered in
-    (omega (arith, covers.1, one, order), lowest_tuple axes spans (next_each (λ axis. 0 < length axis) axis axes some) covers.2)
+    (omega (arith, covers.1, one, order), lowest_tuple axes spans (All-tail (λ axis. 0 < length axis) axis axes some) covers.2)
 
 -- candidates in the whole cell, and one more
-pub within_some : (rule : Rule) (xs ys : List Candidate) (it : Option Candidate) (cell : Cell) → AreWithin rule xs → Covers (whole_cell rule.axes) (spans_of cell) → IfSome it (λ candidate. candidate.cell ≡ cell) → ys ≡ xs ++ option_to_list it → AreWithin rule ys
+pub within_some : (rule : Goal) (xs ys : List Candidate) (it : Option Candidate) (cell : Cell) → AreWithin rule xs → Covers (whole_cell rule.axes) (spans_of cell)
+    → IfSome it (λ candidate. candidate.cell ≡ cell) → ys ≡ xs ++ option_to_list it → AreWithin rule ys
 within_some rule xs ys None cell within covers is more = subst (AreWithin rule) (sym more) (subst (AreWithin rule) (sym (append-nil xs)) within)
 within_some rule xs ys (Some candidate) cell within covers is more =
-    subst (AreWithin rule) (sym more) (All-push (λ (c : Candidate). Covers (whole_cell rule.axes) (spans_of c.cell)) xs candidate within (subst (λ (c : Cell). Covers (whole_cell rule.axes) (spans_of c)) (sym is) covers))
+    subst (AreWithin rule) (sym more) (All-push (λ (c : Candidate). Covers (whole_cell rule.axes) (spans_of c.cell)) xs candidate within
+    (subst (λ (c : Cell). Covers (whole_cell rule.axes) (spans_of c)) (sym is) covers))
 
 -- a cell with the whole span on one axis is still covered
-pub covers-set_whole : (axes : List (List ℕ)) (cell : List (ℕ × ℕ)) (axis : ℕ) → Covers (whole_cell axes) cell → axis < length axes → Covers (whole_cell axes) (slice_set cell axis (0, length (get_or axes axis []) - 1))
+pub covers-set_whole : (axes : List (List ℕ)) (cell : List (ℕ × ℕ)) (axis : ℕ) → Covers (whole_cell axes) cell → axis < length axes
+    → Covers (whole_cell axes) (slice_set cell axis (0, length (get_or axes axis []) - 1))
 covers-set_whole [] cell axis covers inside = absurd (omega arith)
 covers-set_whole (first ∷ axes) [] axis covers inside = absurd covers
 covers-set_whole (first ∷ axes) (s ∷ ss) zero covers inside = (omega arith, omega arith, covers.2)

@@ -5,9 +5,10 @@ use Rattle.std.proofs.lemmas.List.{append-nil, length-append}
 use Rattle.std.proofs.lemmas.List.Elements.{All-append, All-from_get_or, All-head, All-nil, All-tail, All-weaker, Contains-append_right, Contains-get_or}
 use Rattle.gl_box.specs.Frontier.{IsFrontier, IsNode, mult}
 use Rattle.gl_box.specs.Frontier.IsFrontier.{alone}
-use Rattle.gl_box.specs.Laws.Nodes.{covers_node, joined_at, member_node, node_through, refined}
-use Rattle.gl_box.specs.Laws.Parts.{mult-append, mult-frontier}
-use Rattle.gl_plain.specs.Steps.{AreFrontiers, LiesInOne}
+use Rattle.gl_box.proofs.Nodes.{covers_node, joined_at, member_node, node_through, refined}
+use Rattle.gl_box.proofs.Parts.{mult-append, mult-frontier}
+use Rattle.gl_plain.specs.Code.Steps.{AreFrontiers}
+use Rattle.gl_plain.specs.Steps.{LiesInOne}
 
 -- at first each root stands for itself
 pub each_alone : (roots : List (List (ℕ × ℕ))) → AreFrontiers roots roots
@@ -15,7 +16,8 @@ each_alone [] = refl
 each_alone (root ∷ roots) = (root ∷ [], roots, alone root (root ∷ []) refl, each_alone roots, refl)
 
 -- one cell gives way to a frontier of its own
-pub refined_each : (roots cells xs ys : List (List (ℕ × ℕ))) (node : List (ℕ × ℕ)) (finer : List (List (ℕ × ℕ))) → AreFrontiers roots cells → cells ≡ xs ++ node ∷ ys → IsFrontier node finer → AreFrontiers roots (xs ++ (finer ++ ys))
+pub refined_each : (roots cells xs ys : List (List (ℕ × ℕ))) (node : List (ℕ × ℕ)) (finer : List (List (ℕ × ℕ))) → AreFrontiers roots cells → cells ≡ xs ++ node ∷ ys → IsFrontier node finer
+    → AreFrontiers roots (xs ++ (finer ++ ys))
 refined_each [] cells xs ys node finer none at inner =
     absurd (omega (arith, ap length none, ap length at, length-append xs (node ∷ ys)))
 refined_each (root ∷ roots) cells xs ys node finer p at inner =

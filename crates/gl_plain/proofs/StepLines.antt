@@ -4,13 +4,15 @@ use Rattle.std.proofs.Common.{◌≡◌, ◌≢◌, ◌∙◌, sym, ap, refl, �
 use Rattle.std.specs.Prelude.{All, MatchOption, Option, Some, None, codes}
 use Rattle.std.specs.Fmt.{decimal}
 use Rattle.std.proofs.lemmas.Fmt.{decimal_by_steps, decimal_injective}
-use Rattle.std.proofs.lemmas.List.{append-nil, append_cancel_left, drop_more, get_or-take, get_or_at, length-take-le, take-append-drop, length-append, length-map}
+use Rattle.std.proofs.lemmas.List.{append-nil, append_cancel_left, drop_more, get_or-take, length-take-le, take-append-drop, length-append, length-map}
 use Rattle.std.proofs.lemmas.List.Elements.{All-cons, All-from_get_or, All-head, All-nil, All-push, All-tail}
 use Rattle.gl_plain.specs.declared.error.StepError.{StepError}
 use Rattle.gl_plain.specs.declared.error.StepError.TheVariants.{Line, TooMany, Memory}
 use Rattle.gl_plain.specs.declared.schedule.Step.{Step}
 use Rattle.gl_plain.specs.declared.schedule.Step.TheVariants.{Take, Steal, Split, Close, Look, Raise}
-use Rattle.gl_plain.specs.Schedule.{IsFirstSpace, IsRefused, IsSchedule, IsSpaced, IsStep, ReadsNot, line_of}
+use Rattle.gl_plain.specs.Code.Schedule.{IsFirstSpace, IsSpaced}
+use Rattle.gl_plain.specs.Schedule.{IsRefused, IsSchedule, IsStep, ReadsNot, line_of}
+use Rattle.gl_text.proofs.Characters.{first_space}
 
 -- a number is written without a space
 pub spaceless : (n : ℕ) → n < 2 ^ 64 → All (λ byte. byte ≢ 32) (decimal n)
@@ -18,19 +20,6 @@ spaceless n small =
     decimal_by_steps (λ m ds. All (λ byte. byte ≢ 32) ds)
     (λ m one. All-cons (λ byte. byte ≢ 32) (48 + m) [] (λ same. omega arith) (All-nil (λ byte. byte ≢ 32)))
     (λ m ds more none. All-push (λ byte. byte ≢ 32) ds (48 + m % 10) none (λ same. omega arith)) n small
-
--- the first space of a text parts it in one way
-pub first_space : (front other back behind : List ℕ) → All (λ byte. byte ≢ 32) front → All (λ byte. byte ≢ 32) other → front ++ 32 ∷ back ≡ other ++ 32 ∷ behind → (front ≡ other) × (back ≡ behind)
-first_space [] [] back behind none_front none_other same = (refl, cc)
-first_space [] (y ∷ ys) back behind none_front none_other same =
-    let first : y ≡ 32 = cc in absurd (none_other 0 0 (omega arith) first)
-first_space (x ∷ xs) [] back behind none_front none_other same =
-    let first : x ≡ 32 = cc in absurd (none_front 0 0 (omega arith) first)
-first_space (x ∷ xs) (y ∷ ys) back behind none_front none_other same =
-    let first : x ≡ y = cc in
-    let others : xs ++ 32 ∷ back ≡ ys ++ 32 ∷ behind = cc in
-    let rest = first_space xs ys back behind (All-tail (λ byte. byte ≢ 32) x xs none_front) (All-tail (λ byte. byte ≢ 32) y ys none_other) others in
-    (λ i. first i ∷ rest.0 i, rest.1)
 
 -- two workers with a space between them are written in one way
 pub workers_unique : (w v x y : ℕ) → w < 2 ^ 32 → v < 2 ^ 32 → x < 2 ^ 32 → y < 2 ^ 32 → decimal w ++ 32 ∷ decimal v ≡ decimal x ++ 32 ∷ decimal y → (w ≡ x) × (v ≡ y)
@@ -43,7 +32,8 @@ worker_unique w x small_w small_x = decimal_injective w x (omega arith) (omega a
 
 tail_same : (w v x y : ℕ) → line_of (Steal w v) ≡ line_of (Steal x y) → decimal w ++ 32 ∷ decimal v ≡ decimal x ++ 32 ∷ decimal y
 tail_same w v x y same =
-    let all : codes "steal " ++ (decimal w ++ 32 ∷ decimal v) ≡ codes "steal " ++ (decimal x ++ 32 ∷ decimal y) = sym (append_assoc (codes "steal ") (decimal w) (32 ∷ decimal v)) ∙ same ∙ append_assoc (codes "steal ") (decimal x) (32 ∷ decimal y) in
+    let all : codes "steal " ++ (decimal w ++ 32 ∷ decimal v) ≡ codes "steal " ++ (decimal x ++ 32 ∷ decimal y) = sym (append_assoc (codes "steal ") (decimal w) (32 ∷ decimal v)) ∙ same
+    ∙ append_assoc (codes "steal ") (decimal x) (32 ∷ decimal y) in
     ap (drop 6) all
 
 abbrev letter_at : ℕ → List ℕ → ℕ
@@ -102,7 +92,8 @@ line_unique (Raise w) (Raise x) is_a is_b same =
 
 -- where one text reads as some steps and then as none, and another way begins with more steps, it
 -- doesn't
-pub reads_on : (steps more : List Step) (wrong : List ℕ) (behind rest : List (List ℕ)) → All IsStep more → ReadsNot wrong → map line_of steps ++ wrong ∷ behind ≡ map line_of more ++ rest → length more ≤ length steps
+pub reads_on : (steps more : List Step) (wrong : List ℕ) (behind rest : List (List ℕ)) → All IsStep more → ReadsNot wrong → map line_of steps ++ wrong ∷ behind ≡ map line_of more ++ rest
+    → length more ≤ length steps
 reads_on steps [] wrong behind rest each not same = omega arith
 reads_on [] (m ∷ more) wrong behind rest each not same =
     let here : wrong ≡ line_of m = cc in absurd (not m (All-head IsStep m more each) here)
@@ -171,16 +162,12 @@ spaced_at text place first = record {
       first.none k inside (sym (get_or-take place text k 0 inside) ∙ same));
 }
 
-pub no_space : (text front back : List ℕ) → ((k : ℕ) → k < length text → get_or text k 0 ≢ 32) → text ≢ front ++ 32 ∷ back
-no_space text front back none same =
-    none (length front) (omega (arith, ap length same, length-append front (32 ∷ back)))
-    (ap (λ (l : List ℕ). get_or l (length front) 0) same ∙ get_or_at front 32 back 0 (length front) refl)
-
 abbrev IsNoWorker : List ℕ → Type 0
 IsNoWorker text = (worker : ℕ) → worker < 2 ^ 32 → text ≢ decimal worker
 
 -- behind a front
-pub worker_front : (line front rest : List ℕ) (o : Option ℕ) → line ≡ front ++ rest → MatchOption o (IsNoWorker rest) (λ worker. rest ≡ decimal worker) → MatchOption o ((worker : ℕ) → worker < 2 ^ 32 → line ≢ front ++ decimal worker) (λ worker. line ≡ front ++ decimal worker)
+pub worker_front : (line front rest : List ℕ) (o : Option ℕ) → line ≡ front ++ rest → MatchOption o (IsNoWorker rest) (λ worker. rest ≡ decimal worker)
+    → MatchOption o ((worker : ℕ) → worker < 2 ^ 32 → line ≢ front ++ decimal worker) (λ worker. line ≡ front ++ decimal worker)
 worker_front line front rest None is none = λ worker small same. none worker small (append_cancel_left front rest (decimal worker) (sym is ∙ same))
 worker_front line front rest (Some worker) is some = is ∙ ap (λ (l : List ℕ). front ++ l) some
 
@@ -189,10 +176,12 @@ pub workers_front : (line front rest : List ℕ) (worker other : ℕ) → line �
 workers_front line front rest worker other is same =
     append_cancel_left front rest (decimal worker ++ 32 ∷ decimal other) (sym is ∙ same ∙ append_assoc front (decimal worker) (32 ∷ decimal other))
 
-pub workers_parted : (rest one another : List ℕ) (worker other : ℕ) → worker < 2 ^ 32 → IsSpaced rest one another → rest ≡ decimal worker ++ 32 ∷ decimal other → (one ≡ decimal worker) × (another ≡ decimal other)
+pub workers_parted : (rest one another : List ℕ) (worker other : ℕ) → worker < 2 ^ 32 → IsSpaced rest one another → rest ≡ decimal worker ++ 32 ∷ decimal other
+    → (one ≡ decimal worker) × (another ≡ decimal other)
 workers_parted rest one another worker other small spaced same =
     first_space one (decimal worker) another (decimal other) spaced.none (spaceless worker (omega arith)) (sym spaced.is ∙ same)
 
-pub workers_joined : (line front rest one another : List ℕ) (worker other : ℕ) → line ≡ front ++ rest → IsSpaced rest one another → one ≡ decimal worker → another ≡ decimal other → line ≡ front ++ decimal worker ++ 32 ∷ decimal other
+pub workers_joined : (line front rest one another : List ℕ) (worker other : ℕ) → line ≡ front ++ rest → IsSpaced rest one another → one ≡ decimal worker → another ≡ decimal other
+    → line ≡ front ++ decimal worker ++ 32 ∷ decimal other
 workers_joined line front rest one another worker other is spaced first second =
     is ∙ ap (λ (l : List ℕ). front ++ l) (spaced.is ∙ (λ i. first i ++ 32 ∷ second i)) ∙ sym (append_assoc front (decimal worker) (32 ∷ decimal other))

@@ -1,7 +1,7 @@
 -- Totals that were found, one after another.
 use Rattle.std.proofs.Common.{◌≡◌, sym, subst, inl, inr, ℕ, ◌<◌, arith}
 use Rattle.std.specs.Prelude.{◌⊎◌, IfSome, Option, Some, None}
-use Rattle.gl_goal.specs.Rule.{Rule}
+use Rattle.gl_goal.specs.Goal.{Goal}
 use Rattle.gl_plain.specs.declared.found.Best.{Best}
 use Rattle.gl_plain.specs.Search.{IsNoLess, IsSound, total_of}
 
@@ -23,6 +23,6 @@ pub unbeaten_less : (known : Option Best) (total : ℕ) → (IfSome known (λ be
 unbeaten_less None total unbeaten = absurd (unbeaten tt)
 unbeaten_less (Some best) total unbeaten = omega arith
 
-pub either_sound : (rule : Rule) (one other best : Option Best) → (best ≡ one) ⊎ (best ≡ other) → IsSound rule one → IsSound rule other → IsSound rule best
+pub either_sound : (rule : Goal) (one other best : Option Best) → (best ≡ one) ⊎ (best ≡ other) → IsSound rule one → IsSound rule other → IsSound rule best
 either_sound rule one other best (inl is) sound sound_other = subst (IsSound rule) (sym is) sound
 either_sound rule one other best (inr is) sound sound_other = subst (IsSound rule) (sym is) sound_other

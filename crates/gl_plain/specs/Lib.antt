@@ -1,6 +1,6 @@
 pub mod Answer
-pub mod Candidate
-pub mod Finished
+pub mod CellVerdict
+pub mod Code
 pub mod Found
 pub mod Machine
 pub mod Order
@@ -9,5 +9,3 @@ pub mod Safe
 pub mod Schedule
 pub mod Search
 pub mod Steps
-pub mod Verdict
-pub mod Workers

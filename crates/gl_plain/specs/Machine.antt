@@ -7,7 +7,7 @@ use Rattle.gl_box.specs.declared.closed.Why.{Why}
 use Rattle.gl_box.specs.declared.closed.Why.TheVariants.{Disordered, Shut, Bound}
 use Rattle.gl_box.specs.Cell.{point}
 use Rattle.gl_box.specs.Halves.{AreHalves}
-use Rattle.gl_goal.specs.Rule.{Rule, IsDisordered, IsOpen, IsReached, whole_cell}
+use Rattle.gl_goal.specs.Goal.{Goal, IsDisordered, IsOpen, IsReached, whole_cell}
 use Rattle.gl_plain.specs.declared.schedule.Step.{Step}
 use Rattle.gl_plain.specs.declared.schedule.Step.TheVariants.{Take, Steal, Split, Close, Look, Raise}
 
@@ -65,19 +65,19 @@ pub record Splits (before after : Worker) : Type 0 where
   pub is : after ≡ record before { deque = before.deque ++ upper ∷ []; hand = Some lower }
 
 -- the first reason by which a cell is closed for a total, if there is a total
-abbrev pub IsFirstReason : Rule → Option ℕ → List (ℕ × ℕ) → Why → Type 0
-IsFirstReason rule total cell Disordered = IsDisordered rule.axes cell
-IsFirstReason rule total cell Shut =
-    (IsDisordered rule.axes cell → ⊥) × IsTrue (rule.shut cell)
-IsFirstReason rule total cell Bound =
-    IsOpen rule cell × IsSomeAnd total (λ greatest. rule.bound cell ≤ greatest)
+abbrev pub IsFirstReason : Goal → Option ℕ → List (ℕ × ℕ) → Why → Type 0
+IsFirstReason goal total cell Disordered = IsDisordered goal.axes cell
+IsFirstReason goal total cell Shut =
+    (IsDisordered goal.axes cell → ⊥) × IsTrue (goal.shut cell)
+IsFirstReason goal total cell Bound =
+    IsOpen goal cell × IsSomeAnd total (λ greatest. goal.bound cell ≤ greatest)
 
 -- the cell in the hand is closed for the best total that the worker has seen
-pub record Closes (rule : Rule) (before after : Worker) : Type 0 where
+pub record Closes (goal : Goal) (before after : Worker) : Type 0 where
   pub cell : List (ℕ × ℕ)
   pub why : Why
   pub held : before.hand ≡ Some cell
-  pub reason : IsFirstReason rule before.seen cell why
+  pub reason : IsFirstReason goal before.seen cell why
   pub is : after ≡ record before { hand = None; closed = before.closed ++ (cell, why) ∷ [] }
 
 -- the worker sees the best word
@@ -85,10 +85,10 @@ abbrev pub Looks : Option ℕ → Worker → Worker → Type 0
 Looks word before after = after ≡ record before { seen = word }
 
 -- the worker keeps the legal tuple in its hand, which is worth so much, and has seen that
-pub record Keeps (rule : Rule) (total : ℕ) (before after : Worker) : Type 0 where
+pub record Keeps (goal : Goal) (total : ℕ) (before after : Worker) : Type 0 where
   pub tuple : List ℕ
   pub held : before.hand ≡ Some (point tuple)
-  pub reached : IsReached rule total tuple
+  pub reached : IsReached goal total tuple
   pub above : IfSome before.kept (λ kept. kept.0 < total)
   pub is : after
       ≡ record before { seen = greater before.seen total; kept = Some (total, tuple) }
@@ -103,19 +103,19 @@ pub record Acts (Act : Worker → Worker → Type 0) (number : ℕ)
   pub is : after ≡ slice_set before number changed
 
 -- a step is made
-abbrev pub Makes : Rule → Step → State → State → Type 0
-Makes rule (Take worker) before after =
+abbrev pub Makes : Goal → Step → State → State → Type 0
+Makes goal (Take worker) before after =
     Acts Takes worker before.workers after.workers × (after.word ≡ before.word)
-Makes rule (Steal worker victim) before after =
+Makes goal (Steal worker victim) before after =
     Steals worker victim before.workers after.workers × (after.word ≡ before.word)
-Makes rule (Split worker) before after =
+Makes goal (Split worker) before after =
     Acts Splits worker before.workers after.workers × (after.word ≡ before.word)
-Makes rule (Close worker) before after =
-    Acts (Closes rule) worker before.workers after.workers × (after.word ≡ before.word)
-Makes rule (Look worker) before after =
+Makes goal (Close worker) before after =
+    Acts (Closes goal) worker before.workers after.workers × (after.word ≡ before.word)
+Makes goal (Look worker) before after =
     Acts (Looks before.word) worker before.workers after.workers × (after.word ≡ before.word)
-Makes rule (Raise worker) before after =
-    (total : ℕ) × Acts (Keeps rule total) worker before.workers after.workers
+Makes goal (Raise worker) before after =
+    (total : ℕ) × Acts (Keeps goal total) worker before.workers after.workers
     × (after.word ≡ greater before.word total)
 
 -- a change is made, or it can't be made and nothing changes
@@ -124,29 +124,29 @@ Tries Change before after =
     Change before after ⊎ (((other : _) → Change before other → ⊥) × (after ≡ before))
 
 -- a step is made, or it can't be made and changes nothing
-abbrev pub Moves : Rule → Step → State → State → Type 0
-Moves rule step before after = Tries (Makes rule step) before after
+abbrev pub Moves : Goal → Step → State → State → Type 0
+Moves goal step before after = Tries (Makes goal step) before after
 
 -- one step after another
-abbrev pub Runs : Rule → State → List Step → State → Type 0
-Runs rule before [] after = after ≡ before
-Runs rule before (step ∷ steps) after =
-    (next : State) × Moves rule step before next × Runs rule next steps after
+abbrev pub Runs : Goal → State → List Step → State → Type 0
+Runs goal before [] after = after ≡ before
+Runs goal before (step ∷ steps) after =
+    (next : State) × Moves goal step before next × Runs goal next steps after
 
 -- a worker that has nothing
 abbrev pub idle : Worker
 idle = record { deque = []; hand = None; closed = []; seen = None; kept = None }
 
 -- at first the deque of worker 0 holds the whole cell, and that is all
-abbrev pub start : Rule → ℕ → State
-start rule workers = record {
-  workers = record idle { deque = whole_cell rule.axes ∷ [] } ∷ replicate (workers - 1) idle;
+abbrev pub start : Goal → ℕ → State
+start goal workers = record {
+  workers = record idle { deque = whole_cell goal.axes ∷ [] } ∷ replicate (workers - 1) idle;
   word = None;
 }
 
 -- the state that so many workers come to by a list of steps
-abbrev pub IsAfter : Rule → ℕ → List Step → State → Type 0
-IsAfter rule workers steps after = Runs rule (start rule workers) steps after
+abbrev pub IsAfter : Goal → ℕ → List Step → State → Type 0
+IsAfter goal workers steps after = Runs goal (start goal workers) steps after
 
 -- the cells of a worker that are open: in its deque and in its hand
 abbrev pub open_cells : Worker → List (List (ℕ × ℕ))

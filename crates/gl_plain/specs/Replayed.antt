@@ -1,37 +1,24 @@
 -- What a written order of steps comes to, and what is answered once the open cells are searched.
 use Rattle.std.specs.Prelude.{◌≡◌, ℕ, List, ◌++◌, length, map, All, IsPermutation}
 use Rattle.gl_box.specs.declared.closed.Why.{Why}
-use Rattle.gl_box.specs.Cell.{spans_of}
 use Rattle.gl_box.specs.Closed.{box_of}
-use Rattle.gl_goal.specs.Rule.{Rule}
+use Rattle.gl_goal.specs.Goal.{Goal}
 use Rattle.gl_walk.specs.InLists.{boxes_in}
-use Rattle.gl_plain.specs.declared.replayed.Left.{Left}
 use Rattle.gl_plain.specs.declared.replayed.Replayed.{Replayed}
 use Rattle.gl_plain.specs.declared.schedule.Step.{Step}
 use Rattle.gl_plain.specs.Machine.{IsAfter, State, closed_in, open_in}
 use Rattle.gl_plain.specs.Safe.{IsSafe}
-use Rattle.gl_plain.specs.Search.{IsNoLess, IsSound, total_of}
 use Rattle.gl_plain.specs.Steps.{LiesInOne}
-
--- what workers left after some steps: their open and their closed cells, and a legal tuple that is
--- worth what the best word says
-pub record IsLeft (rule : Rule) (workers : ℕ) (steps : List Step) (left : Left) : Type 0 where
-  pub state : State
-  pub after : IsAfter rule workers steps state
-  pub open_ : map spans_of left.open_cells.items ≡ open_in state
-  pub closed : map box_of left.closed.items ≡ closed_in state
-  pub sound : IsSound rule left.known
-  pub known : IsNoLess state.word (total_of left.known)
 
 -- Some workers come by some steps to one state of the machine, which is safe. Its closed cells
 -- stand among the boxes with their reasons, each as often; each other box lies in a cell that was
 -- open then; and the count of closed cells is told.
-pub record IsReplay (rule : Rule) (workers : ℕ) (steps : List Step)
+pub record IsReplay (goal : Goal) (workers : ℕ) (steps : List Step)
     (replayed : Replayed) : Type 0 where
   pub state : State
-  pub after : IsAfter rule workers steps state
-  pub only : (other : State) → IsAfter rule workers steps other → other ≡ state
-  pub safe : IsSafe rule state
+  pub after : IsAfter goal workers steps state
+  pub only : (other : State) → IsAfter goal workers steps other → other ≡ state
+  pub safe : IsSafe goal state
   pub finished : List (List (ℕ × ℕ) × Why)
   pub boxes :
       IsPermutation (closed_in state ++ finished) (map box_of (boxes_in replayed.found.closed))

@@ -1,5 +1,5 @@
 -- A written order of steps as text: one step a line.
-use Rattle.std.specs.Prelude.{◌≡◌, ◌≢◌, ℕ, ◌+◌, ◌^◌, ◌<◌, ◌≤◌, List, ◌∷◌, ◌++◌, length, map, slice_index, codes, All}
+use Rattle.std.specs.Prelude.{◌≡◌, ◌≢◌, ℕ, ◌+◌, ◌^◌, ◌<◌, ◌≤◌, List, ◌∷◌, ◌++◌, length, map, codes, All}
 use Rattle.std.specs.Fmt.{decimal}
 use Rattle.gl_text.specs.Lines.{lines_of}
 use Rattle.gl_plain.specs.declared.error.StepError.{StepError}
@@ -25,25 +25,9 @@ IsStep (Close worker) = worker < 2 ^ 32
 IsStep (Look worker) = worker < 2 ^ 32
 IsStep (Raise worker) = worker < 2 ^ 32
 
--- a line is that of a step
-pub record IsLineOf (line : List ℕ) (step : Step) : Type 0 where
-  pub is_step : IsStep step
-  pub is : line ≡ line_of step
-
 -- a line is that of no step
 abbrev pub ReadsNot : List ℕ → Type 0
 ReadsNot line = (step : Step) → IsStep step → line ≢ line_of step
-
--- the place of the first space of a text
-pub record IsFirstSpace (text : List ℕ) (place : ℕ) : Type 0 where
-  pub inside : place < length text
-  pub is : slice_index text place ≡ 32
-  pub none : (k : ℕ) → k < place → slice_index text k ≢ 32
-
--- a text with its first space, and what stands before and behind it
-pub record IsSpaced (text front back : List ℕ) : Type 0 where
-  pub is : text ≡ front ++ 32 ∷ back
-  pub none : All (λ byte. byte ≢ 32) front
 
 -- the lines of a text are those of at most 1,000,000 steps
 pub record IsSchedule (text : List ℕ) (steps : List Step) : Type 0 where

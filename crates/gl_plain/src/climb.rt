@@ -1,7 +1,7 @@
 ghost use Rattle.std.specs.Prelude.{◌≡◌, ◌<◌, ℕ};
 ghost use Rattle.gl_box.specs.Tuple.{places_of};
 ghost use Rattle.gl_box.specs.Cell.{Covers, spans_of};
-ghost use Rattle.gl_goal.specs.Rule.{IsTuple, whole_cell};
+ghost use Rattle.gl_goal.specs.Goal.{IsTuple, whole_cell};
 ghost use Rattle.gl_plain.specs.Search.{IsSound};
 
 use crate::dive::{Candidate, dive};

@@ -1,12 +1,12 @@
 ghost use Rattle.std.specs.Prelude.{◌≡◌, ◌++◌, All, IfSome, OnOk};
 ghost use Rattle.std.specs.Option.{option_to_list};
 ghost use Rattle.gl_box.specs.Cell.{Covers, spans_of};
-ghost use Rattle.gl_goal.specs.Rule.{whole_cell};
+ghost use Rattle.gl_goal.specs.Goal.{whole_cell};
 ghost use Rattle.gl_plain.specs.Search.{IsSound};
-ghost use Rattle.gl_plain.specs.Candidate.{AreWithin};
+ghost use Rattle.gl_plain.specs.Code.Steps.{AreWithin};
 
 use crate::found::{Best, beats};
-use crate::verdict::{Verdict, consider, test};
+use crate::verdict::{CellVerdict, consider, test};
 use gl_box::{Cell, split};
 use gl_goal::{Goal, Leg};
 use std::alloc::AllocError;
@@ -31,8 +31,8 @@ fn tested<G: Goal>(
     ensures legs { G.are_legs goal.now legs.new }
 {
     match test(goal, cell, best, legs) {
-        Verdict::Open(bound) => Some(Candidate { cell: *cell, bound }),
-        Verdict::Closed(_) => None,
+        CellVerdict::Open(bound) => Some(Candidate { cell: *cell, bound }),
+        CellVerdict::Closed(_) => None,
     }
 }
 

@@ -23,5 +23,5 @@ pub use order::{in_order, join_in_order};
 pub use replayed::{Replayed, replay};
 pub use schedule::{Step, read_steps};
 pub use search::search_one;
-pub use verdict::{Verdict, test_for};
+pub use verdict::{CellVerdict, test_for};
 pub use warm::warm_start;

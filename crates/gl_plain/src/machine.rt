@@ -1,7 +1,7 @@
 ghost use Rattle.std.specs.Prelude.{◌≡◌, ◌≤◌, IfOk, OnOk};
 ghost use Rattle.gl_plain.specs.Machine.{Acts, Closes, Keeps, Looks, Moves, Runs, Splits, Steals, Takes, Tries, start};
 ghost use Rattle.gl_plain.specs.Safe.{IsSafe};
-ghost use Rattle.gl_plain.specs.Workers.{AreCovered, Raises, state_of, workers_of};
+ghost use Rattle.gl_plain.specs.Code.Workers.{AreCovered, Raises, state_of, workers_of};
 
 use crate::schedule::Step;
 use crate::worker::{Worker, greater};

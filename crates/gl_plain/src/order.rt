@@ -117,14 +117,16 @@ fn first_way(whole: &Cell, list: &Vec<Closed>) -> u128 {
 }
 
 /// The boxes of some lists in the order of the split tree of a cell which they part together. Lists
-/// that are in order, each of which has its boxes next to each other, stay as they are, in the order
+/// that are in order, each of which has its boxes next to each other, stay as they are, in the
+/// order
 /// of their first boxes, and no box is copied. The only error is want of memory.
 pub fn join_in_order(
     alloc: Global,
     whole: &Cell,
     mut lists: Vec<Vec<Closed>>,
 ) -> Result<Boxes, AllocError>
-    requires { AreParts (spans_of whole.now) (cells_of (flat_map (λ list. list.items) lists.items)) }
+    requires { AreParts (spans_of whole.now)
+        (cells_of (flat_map (λ list. list.items) lists.items)) }
     ensures frontier { IfOk result
         (λ boxes. IsFrontier (spans_of whole.now) (cells_of (boxes_in boxes))) }
     ensures permutation { IfOk result

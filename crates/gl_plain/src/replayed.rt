@@ -2,12 +2,12 @@ ghost use Rattle.std.specs.Prelude.{◌≡◌, ◌≤◌, ◌↔◌, ◌++◌, A
 ghost use Rattle.std.specs.List.{flat_map};
 ghost use Rattle.gl_box.specs.Cell.{spans_of};
 ghost use Rattle.gl_box.specs.Closed.{box_of};
-ghost use Rattle.gl_goal.specs.Rule.{HasNoLegal, IsOptimum};
+ghost use Rattle.gl_goal.specs.Goal.{HasNoLegal, IsOptimum};
 ghost use Rattle.gl_plain.specs.Found.{HoldsEachOnce, IsCertified};
 ghost use Rattle.gl_plain.specs.Machine.{open_cells};
-ghost use Rattle.gl_plain.specs.Replayed.{IsLeft, IsReplay};
+ghost use Rattle.gl_plain.specs.Code.Workers.{IsLeft, worker_of, workers_of};
+ghost use Rattle.gl_plain.specs.Replayed.{IsReplay};
 ghost use Rattle.gl_plain.specs.Search.{IsNoLess, IsSound, total_of};
-ghost use Rattle.gl_plain.specs.Workers.{worker_of, workers_of};
 
 use crate::found::{Best, Found, better};
 use crate::machine::Machine;

@@ -3,7 +3,8 @@ ghost use Rattle.std.specs.Fmt.{decimal};
 ghost use Rattle.gl_plain.specs.declared.error.StepError.{StepError};
 ghost use Rattle.gl_plain.specs.declared.error.StepError.TheVariants.{Memory};
 ghost use Rattle.gl_plain.specs.declared.schedule.Step.{Step};
-ghost use Rattle.gl_plain.specs.Schedule.{IsFirstSpace, IsLineOf, IsRefused, IsSchedule, IsSpaced, ReadsNot};
+ghost use Rattle.gl_plain.specs.Code.Schedule.{IsFirstSpace, IsLineOf, IsSpaced};
+ghost use Rattle.gl_plain.specs.Schedule.{IsRefused, IsSchedule, ReadsNot};
 
 use crate::error::StepError;
 use gl_text::{next_line, read_u64};

@@ -1,14 +1,14 @@
 ghost use Rattle.std.specs.Prelude.{◌<◌, ◌↔◌, [], ℕ, List, All, IfOk, IsNone, OnOk, map, reverse, vec_len};
 ghost use Rattle.gl_box.specs.Cell.{Covers, spans_of};
 ghost use Rattle.gl_box.specs.Frontier.{IsNode};
-ghost use Rattle.gl_goal.specs.Rule.{HasNoLegal, IsOptimum, whole_cell};
+ghost use Rattle.gl_goal.specs.Goal.{HasNoLegal, IsOptimum, whole_cell};
 ghost use Rattle.gl_plain.specs.Search.{IsNoLess, IsSound, total_of};
-ghost use Rattle.gl_plain.specs.Steps.{Advances, Closes, IsUnderWay};
-ghost use Rattle.gl_plain.specs.Finished.{IsFinished};
+ghost use Rattle.gl_plain.specs.Code.Steps.{Advances, IsUnderWay, IsFinished};
+ghost use Rattle.gl_plain.specs.Steps.{Closes};
 ghost use Rattle.gl_plain.specs.Found.{AreNeeded, HoldsEachOnce, IsCertified};
 
 use crate::found::{Best, Found, better};
-use crate::verdict::{Verdict, test};
+use crate::verdict::{CellVerdict, test};
 use crate::warm::warm_start;
 use gl_box::{Cell, Closed, Why, halve};
 use gl_goal::{Goal, Leg, measured_legs, whole};
@@ -65,8 +65,8 @@ fn advance<G: Goal>(
 {
     let top = cells.len() - 1;
     match test(goal, &cells[top], best, legs) {
-        Verdict::Closed(why) => close(cells, boxes, why)?,
-        Verdict::Open(bound) => match halve(&mut cells[top]) {
+        CellVerdict::Closed(why) => close(cells, boxes, why)?,
+        CellVerdict::Open(bound) => match halve(&mut cells[top]) {
             Some(lower) => cells.push(lower)?,
             None => {
                 *best = Some(Best {

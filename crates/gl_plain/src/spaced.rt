@@ -1,6 +1,6 @@
 ghost use Rattle.std.specs.Prelude.{◌≡◌, ◌≤◌, ◌<◌, All, IfOk, length};
 ghost use Rattle.gl_box.specs.Tuple.{places_of};
-ghost use Rattle.gl_goal.specs.Rule.{IsTuple};
+ghost use Rattle.gl_goal.specs.Goal.{IsTuple};
 ghost use Rattle.gl_plain.specs.Search.{IsSound};
 
 use crate::found::Best;

@@ -1,9 +1,9 @@
 ghost use Rattle.std.specs.Prelude.{◌≡◌};
 ghost use Rattle.gl_box.specs.Tuple.{places_of};
 ghost use Rattle.gl_box.specs.Cell.{Covers, spans_of};
-ghost use Rattle.gl_goal.specs.Rule.{IsTuple, whole_cell};
+ghost use Rattle.gl_goal.specs.Goal.{IsTuple, whole_cell};
 ghost use Rattle.gl_plain.specs.Search.{IsSound, total_of};
-ghost use Rattle.gl_plain.specs.Verdict.{IsVerdict};
+ghost use Rattle.gl_plain.specs.CellVerdict.{IsCellVerdict};
 
 use crate::found::Best;
 use gl_box::{Cell, Tuple, Why};
@@ -11,7 +11,7 @@ use gl_goal::{Goal, Leg};
 
 /// What a goal's tests say of a cell.
 #[derive(Clone, Copy, Debug, PartialEq, Eq)]
-pub enum Verdict {
+pub enum CellVerdict {
     /// Nothing in it has to be looked at any more.
     Closed(Why),
     /// It may hold a legal tuple that is worth this much, more than what was found.
@@ -20,33 +20,39 @@ pub enum Verdict {
 
 /// Tests a cell against a total that was found, if one was. `legs` are some that were measured.
 #[inline(always)]
-pub fn test_for<G: Goal>(goal: &G, cell: &Cell, total: Option<u64>, legs: &mut [Leg]) -> Verdict
+pub fn test_for<G: Goal>(goal: &G, cell: &Cell, total: Option<u64>, legs: &mut [Leg]) -> CellVerdict
     requires covers { Covers (whole_cell (G.rule goal.now).axes) (spans_of cell.now) }
     requires legs { G.are_legs goal.now legs.old }
-    ensures verdict { IsVerdict (G.rule goal.now) total (spans_of cell.now) result }
+    ensures verdict { IsCellVerdict (G.rule goal.now) total (spans_of cell.now) result }
     ensures legs { G.are_legs goal.now legs.new }
 {
     if goal.disordered(cell) {
-        return Verdict::Closed(Why::Disordered);
+        return CellVerdict::Closed(Why::Disordered);
     }
     if goal.shut(cell) {
-        return Verdict::Closed(Why::Shut);
+        return CellVerdict::Closed(Why::Shut);
     }
     let bound = goal.bound_by(cell, legs);
     if let Some(total) = total
         && bound <= total
     {
-        return Verdict::Closed(Why::Bound);
+        return CellVerdict::Closed(Why::Bound);
     }
-    Verdict::Open(bound)
+    CellVerdict::Open(bound)
 }
 
 /// Tests a cell against what was found. `legs` are some that were measured.
 #[inline(always)]
-pub(crate) fn test<G: Goal>(goal: &G, cell: &Cell, best: &Option<Best>, legs: &mut [Leg]) -> Verdict
+pub(crate) fn test<G: Goal>(
+    goal: &G,
+    cell: &Cell,
+    best: &Option<Best>,
+    legs: &mut [Leg],
+) -> CellVerdict
     requires covers { Covers (whole_cell (G.rule goal.now).axes) (spans_of cell.now) }
     requires legs { G.are_legs goal.now legs.old }
-    ensures verdict { IsVerdict (G.rule goal.now) (total_of best.now) (spans_of cell.now) result }
+    ensures verdict { IsCellVerdict (G.rule goal.now) (total_of best.now)
+        (spans_of cell.now) result }
     ensures legs { G.are_legs goal.now legs.new }
 {
     let total = match best {

@@ -2,9 +2,9 @@ ghost use Rattle.std.specs.Prelude.{◌≡◌, ◌++◌, [], IfNone, IfSome, Mat
 ghost use Rattle.std.specs.Option.{option_to_list};
 ghost use Rattle.gl_box.specs.declared.closed.Why.{Why};
 ghost use Rattle.gl_box.specs.Cell.{Covers, spans_of};
-ghost use Rattle.gl_goal.specs.Rule.{whole_cell};
+ghost use Rattle.gl_goal.specs.Goal.{whole_cell};
 ghost use Rattle.gl_plain.specs.Machine.{Closes, IsFirstReason, Keeps, Looks, Splits, Takes, Tries, greater, idle};
-ghost use Rattle.gl_plain.specs.Workers.{Raises, worker_of};
+ghost use Rattle.gl_plain.specs.Code.Workers.{Raises, worker_of};
 
 use crate::found::{Best, beats};
 use gl_box::{Cell, Closed, Why, split};

@@ -8,7 +8,8 @@ use Rattle.std.proofs.lemmas.List.Elements.{All-nil, All-cons, All-contains, All
 use Rattle.std.proofs.lemmas.List.Sums.{length-filter}
 use Rattle.std.proofs.lemmas.List.Sorted.{sum_by-IsPermutation}
 use Rattle.gl_points.specs.declared.performance.Performance.{Performance}
-use Rattle.gl_points.specs.Fraction.{Fraction, IsAtMost, IsSame, is_at_most, is_same, whole}
+use Rattle.gl_points.specs.Fraction.{Fraction, IsAtMost, is_at_most, is_same, whole}
+use Rattle.gl_points.specs.Code.Fractions.{IsSame}
 use Rattle.gl_points.specs.Figures.{IsGreatestFigure, least_number}
 use Rattle.gl_points.proofs.Least.{fold_min_low}
 use Rattle.gl_points.proofs.Held.{all_from_filter}
@@ -32,10 +33,11 @@ also_mapped f xs ys also P held = All-map P f ys (also (λ x. P (f x)) (all_from
 -- how many pass
 filter_filter : {X : Type 0} (first second : X → Bool) (xs : List X) → filter second (filter first xs) ≡ filter (λ x. cond (first x) (second x) false) xs
 filter_filter first second [] = refl
-filter_filter first second (x ∷ xs) = elim (first x) as (λ b. filter second (cond b (x ∷ filter first xs) (filter first xs)) ≡ cond (cond b (second x) false) (x ∷ filter (λ y. cond (first y) (second y) false) xs) (filter (λ y. cond (first y) (second y) false) xs)) [
-  | true ↦ ap (λ rest. cond (second x) (x ∷ rest) rest) (filter_filter first second xs)
-  | false ↦ filter_filter first second xs
-]
+filter_filter first second (x ∷ xs) = elim (first x) as (λ b. filter second (cond b (x ∷ filter first xs) (filter first xs))
+    ≡ cond (cond b (second x) false) (x ∷ filter (λ y. cond (first y) (second y) false) xs) (filter (λ y. cond (first y) (second y) false) xs)) [
+      | true ↦ ap (λ rest. cond (second x) (x ∷ rest) rest) (filter_filter first second xs)
+      | false ↦ filter_filter first second xs
+    ]
 
 pub count_alike : {X : Type 0} (test : X → Bool) (xs ys : List X) → IsPermutation xs ys → length (filter test ys) ≡ length (filter test xs)
 count_alike test xs ys same = length-filter test ys ∙ sum_by-IsPermutation (λ x. cond (test x) 1 0) xs ys same ∙ sym (length-filter test xs)
@@ -46,7 +48,8 @@ count_both_alike {X} first second xs ys same =
     ap length (filter_filter first second ys) ∙ count_alike both xs ys same ∙ sym (ap length (filter_filter first second xs))
 
 -- the greatest of a figure is no greater in a list with the same items
-pub greatest_alike : (figure : Performance → Fraction) (xs ys : List Performance) (first second : Fraction) → ((P : Performance → Type 0) → All P ys → All P xs) → IsGreatestFigure figure xs first → IsGreatestFigure figure ys second → IsAtMost first second
+pub greatest_alike : (figure : Performance → Fraction) (xs ys : List Performance) (first second : Fraction) → ((P : Performance → Type 0) → All P ys → All P xs) → IsGreatestFigure figure xs first
+    → IsGreatestFigure figure ys second → IsAtMost first second
 greatest_alike figure xs ys first second also ours theirs =
     let P : Fraction → Type 0 = λ each. IsAtMost each second in
     All-contains P (whole 0 ∷ map figure xs) first (All-cons P (whole 0) (map figure xs) (omega arith) (All-map P figure xs (also (λ p. IsAtMost (figure p) second) theirs.above))) ours.among

@@ -15,8 +15,10 @@ finishers_low [] = omega arith
 finishers_low (p ∷ list) =
     let rest = finishers_low list in
     elim p.finished as (λ b. (IsTrue b → IsTrue p.launched) → length (cond b (p ∷ filter (λ q. q.finished) list) (filter (λ q. q.finished) list)) ≤ length (filter (λ q. q.launched) (p ∷ list))) [
-      | true ↦ λ launches. subst (λ b. length (p ∷ filter (λ q. q.finished) list) ≤ length (cond b (p ∷ filter (λ q. q.launched) list) (filter (λ q. q.launched) list))) (sym (launches refl)) (omega (arith, rest))
-      | false ↦ λ launches. elim p.launched as (λ b. length (filter (λ q. q.finished) list) ≤ length (cond b (p ∷ filter (λ q. q.launched) list) (filter (λ q. q.launched) list))) [ true ↦ omega (arith, rest) | false ↦ omega (arith, rest) ]
+      | true ↦ λ launches. subst (λ b. length (p ∷ filter (λ q. q.finished) list) ≤ length (cond b (p ∷ filter (λ q. q.launched) list) (filter (λ q. q.launched) list))) (sym (launches refl))
+          (omega (arith, rest))
+      | false ↦ λ launches. elim p.launched as (λ b. length (filter (λ q. q.finished) list) ≤ length (cond b (p ∷ filter (λ q. q.launched) list) (filter (λ q. q.launched) list)))
+          [ true ↦ omega (arith, rest) | false ↦ omega (arith, rest) ]
     ] p.launched_to_finish
 
 pub fast_launched : (test : Performance → Bool) (list : List Performance) → length (filter test (filter (λ p. p.finished) list)) ≤ length (filter (λ p. p.launched) list)

@@ -6,8 +6,8 @@ use Rattle.std.proofs.lemmas.Bool.Decides.{nat_tests}
 use Rattle.std.proofs.lemmas.List.Elements.{All-cons, All-head, All-nil, All-tail, All-weaker, filter_passes}
 use Rattle.std.proofs.lemmas.List.Sorted.{IsPermutation-refl}
 use Rattle.gl_points.specs.declared.performance.Performance.{Performance}
-use Rattle.gl_points.specs.declared.summary.Day.{Day}
-use Rattle.gl_points.specs.Day.{IsDayOf, finishers_of, launched_of, least_handicap, most_points_of_day, points_by_distance, points_by_time}
+use Rattle.gl_points.specs.declared.summary.Summary.{Summary}
+use Rattle.gl_points.specs.Summary.{IsSummaryOf, finishers_of, launched_of, least_handicap, most_points_of_day, points_by_distance, points_by_time}
 use Rattle.gl_points.specs.Figures.{IsGreatestFigure, handicapped_distance, handicapped_speed, is_far, is_fast, is_fastest, least_number}
 use Rattle.gl_points.specs.Fraction.{Fraction, IsAtMost, is_at_most, lesser, whole}
 use Rattle.gl_points.specs.Limits.{distance_limit, handicap_limit, performance_limit, point_limit, time_limit}
@@ -18,7 +18,7 @@ use Rattle.gl_points.proofs.Least.{handicap_low}
 use Rattle.gl_points.proofs.Orders.{at_most_itself, at_most_trans}
 
 -- the points of a performance are the same by any two figures of the same performances
-pub points_same : (list : List Performance) (one other : Day) (p : Performance) → Contains list p → IsDayOf list one → IsDayOf list other → points_earned one p ≡ points_earned other p
+pub points_same : (list : List Performance) (one other : Summary) (p : Performance) → Contains list p → IsSummaryOf list one → IsSummaryOf list other → points_earned one p ≡ points_earned other p
 points_same list one other p among first second = same_in_any_order other p list list one second among (IsPermutation-refl list) first
 
 -- a fraction within bounds
@@ -32,14 +32,17 @@ later x y xs z (zero, within, at) = (0, omega arith, at)
 later x y xs z (suc k, within, at) = (suc (suc k), omega (arith, within), at)
 
 -- the greatest of one figure more
-greatest_tested : (num den : ℕ) (figure : Performance → Fraction) (p : Performance) (ps : List Performance) (best : Fraction) (test : Bool) → is_at_most best (figure p) ≡ test → IsBounded num den (figure p) → IsBounded num den best → IsGreatestFigure figure ps best → (greatest : Fraction) × IsBounded num den greatest × IsGreatestFigure figure (p ∷ ps) greatest
+greatest_tested : (num den : ℕ) (figure : Performance → Fraction) (p : Performance) (ps : List Performance) (best : Fraction) (test : Bool) → is_at_most best (figure p) ≡ test
+    → IsBounded num den (figure p) → IsBounded num den best → IsGreatestFigure figure ps best → (greatest : Fraction) × IsBounded num den greatest × IsGreatestFigure figure (p ∷ ps) greatest
 greatest_tested num den figure p ps best true is here there greatest =
     let grows : IsAtMost best (figure p) = grind (arith, nat_tests) in (
       figure p,
       here,
       record {
         among = (1, omega arith, refl);
-        above = All-cons (λ (q : Performance). IsAtMost (figure q) (figure p)) p ps (at_most_itself (figure p)) (All-weaker (λ (q : Performance). IsAtMost (figure q) best) (λ (q : Performance). IsAtMost (figure q) (figure p)) (λ q low. at_most_trans (figure q) best (figure p) there.divides low grows) ps greatest.above);
+        above = All-cons (λ (q : Performance). IsAtMost (figure q) (figure p)) p ps (at_most_itself (figure p))
+            (All-weaker (λ (q : Performance). IsAtMost (figure q) best) (λ (q : Performance). IsAtMost (figure q) (figure p))
+            (λ q low. at_most_trans (figure q) best (figure p) there.divides low grows) ps greatest.above);
       },
     )
 greatest_tested num den figure p ps best false is here there greatest =
@@ -53,7 +56,8 @@ greatest_tested num den figure p ps best false is here there greatest =
     )
 
 -- a figure of some performances has a greatest
-some_greatest : (num den : ℕ) (figure : Performance → Fraction) (list : List Performance) → 1 ≤ den → All (λ p. IsBounded num den (figure p)) list → (greatest : Fraction) × IsBounded num den greatest × IsGreatestFigure figure list greatest
+some_greatest : (num den : ℕ) (figure : Performance → Fraction) (list : List Performance) → 1 ≤ den → All (λ p. IsBounded num den (figure p)) list
+    → (greatest : Fraction) × IsBounded num den greatest × IsGreatestFigure figure list greatest
 some_greatest num den figure [] some bounded =
     (whole 0, record { num_low = omega arith; den_low = some; divides = omega arith }, record { among = (0, omega arith, refl); above = All-nil (λ p. IsAtMost (figure p) (whole 0)) })
 some_greatest num den figure (p ∷ ps) some bounded =
@@ -92,7 +96,8 @@ lesser_most a b false is most divides low =
 
 distance_most : (distance : Fraction) → 1 ≤ distance.den → distance.den ≤ handicap_limit → IsMost (lesser (whole point_limit) (points_by_distance distance))
 distance_most distance divides low =
-    lesser_most (whole point_limit) (points_by_distance distance) (is_at_most (whole point_limit) (points_by_distance distance)) refl (record { num_low = omega arith; den_low = omega arith; divides = omega arith }) (omega arith) (omega arith)
+    lesser_most (whole point_limit) (points_by_distance distance) (is_at_most (whole point_limit) (points_by_distance distance)) refl
+    (record { num_low = omega arith; den_low = omega arith; divides = omega arith }) (omega arith) (omega arith)
 
 most_of_day : (distance : Fraction) (time : Option ℕ) → 1 ≤ distance.den → distance.den ≤ handicap_limit → IsMost (most_points_of_day distance time)
 most_of_day distance None divides low = distance_most distance divides low
@@ -101,18 +106,20 @@ most_of_day distance (Some time) divides low =
     lesser_most most (points_by_time time) (is_at_most most (points_by_time time)) refl (distance_most distance divides low) (omega arith) (omega arith)
 
 -- at most 256 performances have the figures of a day
-pub some_day : (list : List Performance) → length list ≤ performance_limit → (day : Day) × IsDayOf list day
+pub some_day : (list : List Performance) → length list ≤ performance_limit → (day : Summary) × IsSummaryOf list day
 some_day list few =
     let launched = launched_of list in
     let finishers = finishers_of list in
     let least = least_handicap list in
     let low : least ≤ handicap_limit = handicap_low launched in
-    let distance = some_greatest (distance_limit * handicap_limit) handicap_limit (handicapped_distance least) launched (omega arith) (λ k d within. distance_bounded least (get_or launched k d) low) in
-    let speed = some_greatest (distance_limit * handicap_limit) (handicap_limit * time_limit) (handicapped_speed least) finishers (omega arith) (λ k d within. speed_bounded least (get_or finishers k d) low (filter_passes (λ (p : Performance). p.finished) list k d within)) in
+    let distance = some_greatest (distance_limit * handicap_limit) handicap_limit (handicapped_distance least) launched (omega arith)
+    (λ k d within. distance_bounded least (get_or launched k d) low) in
+    let speed = some_greatest (distance_limit * handicap_limit) (handicap_limit * time_limit) (handicapped_speed least) finishers (omega arith)
+    (λ k d within. speed_bounded least (get_or finishers k d) low (filter_passes (λ (p : Performance). p.finished) list k d within)) in
     let time = least_number (map (λ (p : Performance). p.seconds) (filter (is_fastest least speed.0) finishers)) in
     let fits = most_of_day distance.0 time distance.1.divides distance.1.den_low in
     let most = most_points_of_day distance.0 time in
-    let day : Day = record {
+    let day : Summary = record {
       launched = length launched;
       far = length (filter (is_far least) launched);
       fast = length (filter (is_fast least speed.0) finishers);

@@ -1,5 +1,5 @@
 -- The limits of a performance and of a day.
-use Rattle.std.specs.Prelude.{ℕ, ◌*◌}
+use Rattle.std.specs.Prelude.{ℕ}
 
 -- the greatest distance that is marked, in metres
 abbrev pub distance_limit : ℕ
@@ -20,7 +20,3 @@ performance_limit = 256
 -- the most points of a day
 abbrev pub point_limit : ℕ
 point_limit = 1_000
-
--- the greatest product of the numbers below two speeds' fractions
-abbrev pub speed_product_limit : ℕ
-speed_product_limit = distance_limit * handicap_limit * handicap_limit * time_limit

@@ -12,7 +12,8 @@ pub struct Frac {
 
 impl Frac {
     ghost use Rattle.std.specs.Prelude.{◌≡◌, ℕ, ◌<◌, ◌*◌, ◌^◌};
-    ghost use Rattle.gl_points.specs.Fraction.{◌÷◌, ◌⊗◌, IsAtMost, is_at_most, is_same, greater, lesser, rounded, whole};
+    ghost use Rattle.gl_points.specs.Fraction.{◌÷◌, ◌⊗◌, IsAtMost, is_at_most, is_same, lesser, rounded, whole};
+    ghost use Rattle.gl_points.specs.Code.Fractions.{greater};
     ghost use Rattle.gl_points.specs.Limits.{point_limit};
     ghost use Rattle.gl_points.specs.Worth.{worth};
 

@@ -14,4 +14,4 @@ pub use figures::day;
 pub use frac::Frac;
 pub use performance::Performance;
 pub use points::{net, score};
-pub use summary::Day;
+pub use summary::Summary;

@@ -1,5 +1,5 @@
 ghost use Rattle.std.specs.Prelude.{◌≡◌, ◌≤◌, ◌*◌};
-ghost use Rattle.gl_points.specs.Day.{most_points_of_day, points_by_distance, points_by_time};
+ghost use Rattle.gl_points.specs.Summary.{most_points_of_day, points_by_distance, points_by_time};
 ghost use Rattle.gl_points.specs.Limits.{distance_limit, handicap_limit, point_limit};
 ghost use Rattle.gl_points.specs.Worth.{worth};
 

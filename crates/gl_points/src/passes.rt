@@ -1,5 +1,5 @@
 ghost use Rattle.std.specs.Prelude.{◌≡◌, ◌<◌, ◌≤◌, ◌*◌, filter, length, map};
-ghost use Rattle.gl_points.specs.Day.{least_handicap, finishers_of, launched_of, most_points_of_day};
+ghost use Rattle.gl_points.specs.Summary.{least_handicap, finishers_of, launched_of, most_points_of_day};
 ghost use Rattle.gl_points.specs.Figures.{IsGreatestFigure, handicapped_distance, handicapped_speed, is_far, is_fast, is_fastest, least_number};
 ghost use Rattle.gl_points.specs.Limits.{distance_limit, handicap_limit, performance_limit, time_limit};
 ghost use Rattle.gl_points.specs.Worth.{worth};

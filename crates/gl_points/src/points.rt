@@ -1,20 +1,20 @@
 ghost use Rattle.std.specs.Prelude.{◌≡◌, ◌<◌, ◌≤◌, ◌+◌, ◌-◌, ◌*◌, ◌^◌, IsTrue, if◌then◌else◌};
-ghost use Rattle.gl_points.specs.Day.{IsWithinDistance, IsWithinSpeed};
+ghost use Rattle.gl_points.specs.Code.Fractions.{IsWithinDistance, IsWithinSpeed, IsSame, speed_product_limit};
 ghost use Rattle.gl_points.specs.Figures.{handicapped_distance};
-ghost use Rattle.gl_points.specs.Fraction.{IsNearest, IsSame, ◌÷◌, ◌⊗◌, ◌⊘◌, rounded};
+ghost use Rattle.gl_points.specs.Fraction.{IsNearest, ◌÷◌, ◌⊗◌, ◌⊘◌, rounded};
 ghost use Rattle.gl_points.specs.Laws.{IsAheadOfShorter, IsAheadOfSlower, IsBelowFinishers, IsSameInAnyOrder};
-ghost use Rattle.gl_points.specs.Limits.{handicap_limit, performance_limit, point_limit, speed_product_limit};
+ghost use Rattle.gl_points.specs.Limits.{handicap_limit, performance_limit, point_limit};
 ghost use Rattle.gl_points.specs.Points.{IsPartOf, completion_factor, day_factor, exact_points, points_earned, points_of_finisher, points_of_outlanding, share_of_speed};
 ghost use Rattle.gl_points.specs.Worth.{worth};
 
 use crate::frac::Frac;
 use crate::performance::Performance;
-use crate::summary::Day;
+use crate::summary::Summary;
 
 /// How much the day counts: the factor by how many flew far times that by how many of them were
 /// fast, at most 1.
 #[tactic(auto, using(crate::proofs::Shares::factor_same))]
-fn factor(day: &Day) -> Frac
+fn factor(day: &Summary) -> Frac
     requires { 1 ≤ day.now.far }
     ensures same { IsSame (worth result) (day_factor day.now ⊗ completion_factor day.now) }
     ensures at_most_one { result.num ≤ result.den }
@@ -28,7 +28,7 @@ fn factor(day: &Day) -> Frac
 
 /// How far a finisher's speed is on the way from two thirds of the greatest to the greatest.
 #[tactic(auto, unfolding(crate::specs::Points::share_of_speed))]
-fn speed_share(day: &Day, performance: &Performance) -> Frac
+fn speed_share(day: &Summary, performance: &Performance) -> Frac
     requires finished { IsTrue performance.now.finished }
     requires at_most { IsWithinSpeed day.now performance.now }
     ensures same { IsSame (worth result) (share_of_speed day.now performance.now) }
@@ -48,7 +48,7 @@ fn speed_share(day: &Day, performance: &Performance) -> Frac
 }
 
 /// A distance as a share of the greatest.
-fn distance_share(day: &Day, performance: &Performance) -> Frac
+fn distance_share(day: &Summary, performance: &Performance) -> Frac
     requires some { 0 < day.now.distance.num }
     requires at_most { IsWithinDistance day.now performance.now }
     ensures worth { worth result
@@ -64,7 +64,7 @@ fn distance_share(day: &Day, performance: &Performance) -> Frac
 }
 
 /// The part of the most points that is for distance, and a share of the part that is for speed.
-fn whole_distance_and(share: &Frac, day: &Day) -> Frac
+fn whole_distance_and(share: &Frac, day: &Summary) -> Frac
     requires launched { 1 ≤ day.now.launched }
     requires at_most_one { share.now.num ≤ share.now.den }
     requires den { share.now.den ≤ speed_product_limit }
@@ -84,7 +84,7 @@ fn whole_distance_and(share: &Frac, day: &Day) -> Frac
 }
 
 /// A share of the part of the most points that is for distance.
-fn of_distance(share: &Frac, day: &Day) -> Frac
+fn of_distance(share: &Frac, day: &Summary) -> Frac
     requires launched { 1 ≤ day.now.launched }
     requires at_most_one { share.now.num ≤ share.now.den }
     requires den { share.now.den ≤ speed_product_limit }
@@ -101,7 +101,7 @@ fn of_distance(share: &Frac, day: &Day) -> Frac
 }
 
 /// A finisher's part of the most points.
-fn finisher_part(day: &Day, performance: &Performance) -> Frac
+fn finisher_part(day: &Summary, performance: &Performance) -> Frac
     requires launched { 1 ≤ day.now.launched }
     requires finished { IsTrue performance.now.finished }
     requires at_most { IsWithinSpeed day.now performance.now }
@@ -114,7 +114,7 @@ fn finisher_part(day: &Day, performance: &Performance) -> Frac
 }
 
 /// An outlanding's part of the most points.
-fn outlanding_part(day: &Day, performance: &Performance) -> Frac
+fn outlanding_part(day: &Summary, performance: &Performance) -> Frac
     requires launched { 1 ≤ day.now.launched }
     requires some { 0 < day.now.distance.num }
     requires at_most { IsWithinDistance day.now performance.now }
@@ -127,7 +127,7 @@ fn outlanding_part(day: &Day, performance: &Performance) -> Frac
 }
 
 /// One's part of the most points.
-fn part(day: &Day, performance: &Performance) -> Frac
+fn part(day: &Summary, performance: &Performance) -> Frac
     requires launched { 1 ≤ day.now.launched }
     requires some { 0 < day.now.distance.num }
     requires distance { IsWithinDistance day.now performance.now }
@@ -169,7 +169,7 @@ fn product(factor: &Frac, most: &Frac, part: &Frac) -> Frac
 }
 
 /// The points of one who was launched, on a day on which somebody flew far.
-fn earned(day: &Day, performance: &Performance) -> u32
+fn earned(day: &Summary, performance: &Performance) -> u32
     requires part { IsPartOf day.now performance.now }
     requires launched { IsTrue performance.now.launched }
     requires far { 1 ≤ day.now.far }
@@ -182,7 +182,7 @@ fn earned(day: &Day, performance: &Performance) -> u32
 /// The points of one performance of a day, before penalties: the exact fraction, rounded to the
 /// nearest whole number and at a half to the greater.
 #[tactic(auto, unfolding(crate::specs::Points::points_earned))]
-pub fn score(day: &Day, performance: &Performance) -> u32
+pub fn score(day: &Summary, performance: &Performance) -> u32
     requires { IsPartOf day.now performance.now }
     ensures points { result ≡ points_earned day.now performance.now }
     ensures at_most { result ≤ point_limit }

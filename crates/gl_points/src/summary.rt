@@ -5,7 +5,7 @@ use crate::frac::Frac;
 
 /// What the performances of a day give together.
 #[derive(Clone, Copy, Debug)]
-pub struct Day {
+pub struct Summary {
     /// How many were launched, at most 256.
     pub launched: u32,
     /// How many of the launched flew a handicapped distance of 100 km or more.

@@ -8,10 +8,10 @@ use Rattle.gl_box.specs.declared.closed.Closed.{Closed}
 use Rattle.gl_box.specs.Cell.{spans_of}
 use Rattle.gl_box.specs.Closed.{box_of}
 use Rattle.gl_box.specs.Frontier.{IsFrontier}
-use Rattle.gl_box.specs.Laws.Parts.{mult-held}
-use Rattle.gl_goal.specs.Rule.{Rule, IsGoal, whole_cell}
+use Rattle.gl_box.proofs.Parts.{mult-held}
+use Rattle.gl_goal.specs.Goal.{Goal, IsGoal, whole_cell}
 use Rattle.gl_goal.specs.Certificate.{IsClosedFor}
-use Rattle.gl_goal.specs.Laws.Optimum.{certificate_optimum}
+use Rattle.gl_goal.proofs.Optimum.{certificate_optimum}
 use Rattle.gl_plain.specs.declared.found.Best.{Best}
 use Rattle.gl_plain.specs.declared.found.Found.{Found}
 use Rattle.gl_plain.specs.Answer.{IsAnswer}
@@ -24,9 +24,9 @@ use Rattle.gl_best.specs.Rule.{sixteen, times}
 use Rattle.gl_best.specs.Seats.{HasAll, total_of, view_of}
 use Rattle.gl_deal.specs.declared.place.Place.{Place}
 use Rattle.gl_pool.specs.declared.tally.Tally.{Tally}
-use Rattle.gl_pool.specs.Crew.{WorkedAll}
-use Rattle.gl_pool.specs.Many.{ComesToAll}
-use Rattle.gl_pool.specs.Tally.{IsTally, word_of}
+use Rattle.gl_pool.specs.Code.Crew.{WorkedAll}
+use Rattle.gl_pool.specs.Code.Many.{ComesToAll}
+use Rattle.gl_pool.specs.Code.Tally.{IsTally, word_of}
 use Rattle.gl_pool.proofs.Hearing.{closed_longer}
 use Rattle.gl_pool.proofs.Together.{closed_needed, closed_parts}
 use Rattle.gl_walk.specs.InLists.{boxes_in}
@@ -37,18 +37,26 @@ total_of-word : (best : Option Best) → total_of (word_of best) ≡ found_total
 total_of-word None = refl
 total_of-word (Some best) = ap total_of (add-one best.total)
 
-pub parts_to_order : (rule : Rule) (all : Cell) (tally_after : Tally) → spans_of all ≡ whole_cell rule.axes → ComesToAll rule tally_after → AreParts (spans_of all) (cells_of (listed_in tally_after.closed.items))
-parts_to_order rule all tally_after is comes = subst (λ (c : List (ℕ × ℕ)). AreParts c (cells_of (listed_in tally_after.closed.items))) (sym is) (closed_parts rule comes.first comes.taken comes.put (listed_in tally_after.closed.items) comes.strange comes.all)
+pub parts_to_order : (rule : Goal) (all : Cell) (tally_after : Tally) → spans_of all ≡ whole_cell rule.axes → ComesToAll rule tally_after
+    → AreParts (spans_of all) (cells_of (listed_in tally_after.closed.items))
+parts_to_order rule all tally_after is comes = subst (λ (c : List (ℕ × ℕ)). AreParts c (cells_of (listed_in tally_after.closed.items))) (sym is)
+    (closed_parts rule comes.first comes.taken comes.put (listed_in tally_after.closed.items) comes.strange comes.all)
 
-pub answered : (rule : Rule) (word : BestWord) (all : Cell) (tally_after : Tally) (found : Found) → IsGoal rule → spans_of all ≡ whole_cell rule.axes → IsTally rule word tally_after → ComesToAll rule tally_after → (view_of tally_after.seat).seen ≤ (view_of tally_after.seat).raised → found.best ≡ tally_after.best → IsFrontier (spans_of all) (cells_of (boxes_in found.closed)) → IsPermutation (listed_in tally_after.closed.items) (boxes_in found.closed) → IsAnswer rule found
+pub answered : (rule : Goal) (word : BestWord) (all : Cell) (tally_after : Tally) (found : Found) → IsGoal rule → spans_of all ≡ whole_cell rule.axes → IsTally rule word tally_after
+    → ComesToAll rule tally_after → (view_of tally_after.seat).seen ≤ (view_of tally_after.seat).raised → found.best ≡ tally_after.best → IsFrontier (spans_of all) (cells_of (boxes_in found.closed))
+    → IsPermutation (listed_in tally_after.closed.items) (boxes_in found.closed) → IsAnswer rule found
 answered rule word all tally_after found goal is is_tally comes seen best frontier same =
     let heard : (view_of tally_after.seat).seen ≤ word_of tally_after.best = omega (arith, seen, is_tally.raised) in
     let each : All (λ (b : Closed). IsClosedFor rule (found_total tally_after.best) (spans_of b.cell) b.why) (listed_in tally_after.closed.items) = λ k d below.
-    subst (λ (total : Option ℕ). IsClosedFor rule total (spans_of (get_or (listed_in tally_after.closed.items) k d).cell) (get_or (listed_in tally_after.closed.items) k d).why) (total_of-word tally_after.best)
-    (closed_longer rule (view_of tally_after.seat).seen (word_of tally_after.best) (spans_of (get_or (listed_in tally_after.closed.items) k d).cell) (get_or (listed_in tally_after.closed.items) k d).why heard (is_tally.closed k d below)) in
-    let certificate = certificate_of rule tally_after.best (listed_in tally_after.closed.items) (boxes_in found.closed) is_tally.sound (subst (λ (c : List (ℕ × ℕ)). IsFrontier c (cells_of (boxes_in found.closed))) is frontier) same each in
+    subst (λ (total : Option ℕ). IsClosedFor rule total (spans_of (get_or (listed_in tally_after.closed.items) k d).cell) (get_or (listed_in tally_after.closed.items) k d).why)
+    (total_of-word tally_after.best)
+    (closed_longer rule (view_of tally_after.seat).seen (word_of tally_after.best) (spans_of (get_or (listed_in tally_after.closed.items) k d).cell)
+    (get_or (listed_in tally_after.closed.items) k d).why heard (is_tally.closed k d below)) in
+    let certificate = certificate_of rule tally_after.best (listed_in tally_after.closed.items) (boxes_in found.closed) is_tally.sound
+    (subst (λ (c : List (ℕ × ℕ)). IsFrontier c (cells_of (boxes_in found.closed))) is frontier) same each in
     let optimum = certificate_optimum rule (found_total tally_after.best) (fixes_of rule tally_after.best) _ goal certificate in
-    let needed = All-permutation (λ (b : Closed). IsNeeded rule (spans_of b.cell)) (listed_in tally_after.closed.items) (boxes_in found.closed) same (closed_needed rule comes.first comes.taken comes.put (listed_in tally_after.closed.items) comes.strange comes.all) in
+    let needed = All-permutation (λ (b : Closed). IsNeeded rule (spans_of b.cell)) (listed_in tally_after.closed.items) (boxes_in found.closed) same
+    (closed_needed rule comes.first comes.taken comes.put (listed_in tally_after.closed.items) comes.strange comes.all) in
     subst (λ (b : Option Best). IsAnswer rule (record { best = b; closed = found.closed })) (sym best) (record {
       certificate = certificate;
       once = λ tuple held. mult-held (whole_cell rule.axes) (map (λ box. box.0) (map box_of (boxes_in found.closed))) tuple certificate.frontier held;
@@ -79,7 +87,8 @@ sixteen_there (suc (suc (suc (suc (suc (suc (suc (suc (suc (suc (suc (suc (suc (
 sixteen_there (suc (suc (suc (suc (suc (suc (suc (suc (suc (suc (suc (suc (suc (suc (suc (suc number)))))))))))))))) below = absurd (omega arith)
 
 -- the seat has all numbers again
-pub has_all : (rule : Rule) (before after : List Place) (first tally tally_after : Tally) → (view_of first.seat).numbers ≡ sixteen → WorkedAll rule before after first tally → (view_of tally_after.seat).numbers ≡ (view_of tally.seat).numbers → HasAll tally_after.seat
+pub has_all : (rule : Goal) (before after : List Place) (first tally tally_after : Tally) → (view_of first.seat).numbers ≡ sixteen → WorkedAll rule before after first tally
+    → (view_of tally_after.seat).numbers ≡ (view_of tally.seat).numbers → HasAll tally_after.seat
 has_all rule before after first tally tally_after all worked same = λ number below.
     let there = sixteen_there number below in
     omega (arith, there, ap (times number) all, worked.numbers number, ap (times number) same)

@@ -1,12 +1,13 @@
 -- What is dealt to the workers, and what their places hold once they came back.
-use Rattle.std.proofs.Common.{◌≡◌, ◌≢◌, ◌∙◌, sym, ap, refl, ℕ, zero, suc, ◌+◌, ◌<◌, List, [], ◌∷◌, ◌++◌, length, get_or, map, slice_set, arith}
+use Rattle.std.proofs.Common.{◌≡◌, ◌≢◌, ◌∙◌, sym, ap, refl, subst, inl, inr, ℕ, zero, suc, ◌+◌, ◌<◌, List, [], ◌∷◌, ◌++◌, length, get_or, map, slice_set, arith}
 use Rattle.std.specs.List.{remove, sum_by}
 use Rattle.std.proofs.Math.Seq.{map-set_same}
+use Rattle.std.proofs.lemmas.Bool.{cases_order}
 use Rattle.std.proofs.lemmas.List.{get_or-map, get_or-set_other, get_or-set_same, length-map, length-set}
 use Rattle.std.proofs.lemmas.List.Sums.{sum_by-cons, sum_by-set}
 use Rattle.gl_box.specs.declared.cell.Cell.{Cell}
 use Rattle.gl_box.specs.Cell.{spans_of}
-use Rattle.gl_goal.specs.Rule.{Rule, whole_cell}
+use Rattle.gl_goal.specs.Goal.{Goal, whole_cell}
 use Rattle.gl_deal.specs.declared.place.Place.{Place}
 use Rattle.gl_deal.specs.declared.view.HandView.{HandView}
 use Rattle.gl_deal.specs.declared.view.PassView.{PassView}
@@ -14,9 +15,9 @@ use Rattle.gl_deal.specs.Deal.{IsDeal, deques_of}
 use Rattle.gl_deal.specs.Tokens.{Deque, hand_deque, hand_view}
 use Rattle.gl_deal.specs.Views.{new_pass, with_put}
 use Rattle.gl_pool.specs.declared.tally.Tally.{Tally}
-use Rattle.gl_pool.specs.Crew.{MoveAll, Post, WorkedAll, post_of, put_weight}
-use Rattle.gl_pool.specs.Many.{IsDealt, IsLeft}
-use Rattle.gl_pool.specs.Settle.{SettlesAll, Stand, StandReady, duties, place_at, stand_of}
+use Rattle.gl_pool.specs.Code.Crew.{MoveAll, Post, WorkedAll, post_of, put_weight}
+use Rattle.gl_pool.specs.Code.Many.{IsDealt, IsLeft}
+use Rattle.gl_pool.specs.Code.Settle.{SettlesAll, Stand, StandReady, duties, place_at, stand_of}
 use Rattle.gl_pool.specs.Taken.{duty_of, ends_of, stolen_weight, taken_weight}
 use Rattle.gl_pool.proofs.Settling.{length-stands}
 
@@ -35,51 +36,58 @@ sum_none f (p ∷ ps) none =
     let here : f p ≡ 0 = none 0 p (omega arith) in
     omega (arith, sum_none f ps (λ k d below. none (suc k) d (omega arith)), sum_by-cons f p ps)
 
--- the first place is replaced by one that a function can't tell from it
-set_keeps : {X : Type 0} (f : Place → X) (places : List Place) (old new d : Place) (k : ℕ) → 0 < length places → ((e : Place) → get_or places 0 e ≡ old) → f new ≡ f old → f (get_or (slice_set places 0 new) k d) ≡ f (get_or places k d)
-set_keeps f places old new d zero some is same = ap f (get_or-set_same places 0 new d some) ∙ same ∙ ap f (sym (is d))
-set_keeps f places old new d (suc k) some is same =
-    let other : suc k ≢ 0 = omega arith in
-    ap f (get_or-set_other places 0 (suc k) new d other)
+-- a place is replaced by one that a function can't tell from it
+set_keeps : {X : Type 0} (f : Place → X) (places : List Place) (at : ℕ) (old new d : Place) (k : ℕ) → at < length places → ((e : Place) → get_or places at e ≡ old) → f new ≡ f old
+    → f (get_or (slice_set places at new) k d) ≡ f (get_or places k d)
+set_keeps f places at old new d k inside is same = elim (cases_order k at) [
+  | inl own ↦ subst (λ (i : ℕ). f (get_or (slice_set places at new) i d) ≡ f (get_or places i d)) (sym own) (ap f (get_or-set_same places at new d inside) ∙ same ∙ ap f (sym (is d)))
+  | inr differ ↦
+      let other : k ≢ at = elim differ [ inl less ↦ (λ same. omega (arith, less, same)) | inr more ↦ (λ same. omega (arith, more, same)) ] in
+      ap f (get_or-set_other places at k new d other)
+]
 
 abbrev deque_in : Place → Deque
 deque_in place = hand_deque place.hand
 
-pub dealt : (rule : Rule) (workers : ℕ) (places : List Place) (first : Cell) (old new : Place) → IsDeal workers places → 0 < workers → ((e : Place) → get_or places 0 e ≡ old) → hand_deque new.hand ≡ hand_deque old.hand → hand_view new.hand ≡ with_put (hand_view old.hand) (first ∷ []) → ends_of new ≡ ends_of old → spans_of first ≡ whole_cell rule.axes → IsDealt rule (slice_set places 0 new)
-dealt rule workers places first old new deal some_worker is deque view passes is_whole =
-    let some : 0 < length places = omega (arith, deal.one_each) in
-    let long = length-set places 0 new in
-    let deques : deques_of (slice_set places 0 new) ≡ deques_of places = map-set_same deque_in places 0 new old (deque ∙ ap deque_in (sym (is old))) in
+pub dealt : (rule : Goal) (workers at : ℕ) (places : List Place) (first : Cell) (old new : Place) → IsDeal workers places → at < workers
+    → ((e : Place) → get_or places at e ≡ old) → hand_deque new.hand ≡ hand_deque old.hand → hand_view new.hand ≡ with_put (hand_view old.hand) (first ∷ []) → ends_of new ≡ ends_of old
+    → spans_of first ≡ whole_cell rule.axes → IsDealt rule (slice_set places at new)
+dealt rule workers at places first old new deal within is deque view passes is_whole =
+    let inside : at < length places = omega (arith, deal.one_each) in
+    let long = length-set places at new in
+    let deques : deques_of (slice_set places at new) ≡ deques_of places = map-set_same deque_in places at new old (deque ∙ ap deque_in (sym (is old))) in
     record {
       first = first;
       is_whole = is_whole;
       ready = record {
-        owners = λ owner d inside. set_keeps (λ p. (hand_view p.hand).owner) places old new d owner some is (ap (λ (v : HandView). v.owner) view) ∙ ap (λ (v : HandView). v.owner) (deal.place owner d (omega (arith, deal.one_each))).hand;
-        workers = λ owner d inside. set_keeps (λ p. (hand_view p.hand).workers) places old new d owner some is (ap (λ (v : HandView). v.workers) view) ∙ ap (λ (v : HandView). v.workers) (deal.place owner d (omega (arith, deal.one_each))).hand ∙ omega (arith, deal.one_each);
-        passes = λ worker d inside.
-            set_keeps (λ p. map duty_of (ends_of p)) places old new d worker some is (ap (map duty_of) passes)
+        owners = λ owner d below. set_keeps (λ p. (hand_view p.hand).owner) places at old new d owner inside is (ap (λ (v : HandView). v.owner) view)
+            ∙ ap (λ (v : HandView). v.owner) (deal.place owner d (omega (arith, deal.one_each))).hand;
+        workers = λ owner d below. set_keeps (λ p. (hand_view p.hand).workers) places at old new d owner inside is (ap (λ (v : HandView). v.workers) view)
+            ∙ ap (λ (v : HandView). v.workers) (deal.place owner d (omega (arith, deal.one_each))).hand ∙ omega (arith, deal.one_each);
+        passes = λ worker d below.
+            set_keeps (λ p. map duty_of (ends_of p)) places at old new d worker inside is (ap (map duty_of) passes)
             ∙ ap (map duty_of) (deal.place worker d (omega (arith, deal.one_each))).passes
             ∙ duties_are (remove (deques_of places) worker) worker
             ∙ ap (λ (ds : List Deque). duties ds worker) (sym deques);
       };
-      got = λ weight. sum_none (λ (p : Place). taken_weight weight p + sum_by weight (hand_view p.hand).gathered) (slice_set places 0 new) (λ k d below.
-          let at = deal.place k d (omega (arith, deal.one_each)) in
-          let taken : sum_by weight (hand_view (get_or places k d).hand).taken ≡ 0 = ap (λ (v : HandView). sum_by weight v.taken) at.hand in
-          let gathered : sum_by weight (hand_view (get_or places k d).hand).gathered ≡ 0 = ap (λ (v : HandView). sum_by weight v.gathered) at.hand in
-          let stolen : stolen_weight weight (ends_of (get_or places k d)) ≡ 0 = ap (stolen_weight weight) at.passes ∙ none_stolen weight (remove (deques_of places) k) k in
+      got = λ weight. sum_none (λ (p : Place). taken_weight weight p + sum_by weight (hand_view p.hand).gathered) (slice_set places at new) (λ k d below.
+          let there = deal.place k d (omega (arith, deal.one_each)) in
+          let taken : sum_by weight (hand_view (get_or places k d).hand).taken ≡ 0 = ap (λ (v : HandView). sum_by weight v.taken) there.hand in
+          let gathered : sum_by weight (hand_view (get_or places k d).hand).gathered ≡ 0 = ap (λ (v : HandView). sum_by weight v.gathered) there.hand in
+          let stolen : stolen_weight weight (ends_of (get_or places k d)) ≡ 0 = ap (stolen_weight weight) there.passes ∙ none_stolen weight (remove (deques_of places) k) k in
           let hand_taken : sum_by weight (hand_view new.hand).taken ≡ sum_by weight (hand_view old.hand).taken = ap (λ (v : HandView). sum_by weight v.taken) view in
           let hand_gathered : sum_by weight (hand_view new.hand).gathered ≡ sum_by weight (hand_view old.hand).gathered = ap (λ (v : HandView). sum_by weight v.gathered) view in
           let passes_taken : stolen_weight weight (ends_of new) ≡ stolen_weight weight (ends_of old) = ap (stolen_weight weight) passes in
-          set_keeps (λ (p : Place). taken_weight weight p + sum_by weight (hand_view p.hand).gathered) places old new d k some is (omega arith) ∙ omega arith);
+          set_keeps (λ (p : Place). taken_weight weight p + sum_by weight (hand_view p.hand).gathered) places at old new d k inside is (omega arith) ∙ omega arith);
       puts = λ weight.
           let put_of : Place → ℕ = λ p. sum_by weight (hand_view p.hand).put in
           let none : put_weight weight places ≡ 0 = sum_none put_of places (λ k d below. ap (λ (v : HandView). sum_by weight v.put) (deal.place k d (omega (arith, deal.one_each))).hand) in
-          let own : put_of old ≡ 0 = ap put_of (sym (is old)) ∙ ap (λ (v : HandView). sum_by weight v.put) (deal.place 0 old some_worker).hand in
-          let empty : (hand_view old.hand).put ≡ [] = ap (λ (p : Place). (hand_view p.hand).put) (sym (is old)) ∙ ap (λ (v : HandView). v.put) (deal.place 0 old some_worker).hand in
+          let own : put_of old ≡ 0 = ap put_of (sym (is old)) ∙ ap (λ (v : HandView). sum_by weight v.put) (deal.place at old within).hand in
+          let empty : (hand_view old.hand).put ≡ [] = ap (λ (p : Place). (hand_view p.hand).put) (sym (is old)) ∙ ap (λ (v : HandView). v.put) (deal.place at old within).hand in
           let next : put_of new ≡ sum_by weight (first ∷ []) = ap (λ (v : HandView). sum_by weight v.put) view ∙ ap (λ (l : List Cell). sum_by weight (l ++ first ∷ [])) empty in
           let one = sum_by-cons weight first [] in
-          let read : put_of (get_or places 0 old) ≡ put_of old = ap put_of (is old) in
-          omega (arith, sum_by-set put_of places 0 new old some);
+          let read : put_of (get_or places at old) ≡ put_of old = ap put_of (is old) in
+          omega (arith, sum_by-set put_of places at new old inside);
     }
 
 length-posts : (before after : List Place) → map post_of after ≡ map post_of before → length after ≡ length before
@@ -102,7 +110,8 @@ still_ready before after taken put moves ready =
     record {
       owners = λ owner d inside. ap (λ (p : Post). p.owner) (post_at before after owner d (omega arith) moves.posts) ∙ ready.owners owner d (omega arith);
       workers = λ owner d inside. ap (λ (p : Post). p.workers) (post_at before after owner d (omega arith) moves.posts) ∙ ready.workers owner d (omega arith) ∙ sym many;
-      passes = λ worker d inside. ap (λ (p : Post). p.passes) (post_at before after worker d (omega arith) moves.posts) ∙ ready.passes worker d (omega arith) ∙ ap (λ (ds : List Deque). duties ds worker) (sym deques);
+      passes = λ worker d inside. ap (λ (p : Post). p.passes) (post_at before after worker d (omega arith) moves.posts) ∙ ready.passes worker d (omega arith)
+          ∙ ap (λ (ds : List Deque). duties ds worker) (sym deques);
     }
 
 put_stands : (weight : Cell → ℕ) (places : List Place) → sum_by (λ (s : Stand). sum_by weight s.put) (map stand_of places) ≡ put_weight weight places
@@ -116,7 +125,8 @@ put_same : (weight : Cell → ℕ) (before after : List Place) → map stand_of 
 put_same weight before after same = sym (put_stands weight after) ∙ ap (sum_by (λ (s : Stand). sum_by weight s.put)) same ∙ put_stands weight before
 
 -- what is left once all passes are settled
-pub is_left : (rule : Rule) (before after settled : List Place) (tally tally_after : Tally) → IsDealt rule before → WorkedAll rule before after tally tally_after → SettlesAll after settled → IsLeft rule settled tally_after
+pub is_left : (rule : Goal) (before after settled : List Place) (tally tally_after : Tally) → IsDealt rule before → WorkedAll rule before after tally tally_after → SettlesAll after settled
+    → IsLeft rule settled tally_after
 is_left rule before after settled tally tally_after start worked settles =
     let many = length-stands after settled settles.stands in
     record {

@@ -7,7 +7,7 @@ use Rattle.gl_box.specs.declared.closed.Why.{Why}
 use Rattle.gl_box.specs.declared.closed.Why.TheVariants.{Disordered, Shut, Bound}
 use Rattle.gl_box.specs.Cell.{spans_of}
 use Rattle.gl_box.specs.Tuple.{places_of}
-use Rattle.gl_goal.specs.Rule.{Rule, IsReached}
+use Rattle.gl_goal.specs.Goal.{Goal, IsReached}
 use Rattle.gl_goal.specs.Certificate.{IsClosedFor}
 use Rattle.gl_plain.specs.declared.found.Best.{Best}
 use Rattle.gl_best.specs.declared.rule.View.{View}
@@ -17,14 +17,14 @@ use Rattle.gl_best.specs.Seats.{IsSeatOf, total_of, view_of}
 use Rattle.gl_pool.specs.Kept.{AreClosedFor, IsKept, KeepsSeat, seen_by}
 
 -- what is closed for what a word says is closed for one that is no less
-pub closed_longer : (rule : Rule) (old new : ℕ) (cell : List (ℕ × ℕ)) (why : Why) → old ≤ new → IsClosedFor rule (total_of old) cell why → IsClosedFor rule (total_of new) cell why
+pub closed_longer : (rule : Goal) (old new : ℕ) (cell : List (ℕ × ℕ)) (why : Why) → old ≤ new → IsClosedFor rule (total_of old) cell why → IsClosedFor rule (total_of new) cell why
 closed_longer rule old new cell Disordered more closed = closed
 closed_longer rule old new cell Shut more closed = closed
 closed_longer rule zero new cell Bound more closed = absurd closed
 closed_longer rule (suc old) zero cell Bound more closed = absurd (omega arith)
 closed_longer rule (suc old) (suc new) cell Bound more closed = omega arith
 
-pub all_closed_longer : (rule : Rule) (before after : Seat) (closed : List Closed) → (view_of before).seen ≤ (view_of after).seen → AreClosedFor rule before closed → AreClosedFor rule after closed
+pub all_closed_longer : (rule : Goal) (before after : Seat) (closed : List Closed) → (view_of before).seen ≤ (view_of after).seen → AreClosedFor rule before closed → AreClosedFor rule after closed
 all_closed_longer rule before after closed more all =
     All-weaker (λ (b : Closed). IsClosedFor rule (seen_by before) (spans_of b.cell) b.why) (λ (b : Closed). IsClosedFor rule (seen_by after) (spans_of b.cell) b.why)
     (λ b. closed_longer rule (view_of before).seen (view_of after).seen (spans_of b.cell) b.why more) closed all
@@ -42,19 +42,21 @@ pub word_below : (word limit : ℕ) → ((total : ℕ) → total_of word ≡ Som
 word_below zero limit above = omega arith
 word_below (suc word) limit above = omega (arith, above word refl)
 
-pub keeps_on : (word : BestWord) (one two three : Seat) → KeepsSeat word one two → IsSeatOf word three → (view_of three).numbers ≡ (view_of two).numbers → (view_of two).seen ≤ (view_of three).seen → KeepsSeat word one three
+pub keeps_on : (word : BestWord) (one two three : Seat) → KeepsSeat word one two → IsSeatOf word three → (view_of three).numbers ≡ (view_of two).numbers → (view_of two).seen ≤ (view_of three).seen
+    → KeepsSeat word one three
 keeps_on word one two three first is numbers more = record { is_seat = is; numbers = numbers ∙ first.numbers; no_less = omega (arith, first.no_less) }
 
 -- what was kept stays so where no more is raised
-pub kept_on : (rule : Rule) (one two three : View) (best : Option Best) → three.raised ≡ two.raised → IsKept rule one two best → IsKept rule one three best
+pub kept_on : (rule : Goal) (one two three : View) (best : Option Best) → three.raised ≡ two.raised → IsKept rule one two best → IsKept rule one three best
 kept_on rule one two three None same kept = same ∙ kept
 kept_on rule one two three (Some best) same kept = (kept.0, same ∙ kept.1, omega (arith, kept.2, same))
 
 -- a total above what was seen is kept and raised
-pub kept_new : (rule : Rule) (one two three : View) (best : Best) → IsReached rule best.total (places_of best.tuple) → one.seen ≤ two.seen → two.raised ≤ two.seen → two.seen ≤ best.total → three.raised ≡ max two.raised (best.total + 1) → IsKept rule one three (Some best)
+pub kept_new : (rule : Goal) (one two three : View) (best : Best) → IsReached rule best.total (places_of best.tuple) → one.seen ≤ two.seen → two.raised ≤ two.seen → two.seen ≤ best.total
+    → three.raised ≡ max two.raised (best.total + 1) → IsKept rule one three (Some best)
 kept_new rule one two three best reached more raised above is = (reached, omega arith, omega arith)
 
 -- a cell is closed by its bound for a word that was raised to it
-pub closed_by_word : (rule : Rule) (word : ℕ) (cell : List (ℕ × ℕ)) (bound : ℕ) → bound + 1 ≤ word → rule.bound cell ≡ bound → IsClosedFor rule (total_of word) cell Bound
+pub closed_by_word : (rule : Goal) (word : ℕ) (cell : List (ℕ × ℕ)) (bound : ℕ) → bound + 1 ≤ word → rule.bound cell ≡ bound → IsClosedFor rule (total_of word) cell Bound
 closed_by_word rule zero cell bound raised is = absurd (omega arith)
 closed_by_word rule (suc word) cell bound raised is = omega arith

@@ -3,7 +3,7 @@ use Rattle.std.proofs.Common.{◌≡◌, ◌∙◌, ap, refl, ℕ, suc, ◌+◌,
 use Rattle.std.specs.Prelude.{All, Option, Some}
 use Rattle.std.proofs.lemmas.Bool.{cases_lt}
 use Rattle.std.proofs.lemmas.List.{length-append, map-append}
-use Rattle.std.proofs.lemmas.List.Elements.{All-nil, All-pop, All-push, All-weaker, Contains-append_left, Contains-push}
+use Rattle.std.proofs.lemmas.List.Elements.{All-nil, All-push, All-weaker, Contains-append_left, Contains-push}
 use Rattle.gl_box.specs.declared.cell.Cell.{Cell}
 use Rattle.gl_box.specs.declared.closed.Closed.{Closed}
 use Rattle.gl_box.specs.declared.closed.Why.{Why}
@@ -11,11 +11,12 @@ use Rattle.gl_box.specs.Cell.{Covers, spans_of}
 use Rattle.gl_box.specs.Halves.{AreHalves, IsHalf}
 use Rattle.gl_box.specs.Frontier.{mult}
 use Rattle.gl_box.specs.Frontier.IsNode.{whole, half}
-use Rattle.gl_box.specs.Laws.Nodes.{covers_node, covers_through}
-use Rattle.gl_box.specs.Laws.Parts.{mult-append, mult-halves}
-use Rattle.gl_goal.specs.Rule.{Rule, IsOpen, whole_cell}
+use Rattle.gl_box.proofs.Nodes.{covers_node, covers_through}
+use Rattle.gl_box.proofs.Parts.{mult-append, mult-halves}
+use Rattle.gl_goal.specs.Goal.{Goal, IsOpen, whole_cell}
 use Rattle.gl_pool.specs.Parts.{ArePartedInto, IsFromTaken, IsPartOfTaken, IsStrange, IsTakenInside, times_closed, times_held}
-use Rattle.gl_pool.specs.UnderWay.{AreBeingParted}
+use Rattle.gl_pool.specs.Code.UnderWay.{AreBeingParted}
+use Rattle.gl_text.proofs.Lists.{All-last}
 
 pub times_held-append : (xs ys : List Cell) (tuple : List ℕ) → times_held (xs ++ ys) tuple ≡ times_held xs tuple + times_held ys tuple
 times_held-append xs ys tuple = ap (λ (cells : List (List (ℕ × ℕ))). mult cells tuple) (map-append spans_of xs ys) ∙ mult-append (map spans_of xs) (map spans_of ys) tuple
@@ -26,25 +27,22 @@ cell_of box = spans_of box.cell
 pub times_closed-append : (xs ys : List Closed) (tuple : List ℕ) → times_closed (xs ++ ys) tuple ≡ times_closed xs tuple + times_closed ys tuple
 times_closed-append xs ys tuple = ap (λ (cells : List (List (ℕ × ℕ))). mult cells tuple) (map-append cell_of xs ys) ∙ mult-append (map cell_of xs) (map cell_of ys) tuple
 
-pub All-last : {A : Type 0} (P : A → Type 0) (xs : List A) (x : A) → All P (xs ++ x ∷ []) → All P xs × P x
-All-last P xs x all = All-pop P (xs ++ x ∷ []) xs (Some x) refl all
-
 -- a part stays one, whatever else is taken
-pub inside_more : (rule : Rule) (taken more : List Cell) (cell : Cell) → IsTakenInside rule taken cell → IsTakenInside rule (taken ++ more) cell
+pub inside_more : (rule : Goal) (taken more : List Cell) (cell : Cell) → IsTakenInside rule taken cell → IsTakenInside rule (taken ++ more) cell
 inside_more rule taken more cell is = record { is_taken = Contains-append_left taken more cell is.is_taken; inside = is.inside }
 
-pub part_more : (rule : Rule) (seen : Option ℕ) (taken more : List Cell) (cell : Cell) → IsPartOfTaken rule seen taken cell → IsPartOfTaken rule seen (taken ++ more) cell
+pub part_more : (rule : Goal) (seen : Option ℕ) (taken more : List Cell) (cell : Cell) → IsPartOfTaken rule seen taken cell → IsPartOfTaken rule seen (taken ++ more) cell
 part_more rule seen taken more cell is = record { root = is.root; is_taken = inside_more rule taken more is.root is.is_taken; is_cut = is.is_cut }
 
-pub from_more : (rule : Rule) (seen : Option ℕ) (taken more : List Cell) (cell : Cell) → IsFromTaken rule seen taken cell → IsFromTaken rule seen (taken ++ more) cell
+pub from_more : (rule : Goal) (seen : Option ℕ) (taken more : List Cell) (cell : Cell) → IsFromTaken rule seen taken cell → IsFromTaken rule seen (taken ++ more) cell
 from_more rule seen taken more cell (inl is) = inl (inside_more rule taken more cell is)
 from_more rule seen taken more cell (inr is) = inr (part_more rule seen taken more cell is)
 
-pub strange_more : (rule : Rule) (taken more : List Cell) (cell : Cell) → IsStrange rule taken cell → IsStrange rule (taken ++ more) cell
+pub strange_more : (rule : Goal) (taken more : List Cell) (cell : Cell) → IsStrange rule taken cell → IsStrange rule (taken ++ more) cell
 strange_more rule taken more cell is = record { is_taken = Contains-append_left taken more cell is.is_taken; outside = is.outside }
 
 -- the whole cell covers what a worker comes to
-pub from_covered : (rule : Rule) (seen : Option ℕ) (taken : List Cell) (cell : Cell) → IsFromTaken rule seen taken cell → Covers (whole_cell rule.axes) (spans_of cell)
+pub from_covered : (rule : Goal) (seen : Option ℕ) (taken : List Cell) (cell : Cell) → IsFromTaken rule seen taken cell → Covers (whole_cell rule.axes) (spans_of cell)
 from_covered rule seen taken cell (inl is) = is.inside
 from_covered rule seen taken cell (inr is) =
     let cut = is.is_cut in
@@ -52,7 +50,8 @@ from_covered rule seen taken cell (inr is) =
     (covers_node (spans_of is.root) (spans_of cell) (half (spans_of is.root) cut.node (spans_of cell) cut.is_node cut.is_half))
 
 -- a half of what a worker comes to is a part
-pub half_part : (rule : Rule) (seen : Option ℕ) (taken : List Cell) (cell part : Cell) → IsFromTaken rule seen taken cell → IsOpen rule (spans_of cell) → ((total : ℕ) → seen ≡ Some total → total < rule.bound (spans_of cell)) → IsHalf (spans_of cell) (spans_of part) → IsPartOfTaken rule seen taken part
+pub half_part : (rule : Goal) (seen : Option ℕ) (taken : List Cell) (cell part : Cell) → IsFromTaken rule seen taken cell → IsOpen rule (spans_of cell)
+    → ((total : ℕ) → seen ≡ Some total → total < rule.bound (spans_of cell)) → IsHalf (spans_of cell) (spans_of part) → IsPartOfTaken rule seen taken part
 half_part rule seen taken cell part (inl is) is_open above is_half = record {
   root = cell;
   is_taken = is;
@@ -67,7 +66,7 @@ half_part rule seen taken cell part (inr is) is_open above is_half =
     }
 
 -- nothing was taken yet
-pub parted_start : (rule : Rule) (seen : Option ℕ) → AreBeingParted rule seen [] [] [] [] []
+pub parted_start : (rule : Goal) (seen : Option ℕ) → AreBeingParted rule seen [] [] [] [] []
 parted_start rule seen = record {
   parted = λ tuple. refl;
   cells_are = All-nil _;
@@ -78,7 +77,8 @@ parted_start rule seen = record {
 }
 
 -- nothing is left to look at
-pub parted_done : (rule : Rule) (seen : Option ℕ) (taken : List Cell) (closed : List Closed) (put strange : List Cell) → AreBeingParted rule seen taken [] closed put strange → ArePartedInto rule seen taken closed put strange
+pub parted_done : (rule : Goal) (seen : Option ℕ) (taken : List Cell) (closed : List Closed) (put strange : List Cell) → AreBeingParted rule seen taken [] closed put strange
+    → ArePartedInto rule seen taken closed put strange
 parted_done rule seen taken closed put strange way = record {
   parted = λ tuple. omega (arith, way.parted tuple);
   closed_are = way.closed_are;
@@ -87,14 +87,16 @@ parted_done rule seen taken closed put strange way = record {
 }
 
 -- the cells before the last one are parts
-parts_before : (rule : Rule) (seen : Option ℕ) (taken rest : List Cell) (cell : Cell) (closed : List Closed) (put strange : List Cell) → AreBeingParted rule seen taken (rest ++ cell ∷ []) closed put strange → All (IsPartOfTaken rule seen taken) rest
+parts_before : (rule : Goal) (seen : Option ℕ) (taken rest : List Cell) (cell : Cell) (closed : List Closed) (put strange : List Cell)
+    → AreBeingParted rule seen taken (rest ++ cell ∷ []) closed put strange → All (IsPartOfTaken rule seen taken) rest
 parts_before rule seen taken rest cell closed put strange way = elim (cases_lt 0 (length rest)) [
   | inl some ↦ (All-last (IsPartOfTaken rule seen taken) rest cell (way.parts (omega (arith, length-append rest (cell ∷ []))))).0
   | inr none ↦ λ k d below. absurd (omega arith)
 ]
 
 -- the last cell is closed
-pub parted_closed : (rule : Rule) (seen : Option ℕ) (taken rest : List Cell) (cell : Cell) (why : Why) (closed : List Closed) (put strange : List Cell) → AreBeingParted rule seen taken (rest ++ cell ∷ []) closed put strange → AreBeingParted rule seen taken rest (closed ++ record { cell = cell; why = why } ∷ []) put strange
+pub parted_closed : (rule : Goal) (seen : Option ℕ) (taken rest : List Cell) (cell : Cell) (why : Why) (closed : List Closed) (put strange : List Cell)
+    → AreBeingParted rule seen taken (rest ++ cell ∷ []) closed put strange → AreBeingParted rule seen taken rest (closed ++ record { cell = cell; why = why } ∷ []) put strange
 parted_closed rule seen taken rest cell why closed put strange way =
     let box : Closed = record { cell = cell; why = why } in
     let cells = All-last (IsFromTaken rule seen taken) rest cell way.cells_are in
@@ -108,7 +110,9 @@ parted_closed rule seen taken rest cell why closed put strange way =
     }
 
 -- the last cell is cut
-pub parted_cut : (rule : Rule) (seen : Option ℕ) (taken rest : List Cell) (cell lower upper : Cell) (closed : List Closed) (put strange : List Cell) → AreHalves (spans_of cell) (spans_of lower) (spans_of upper) → IsOpen rule (spans_of cell) → ((total : ℕ) → seen ≡ Some total → total < rule.bound (spans_of cell)) → AreBeingParted rule seen taken (rest ++ cell ∷ []) closed put strange → AreBeingParted rule seen taken ((rest ++ upper ∷ []) ++ lower ∷ []) closed put strange
+pub parted_cut : (rule : Goal) (seen : Option ℕ) (taken rest : List Cell) (cell lower upper : Cell) (closed : List Closed) (put strange : List Cell)
+    → AreHalves (spans_of cell) (spans_of lower) (spans_of upper) → IsOpen rule (spans_of cell) → ((total : ℕ) → seen ≡ Some total → total < rule.bound (spans_of cell))
+    → AreBeingParted rule seen taken (rest ++ cell ∷ []) closed put strange → AreBeingParted rule seen taken ((rest ++ upper ∷ []) ++ lower ∷ []) closed put strange
 parted_cut rule seen taken rest cell lower upper closed put strange halves is_open above way =
     let cells = All-last (IsFromTaken rule seen taken) rest cell way.cells_are in
     let before = parts_before rule seen taken rest cell closed put strange way in
@@ -117,7 +121,14 @@ parted_cut rule seen taken rest cell lower upper closed put strange halves is_op
     let parts = All-push (IsPartOfTaken rule seen taken) (rest ++ upper ∷ []) lower (All-push (IsPartOfTaken rule seen taken) rest upper before high) low in
     record {
       parted = λ tuple.
-          omega (arith, way.parted tuple, mult-halves (spans_of cell) (spans_of lower) (spans_of upper) tuple halves, times_held-append rest (cell ∷ []) tuple, times_held-append (rest ++ upper ∷ []) (lower ∷ []) tuple, times_held-append rest (upper ∷ []) tuple);
+          omega (
+            arith,
+            way.parted tuple,
+            mult-halves (spans_of cell) (spans_of lower) (spans_of upper) tuple halves,
+            times_held-append rest (cell ∷ []) tuple,
+            times_held-append (rest ++ upper ∷ []) (lower ∷ []) tuple,
+            times_held-append rest (upper ∷ []) tuple,
+          );
       cells_are = All-weaker (IsPartOfTaken rule seen taken) (IsFromTaken rule seen taken) (λ c is. inr is) ((rest ++ upper ∷ []) ++ lower ∷ []) parts;
       parts = λ many. parts;
       closed_are = way.closed_are;
@@ -126,7 +137,8 @@ parted_cut rule seen taken rest cell lower upper closed put strange halves is_op
     }
 
 -- the first cell of several is put
-pub parted_put : (rule : Rule) (seen : Option ℕ) (taken rest : List Cell) (cell : Cell) (closed : List Closed) (put strange : List Cell) → 1 < length (cell ∷ rest) → AreBeingParted rule seen taken (cell ∷ rest) closed put strange → AreBeingParted rule seen taken rest closed (put ++ cell ∷ []) strange
+pub parted_put : (rule : Goal) (seen : Option ℕ) (taken rest : List Cell) (cell : Cell) (closed : List Closed) (put strange : List Cell) → 1 < length (cell ∷ rest)
+    → AreBeingParted rule seen taken (cell ∷ rest) closed put strange → AreBeingParted rule seen taken rest closed (put ++ cell ∷ []) strange
 parted_put rule seen taken rest cell closed put strange many way =
     let parts = way.parts many in
     record {
@@ -139,7 +151,8 @@ parted_put rule seen taken rest cell closed put strange many way =
     }
 
 -- a cell is taken, and lies inside the whole cell
-pub parted_inside : (rule : Rule) (seen : Option ℕ) (taken : List Cell) (cell : Cell) (closed : List Closed) (put strange : List Cell) → Covers (whole_cell rule.axes) (spans_of cell) → AreBeingParted rule seen taken [] closed put strange → AreBeingParted rule seen (taken ++ cell ∷ []) (cell ∷ []) closed put strange
+pub parted_inside : (rule : Goal) (seen : Option ℕ) (taken : List Cell) (cell : Cell) (closed : List Closed) (put strange : List Cell) → Covers (whole_cell rule.axes) (spans_of cell)
+    → AreBeingParted rule seen taken [] closed put strange → AreBeingParted rule seen (taken ++ cell ∷ []) (cell ∷ []) closed put strange
 parted_inside rule seen taken cell closed put strange inside way =
     let more = cell ∷ [] in
     let is : IsTakenInside rule (taken ++ more) cell = record { is_taken = Contains-push taken cell; inside = inside } in
@@ -147,13 +160,15 @@ parted_inside rule seen taken cell closed put strange inside way =
       parted = λ tuple. omega (arith, way.parted tuple, times_held-append taken (cell ∷ []) tuple);
       cells_are = All-push (IsFromTaken rule seen (taken ++ more)) [] cell (All-nil _) (inl is);
       parts = λ many. absurd (omega arith);
-      closed_are = All-weaker (λ (b : Closed). IsFromTaken rule seen taken b.cell) (λ (b : Closed). IsFromTaken rule seen (taken ++ more) b.cell) (λ b from. from_more rule seen taken more b.cell from) closed way.closed_are;
+      closed_are = All-weaker (λ (b : Closed). IsFromTaken rule seen taken b.cell) (λ (b : Closed). IsFromTaken rule seen (taken ++ more) b.cell)
+          (λ b from. from_more rule seen taken more b.cell from) closed way.closed_are;
       put_are = All-weaker (IsPartOfTaken rule seen taken) (IsPartOfTaken rule seen (taken ++ more)) (part_more rule seen taken more) put way.put_are;
       strange_are = All-weaker (IsStrange rule taken) (IsStrange rule (taken ++ more)) (strange_more rule taken more) strange way.strange_are;
     }
 
 -- a cell is taken, and doesn't lie inside
-pub parted_outside : (rule : Rule) (seen : Option ℕ) (taken : List Cell) (cell : Cell) (closed : List Closed) (put strange : List Cell) → (Covers (whole_cell rule.axes) (spans_of cell) → ⊥) → AreBeingParted rule seen taken [] closed put strange → AreBeingParted rule seen (taken ++ cell ∷ []) [] closed put (strange ++ cell ∷ [])
+pub parted_outside : (rule : Goal) (seen : Option ℕ) (taken : List Cell) (cell : Cell) (closed : List Closed) (put strange : List Cell) → (Covers (whole_cell rule.axes) (spans_of cell) → ⊥)
+    → AreBeingParted rule seen taken [] closed put strange → AreBeingParted rule seen (taken ++ cell ∷ []) [] closed put (strange ++ cell ∷ [])
 parted_outside rule seen taken cell closed put strange outside way =
     let more = cell ∷ [] in
     let is : IsStrange rule (taken ++ more) cell = record { is_taken = Contains-push taken cell; outside = outside } in
@@ -161,7 +176,9 @@ parted_outside rule seen taken cell closed put strange outside way =
       parted = λ tuple. omega (arith, way.parted tuple, times_held-append taken (cell ∷ []) tuple, times_held-append strange (cell ∷ []) tuple);
       cells_are = All-nil _;
       parts = λ many. absurd (omega arith);
-      closed_are = All-weaker (λ (b : Closed). IsFromTaken rule seen taken b.cell) (λ (b : Closed). IsFromTaken rule seen (taken ++ more) b.cell) (λ b from. from_more rule seen taken more b.cell from) closed way.closed_are;
+      closed_are = All-weaker (λ (b : Closed). IsFromTaken rule seen taken b.cell) (λ (b : Closed). IsFromTaken rule seen (taken ++ more) b.cell)
+          (λ b from. from_more rule seen taken more b.cell from) closed way.closed_are;
       put_are = All-weaker (IsPartOfTaken rule seen taken) (IsPartOfTaken rule seen (taken ++ more)) (part_more rule seen taken more) put way.put_are;
-      strange_are = All-push (IsStrange rule (taken ++ more)) strange cell (All-weaker (IsStrange rule taken) (IsStrange rule (taken ++ more)) (strange_more rule taken more) strange way.strange_are) is;
+      strange_are = All-push (IsStrange rule (taken ++ more)) strange cell
+          (All-weaker (IsStrange rule taken) (IsStrange rule (taken ++ more)) (strange_more rule taken more) strange way.strange_are) is;
     }

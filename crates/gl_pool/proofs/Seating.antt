@@ -6,7 +6,7 @@ use Rattle.std.proofs.lemmas.List.Elements.{All-nil, All-push, All-same, All-wea
 use Rattle.std.proofs.lemmas.List.Sums.{sum_by-append, sum_by-cons}
 use Rattle.gl_box.specs.declared.closed.Closed.{Closed}
 use Rattle.gl_box.specs.Cell.{spans_of}
-use Rattle.gl_goal.specs.Rule.{Rule}
+use Rattle.gl_goal.specs.Goal.{Goal}
 use Rattle.gl_goal.specs.Certificate.{IsClosedFor}
 use Rattle.gl_plain.specs.Search.{IsSound}
 use Rattle.gl_best.specs.declared.rule.View.{View}
@@ -18,10 +18,11 @@ use Rattle.gl_best.proofs.Numbers.{times-greatest, times-without}
 use Rattle.gl_deal.specs.declared.place.Place.{Place}
 use Rattle.gl_pool.specs.declared.crew.Worker.{Worker}
 use Rattle.gl_pool.specs.declared.tally.Tally.{Tally}
-use Rattle.gl_pool.specs.Crew.{AreSeated, times_seated}
+use Rattle.gl_pool.specs.Code.Crew.{AreSeated, times_seated}
 use Rattle.gl_pool.specs.Kept.{seen_by}
-use Rattle.gl_pool.specs.Tally.{IsTally, word_of}
-use Rattle.gl_pool.specs.Listed.{ArePassed, IsPassed, listed_in}
+use Rattle.gl_pool.specs.Code.Tally.{IsTally, word_of}
+use Rattle.gl_pool.specs.Code.Listed.{ArePassed, IsPassed}
+use Rattle.gl_pool.specs.Listed.{listed_in}
 
 -- a worker with a seat that is shared, who has found and closed nothing
 pub record IsFresh (word : BestWord) (worker : Worker) : Type 0 where
@@ -30,12 +31,13 @@ pub record IsFresh (word : BestWord) (worker : Worker) : Type 0 where
   pub raised : (view_of worker.tally.seat).raised ≡ 0
   pub nothing : worker.tally.closed.items ≡ []
 
-fresh_tally : (rule : Rule) (word : BestWord) (worker : Worker) → IsFresh word worker → IsTally rule word worker.tally
+fresh_tally : (rule : Goal) (word : BestWord) (worker : Worker) → IsFresh word worker → IsTally rule word worker.tally
 fresh_tally rule word worker fresh = record {
   is_seat = fresh.is_seat;
   sound = subst (IsSound rule) (sym fresh.none) tt;
   raised = fresh.raised ∙ ap word_of (sym fresh.none);
-  closed = All-same (λ (box : Closed). IsClosedFor rule (seen_by worker.tally.seat) (spans_of box.cell) box.why) (listed_in worker.tally.closed.items) [] (ap listed_in fresh.nothing) (All-nil (λ (box : Closed). IsClosedFor rule (seen_by worker.tally.seat) (spans_of box.cell) box.why));
+  closed = All-same (λ (box : Closed). IsClosedFor rule (seen_by worker.tally.seat) (spans_of box.cell) box.why) (listed_in worker.tally.closed.items) [] (ap listed_in fresh.nothing)
+      (All-nil (λ (box : Closed). IsClosedFor rule (seen_by worker.tally.seat) (spans_of box.cell) box.why));
   passed = subst ArePassed (sym fresh.nothing) (All-nil IsPassed);
 }
 
@@ -47,7 +49,7 @@ pub record StillHas (word : BestWord) (before after : Tally) : Type 0 where
   pub seen : (view_of after.seat).seen ≡ (view_of before.seat).seen
   pub raised : (view_of after.seat).raised ≡ (view_of before.seat).raised
 
-still_tally : (rule : Rule) (word : BestWord) (before after : Tally) → StillHas word before after → IsTally rule word before → IsTally rule word after
+still_tally : (rule : Goal) (word : BestWord) (before after : Tally) → StillHas word before after → IsTally rule word before → IsTally rule word after
 still_tally rule word before after still is = record {
   is_seat = still.is_seat;
   sound = subst (IsSound rule) (sym still.best) is.sound;
@@ -65,7 +67,8 @@ pub record Seating (word : BestWord) (places rest : List Place) (last : Place) (
   pub fresh : All (IsFresh word) workers
   pub numbers : (number : ℕ) → times_seated number workers + times number (view_of tally.seat).numbers ≡ times number (view_of before.seat).numbers
 
-pub seating_start : (word : BestWord) (places rest : List Place) (last : Place) (tally : Tally) (workers : List Worker) → places ≡ rest ++ last ∷ [] → workers ≡ [] → IsSeatOf word tally.seat → length places ≤ length (view_of tally.seat).numbers → Seating word places rest last tally tally workers
+pub seating_start : (word : BestWord) (places rest : List Place) (last : Place) (tally : Tally) (workers : List Worker) → places ≡ rest ++ last ∷ [] → workers ≡ [] → IsSeatOf word tally.seat
+    → length places ≤ length (view_of tally.seat).numbers → Seating word places rest last tally tally workers
 seating_start word places rest last tally workers is none seat enough = record {
   places_are = ap (λ (ws : List Worker). map (λ worker. worker.place) ws ++ (rest ++ last ∷ [])) none ∙ sym is;
   still = record { is_seat = seat; best = refl; closed = refl; seen = refl; raised = refl };
@@ -78,7 +81,10 @@ abbrev place_in : Worker → Place
 place_in worker = worker.place
 
 -- one more worker has its seat
-pub seating_more : (word : BestWord) (places rest less : List Place) (last : Place) (before tally after : Tally) (workers more : List Worker) (worker : Worker) → rest ≡ worker.place ∷ less → more ≡ workers ++ worker ∷ [] → IsSeatOf word after.seat → IsFresh word worker → after.best ≡ tally.best → after.closed.items ≡ tally.closed.items → view_of after.seat ≡ kept_of (view_of tally.seat) → view_of worker.tally.seat ≡ given_of (view_of tally.seat) → length (view_of after.seat).numbers + 1 ≡ length (view_of tally.seat).numbers → Seating word places rest last before tally workers → Seating word places less last before after more
+pub seating_more : (word : BestWord) (places rest less : List Place) (last : Place) (before tally after : Tally) (workers more : List Worker) (worker : Worker) → rest ≡ worker.place ∷ less
+    → more ≡ workers ++ worker ∷ [] → IsSeatOf word after.seat → IsFresh word worker → after.best ≡ tally.best → after.closed.items ≡ tally.closed.items
+    → view_of after.seat ≡ kept_of (view_of tally.seat) → view_of worker.tally.seat ≡ given_of (view_of tally.seat) → length (view_of after.seat).numbers + 1 ≡ length (view_of tally.seat).numbers
+    → Seating word places rest last before tally workers → Seating word places less last before after more
 seating_more word places rest less last before tally after workers more worker is one seat fresh best closed kept given fewer so_far = record {
   places_are = ap (λ (ws : List Worker). map place_in ws ++ (less ++ last ∷ [])) one
       ∙ ap (λ (l : List Place). l ++ (less ++ last ∷ [])) (map-append place_in workers (worker ∷ []))
@@ -106,16 +112,19 @@ seating_more word places rest less last before tally after workers more worker i
 }
 
 -- once all but the last place have their workers
-pub seated_all : (word : BestWord) (places rest : List Place) (last : Place) (before tally : Tally) (workers all : List Worker) (worker : Worker) → rest ≡ [] → worker.place ≡ last → worker.tally ≡ tally → all ≡ workers ++ worker ∷ [] → Seating word places rest last before tally workers → AreSeated word places before all
+pub seated_all : (word : BestWord) (places rest : List Place) (last : Place) (before tally : Tally) (workers all : List Worker) (worker : Worker) → rest ≡ [] → worker.place ≡ last
+    → worker.tally ≡ tally → all ≡ workers ++ worker ∷ [] → Seating word places rest last before tally workers → AreSeated word places before all
 seated_all word places rest last before tally workers all worker none place own one so_far =
     let still : StillHas word before worker.tally = subst (StillHas word before) (sym own) so_far.still in
     record {
       places_are = ap (map place_in) one ∙ map-append place_in workers (worker ∷ []) ∙ ap (λ (p : Place). map place_in workers ++ p ∷ []) place
           ∙ ap (λ (l : List Place). map place_in workers ++ (l ++ last ∷ [])) (sym none) ∙ so_far.places_are;
       tallies = λ rule is. All-same (λ (w : Worker). IsTally rule word w.tally) all (workers ++ worker ∷ []) one
-          (All-push (λ (w : Worker). IsTally rule word w.tally) workers worker (All-weaker (IsFresh word) (λ (w : Worker). IsTally rule word w.tally) (fresh_tally rule word) workers so_far.fresh) (still_tally rule word before worker.tally still is));
+          (All-push (λ (w : Worker). IsTally rule word w.tally) workers worker (All-weaker (IsFresh word) (λ (w : Worker). IsTally rule word w.tally) (fresh_tally rule word) workers so_far.fresh)
+          (still_tally rule word before worker.tally still is));
       nothing = λ empty. All-same (λ (w : Worker). (listed_in w.tally.closed.items) ≡ []) all (workers ++ worker ∷ []) one
-          (All-push (λ (w : Worker). (listed_in w.tally.closed.items) ≡ []) workers worker (All-weaker (IsFresh word) (λ (w : Worker). (listed_in w.tally.closed.items) ≡ []) (λ w fresh. ap listed_in fresh.nothing) workers so_far.fresh) (ap listed_in still.closed ∙ empty));
+          (All-push (λ (w : Worker). (listed_in w.tally.closed.items) ≡ []) workers worker
+          (All-weaker (IsFresh word) (λ (w : Worker). (listed_in w.tally.closed.items) ≡ []) (λ w fresh. ap listed_in fresh.nothing) workers so_far.fresh) (ap listed_in still.closed ∙ empty));
       numbers = λ number.
           let sum = sum_by-append (λ (w : Worker). times number (view_of w.tally.seat).numbers) workers (worker ∷ []) in
           let lone = sum_by-cons (λ (w : Worker). times number (view_of w.tally.seat).numbers) worker [] in

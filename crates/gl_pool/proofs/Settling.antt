@@ -15,8 +15,8 @@ use Rattle.gl_deal.specs.declared.view.PassView.{PassView}
 use Rattle.gl_deal.specs.Deal.{deques_of}
 use Rattle.gl_deal.specs.Tokens.{Deque, hand_deque, hand_view}
 use Rattle.gl_deal.specs.Views.{with_settled}
-use Rattle.gl_pool.specs.Crew.{got_weight}
-use Rattle.gl_pool.specs.Settle.{ArePassesOf, Settles, Stand, owner_at, place_at, settled_at, stand_of}
+use Rattle.gl_pool.specs.Code.Crew.{got_weight}
+use Rattle.gl_pool.specs.Code.Settle.{ArePassesOf, Settles, Stand, owner_at, place_at, settled_at, stand_of}
 use Rattle.gl_pool.specs.Taken.{duty_of, ends_of, stolen_weight, taken_weight}
 
 -- some passes at the end of a list are taken in
@@ -36,7 +36,14 @@ deque_in place = hand_deque place.hand
 length-passes : (before : List Place) (worker : ℕ) (all : List (Deque × PassView)) → worker < length before → ArePassesOf before worker all → length all + 1 ≡ length before
 length-passes before worker all within are =
     let served : Deque → Deque × List ℕ = λ deque. (deque, worker ∷ []) in
-    omega (arith, ap length are, length-map all duty_of, length-map (remove (deques_of before) worker) served, length-remove (deques_of before) worker (omega (arith, within, length-map before deque_in)), length-map before deque_in)
+    omega (
+      arith,
+      ap length are,
+      length-map all duty_of,
+      length-map (remove (deques_of before) worker) served,
+      length-remove (deques_of before) worker (omega (arith, within, length-map before deque_in)),
+      length-map before deque_in,
+    )
 
 pub settling_start : (before : List Place) (worker : ℕ) (all : List (Deque × PassView)) → worker < length before → ArePassesOf before worker all → Settling before before worker all all
 settling_start before worker all within are =
@@ -89,7 +96,8 @@ deques_same (b ∷ bs) (p ∷ ps) same =
 pub length-stands : (before places : List Place) → map stand_of places ≡ map stand_of before → length places ≡ length before
 length-stands before places same = sym (length-map places stand_of) ∙ ap length same ∙ length-map before stand_of
 
-pub last_for : (before places : List Place) (worker : ℕ) (all rest less : List (Deque × PassView)) (pass : Deque × PassView) → worker < length before → ArePassesOf before worker all → rest ≡ less ++ pass ∷ [] → Settling before places worker all rest → IsFor places worker (owner_at (length less) worker) pass
+pub last_for : (before places : List Place) (worker : ℕ) (all rest less : List (Deque × PassView)) (pass : Deque × PassView) → worker < length before → ArePassesOf before worker all
+    → rest ≡ less ++ pass ∷ [] → Settling before places worker all rest → IsFor places worker (owner_at (length less) worker) pass
 last_for before places worker all rest less pass within are last so_far =
     let index = length less in
     let owner = owner_at index worker in
@@ -102,7 +110,8 @@ last_for before places worker all rest less pass within are last so_far =
     let served : Deque → Deque × List ℕ = λ deque. (deque, worker ∷ []) in
     let short : index < length (remove (deques_of before) worker) = omega (arith, many, below, length-remove (deques_of before) worker long, length-map before deque_in) in
     let duty : duty_of pass ≡ served (get_or (remove (deques_of before) worker) index pass.0) =
-    ap duty_of (sym own) ∙ sym (get_or-map duty_of all index pass (duty_of pass) below) ∙ ap (λ (l : List (Deque × List ℕ)). get_or l index (duty_of pass)) are ∙ get_or-map served (remove (deques_of before) worker) index pass.0 (duty_of pass) short in
+    ap duty_of (sym own) ∙ sym (get_or-map duty_of all index pass (duty_of pass) below) ∙ ap (λ (l : List (Deque × List ℕ)). get_or l index (duty_of pass)) are
+    ∙ get_or-map served (remove (deques_of before) worker) index pass.0 (duty_of pass) short in
     let there : get_or (remove (deques_of before) worker) index pass.0 ≡ get_or (deques_of places) owner pass.0 =
     removed_at (deques_of before) index worker pass.0 long ∙ ap (λ (l : List Deque). get_or l owner pass.0) (sym (deques_same before places so_far.stands)) in
     let many_places = length-stands before places so_far.stands in
@@ -121,7 +130,8 @@ pub record TakesIn (old new : Place) (pass : Deque × PassView) : Type 0 where
 stand_kept : (old new : Place) (pass : Deque × PassView) → TakesIn old new pass → stand_of new ≡ stand_of old
 stand_kept old new pass takes = λ i. record { deque = takes.deque i; owner = (takes.view i).owner; workers = (takes.view i).workers; put = (takes.view i).put }
 
-settled_own : (places after : List Place) (owner : ℕ) (old new d : Place) (pass : Deque × PassView) → owner < length places → after ≡ slice_set places owner new → ((e : Place) → get_or places owner e ≡ old) → TakesIn old new pass → settled_at after owner d ≡ settled_at places owner d ++ pass.1.serves
+settled_own : (places after : List Place) (owner : ℕ) (old new d : Place) (pass : Deque × PassView) → owner < length places → after ≡ slice_set places owner new
+    → ((e : Place) → get_or places owner e ≡ old) → TakesIn old new pass → settled_at after owner d ≡ settled_at places owner d ++ pass.1.serves
 settled_own places after owner old new d pass inside set is takes =
     ap (λ (l : List Place). settled_at l owner d) set
     ∙ ap (λ (p : Place). (hand_view p.hand).settled) (get_or-set_same places owner new d inside)
@@ -144,7 +154,8 @@ got_more weight old new pass takes =
     ap (λ (v : HandView). sum_by weight v.gathered) takes.view ∙ sum_by-append weight (hand_view old.hand).gathered pass.1.taken in
     omega arith
 
-got_set : (weight : Cell → ℕ) (places : List Place) (owner : ℕ) (new d : Place) → owner < length places → got_weight weight (slice_set places owner new) + got_in weight (get_or places owner d) ≡ got_weight weight places + got_in weight new
+got_set : (weight : Cell → ℕ) (places : List Place) (owner : ℕ) (new d : Place) → owner < length places
+    → got_weight weight (slice_set places owner new) + got_in weight (get_or places owner d) ≡ got_weight weight places + got_in weight new
 unfolding got_in
 got_set weight places owner new d inside = sum_by-set (λ (place : Place). taken_weight weight place + sum_by weight (hand_view place.hand).gathered) places owner new d inside
 
@@ -157,13 +168,16 @@ further index worker owner other differ past more is = elim (cases_lt index work
 ]
 
 -- one more pass is taken in
-pub settling_more : (before places after : List Place) (worker : ℕ) (all rest less : List (Deque × PassView)) (pass : Deque × PassView) (old new : Place) → rest ≡ less ++ pass ∷ [] → IsFor places worker (owner_at (length less) worker) pass → after ≡ slice_set places (owner_at (length less) worker) new → ((e : Place) → get_or places (owner_at (length less) worker) e ≡ old) → TakesIn old new pass → Settling before places worker all rest → Settling before after worker all less
+pub settling_more : (before places after : List Place) (worker : ℕ) (all rest less : List (Deque × PassView)) (pass : Deque × PassView) (old new : Place) → rest ≡ less ++ pass ∷ []
+    → IsFor places worker (owner_at (length less) worker) pass → after ≡ slice_set places (owner_at (length less) worker) new → ((e : Place) → get_or places (owner_at (length less) worker) e ≡ old)
+    → TakesIn old new pass → Settling before places worker all rest → Settling before after worker all less
 settling_more before places after worker all rest less pass old new last is_for set is takes so_far =
     let owner = owner_at (length less) worker in
     let many = length-stands before places so_far.stands in
     let long : length rest ≡ length less + 1 = ap length last ∙ length-append less (pass ∷ []) in
     let own : (d : Place) → Contains (settled_at after owner d) worker = λ d.
-    subst (λ (l : List ℕ). Contains l worker) (sym (settled_own places after owner old new d pass is_for.inside set is takes ∙ ap (λ (l : List ℕ). settled_at places owner d ++ l) is_for.serves)) (Contains-push (settled_at places owner d) worker) in
+    subst (λ (l : List ℕ). Contains l worker) (sym (settled_own places after owner old new d pass is_for.inside set is takes ∙ ap (λ (l : List ℕ). settled_at places owner d ++ l) is_for.serves))
+    (Contains-push (settled_at places owner d) worker) in
     record {
       done = pass ∷ so_far.done;
       all_are = so_far.all_are ∙ ap (λ (l : List (Deque × PassView)). l ++ so_far.done) last ∙ append_assoc less (pass ∷ []) so_far.done;

@@ -9,8 +9,8 @@ use Rattle.std.proofs.lemmas.List.Sums.{sum_by-set}
 use Rattle.gl_box.specs.declared.cell.Cell.{Cell}
 use Rattle.gl_deal.specs.declared.place.Place.{Place}
 use Rattle.gl_deal.specs.Tokens.{Deque, hand_view}
-use Rattle.gl_pool.specs.Crew.{got_weight}
-use Rattle.gl_pool.specs.Settle.{ArePassesOf, Settles, SettlesAll, Stand, StandReady, duties, place_at, settled_at, stand_of}
+use Rattle.gl_pool.specs.Code.Crew.{got_weight}
+use Rattle.gl_pool.specs.Code.Settle.{ArePassesOf, Settles, SettlesAll, Stand, StandReady, duties, place_at, settled_at, stand_of}
 use Rattle.gl_pool.specs.Taken.{duty_of, ends_of, stolen_weight, taken_weight}
 use Rattle.gl_pool.proofs.Settling.{deques_same, length-stands}
 
@@ -34,7 +34,8 @@ all_start before = record {
 }
 
 -- the places once a worker's passes are lifted from its own
-got_lifted : (weight : Cell → ℕ) (places : List Place) (worker : ℕ) (old new : Place) → worker < length places → new.hand ≡ old.hand → ends_of new ≡ [] → ((e : Place) → get_or places worker e ≡ old) → got_weight weight (slice_set places worker new) + stolen_weight weight (ends_of old) ≡ got_weight weight places
+got_lifted : (weight : Cell → ℕ) (places : List Place) (worker : ℕ) (old new : Place) → worker < length places → new.hand ≡ old.hand → ends_of new ≡ [] → ((e : Place) → get_or places worker e ≡ old)
+    → got_weight weight (slice_set places worker new) + stolen_weight weight (ends_of old) ≡ got_weight weight places
 got_lifted weight places worker old new inside hand none is =
     let f : Place → ℕ = λ place. taken_weight weight place + sum_by weight (hand_view place.hand).gathered in
     let set = sum_by-set f places worker new old inside in
@@ -48,15 +49,18 @@ stand_lifted : (old new : Place) → new.hand ≡ old.hand → stand_of new ≡ 
 stand_lifted old new hand = ap (λ h. stand_of (record { hand = h; passes = old.passes })) hand
 
 -- what a worker has before it when its turn comes
-pub passes_ready : (before places : List Place) (worker : ℕ) (old new : Place) → StandReady before → SettlingAll before places worker → worker < length places → new.hand ≡ old.hand → ((e : Place) → get_or places worker e ≡ old) → ArePassesOf (slice_set places worker new) worker (ends_of old)
+pub passes_ready : (before places : List Place) (worker : ℕ) (old new : Place) → StandReady before → SettlingAll before places worker → worker < length places → new.hand ≡ old.hand
+    → ((e : Place) → get_or places worker e ≡ old) → ArePassesOf (slice_set places worker new) worker (ends_of old)
 passes_ready before places worker old new ready so_far inside hand is =
     let many = length-stands before places so_far.stands in
     let here : worker < length before = omega arith in
     let own : ends_of old ≡ ends_of (place_at before worker old) = ap ends_of (sym (is old)) ∙ so_far.left worker old here (omega arith) in
-    let stands : map stand_of (slice_set places worker new) ≡ map stand_of before = map-set_same stand_of places worker new old (stand_lifted old new hand ∙ ap stand_of (sym (is old))) ∙ so_far.stands in
+    let stands : map stand_of (slice_set places worker new) ≡ map stand_of before = map-set_same stand_of places worker new old (stand_lifted old new hand ∙ ap stand_of (sym (is old)))
+    ∙ so_far.stands in
     ap (map duty_of) own ∙ ready.passes worker old here ∙ ap (λ (deques : List Deque). duties deques worker) (sym (deques_same before (slice_set places worker new) stands))
 
-settled_lifted : (places : List Place) (worker owner : ℕ) (old new d : Place) → worker < length places → new.hand ≡ old.hand → ((e : Place) → get_or places worker e ≡ old) → settled_at (slice_set places worker new) owner d ≡ settled_at places owner d
+settled_lifted : (places : List Place) (worker owner : ℕ) (old new d : Place) → worker < length places → new.hand ≡ old.hand → ((e : Place) → get_or places worker e ≡ old)
+    → settled_at (slice_set places worker new) owner d ≡ settled_at places owner d
 settled_lifted places worker owner old new d inside hand is = elim (cases_order owner worker) [
   | inl same ↦
       ap (λ (o : ℕ). settled_at (slice_set places worker new) o d) same ∙ ap (λ (p : Place). (hand_view p.hand).settled) (get_or-set_same places worker new d inside)
@@ -66,12 +70,14 @@ settled_lifted places worker owner old new d inside hand is = elim (cases_order 
       ap (λ (p : Place). (hand_view p.hand).settled) (get_or-set_other places worker owner new d differ)
 ]
 
-ends_at : (places after : List Place) (other : ℕ) (d : Place) → other < length places → map ends_of after ≡ map ends_of places → length after ≡ length places → ends_of (place_at after other d) ≡ ends_of (place_at places other d)
+ends_at : (places after : List Place) (other : ℕ) (d : Place) → other < length places → map ends_of after ≡ map ends_of places → length after ≡ length places
+    → ends_of (place_at after other d) ≡ ends_of (place_at places other d)
 ends_at places after other d inside same many =
     sym (get_or-map ends_of after other d [] (omega arith)) ∙ ap (λ l. get_or l other []) same ∙ get_or-map ends_of places other d [] inside
 
 -- the passes of one more worker are taken in
-pub all_more : (before places after : List Place) (worker : ℕ) (old new : Place) → SettlingAll before places worker → worker < length places → new.hand ≡ old.hand → ends_of new ≡ [] → ((e : Place) → get_or places worker e ≡ old) → Settles (slice_set places worker new) after worker (ends_of old) → SettlingAll before after (worker + 1)
+pub all_more : (before places after : List Place) (worker : ℕ) (old new : Place) → SettlingAll before places worker → worker < length places → new.hand ≡ old.hand → ends_of new ≡ []
+    → ((e : Place) → get_or places worker e ≡ old) → Settles (slice_set places worker new) after worker (ends_of old) → SettlingAll before after (worker + 1)
 all_more before places after worker old new so_far inside hand none is settles =
     let lift = slice_set places worker new in
     let many = length-stands before places so_far.stands in
@@ -95,11 +101,13 @@ all_more before places after worker old new so_far inside hand none is settles =
             subst (λ (o : ℕ). Contains (settled_at after owner d) o) (sym same) (settles.settled owner d (omega arith) (λ is_worker. differ (is_worker ∙ sym same)))
         | inr apart ↦
             let lower : other < worker = elim apart [ inl low ↦ low | inr high ↦ absurd (omega arith) ] in
-            settles.kept owner other d (omega arith) (subst (λ (l : List ℕ). Contains l other) (sym (settled_lifted places worker owner old new d inside hand is)) (so_far.settled owner other d within lower differ))
+            settles.kept owner other d (omega arith) (subst (λ (l : List ℕ). Contains l other) (sym (settled_lifted places worker owner old new d inside hand is))
+            (so_far.settled owner other d within lower differ))
       ];
     }
 
-stand_at : (before places : List Place) (owner : ℕ) (d : Place) → owner < length before → map stand_of places ≡ map stand_of before → stand_of (place_at places owner d) ≡ stand_of (place_at before owner d)
+stand_at : (before places : List Place) (owner : ℕ) (d : Place) → owner < length before → map stand_of places ≡ map stand_of before
+    → stand_of (place_at places owner d) ≡ stand_of (place_at before owner d)
 stand_at before places owner d inside same =
     let many = length-stands before places same in
     sym (get_or-map stand_of places owner d (stand_of d) (omega arith)) ∙ ap (λ (l : List Stand). get_or l owner (stand_of d)) same ∙ get_or-map stand_of before owner d (stand_of d) inside

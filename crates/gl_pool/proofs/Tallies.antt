@@ -5,7 +5,7 @@ use Rattle.std.proofs.lemmas.Grind.{flat_map-append}
 use Rattle.std.proofs.lemmas.List.Elements.{All-append, All-same}
 use Rattle.gl_box.specs.declared.closed.Closed.{Closed}
 use Rattle.gl_box.specs.Cell.{spans_of}
-use Rattle.gl_goal.specs.Rule.{Rule}
+use Rattle.gl_goal.specs.Goal.{Goal}
 use Rattle.gl_goal.specs.Certificate.{IsClosedFor}
 use Rattle.gl_plain.specs.declared.found.Best.{Best}
 use Rattle.gl_plain.specs.Search.{IsSound}
@@ -17,33 +17,38 @@ use Rattle.gl_deal.specs.declared.place.Place.{Place}
 use Rattle.gl_pool.specs.declared.share.Haul.{Haul}
 use Rattle.gl_pool.specs.declared.tally.Tally.{Tally}
 use Rattle.gl_pool.specs.Kept.{IsKept, seen_by}
-use Rattle.gl_pool.specs.Tally.{Gathers, IsGreater, IsTally, Turns, word_of}
+use Rattle.gl_pool.specs.Code.Tally.{Gathers, IsGreater, IsTally, Turns, word_of}
 use Rattle.gl_pool.specs.Work.{HasHauled}
 use Rattle.gl_pool.proofs.Hearing.{all_closed_longer}
 use Rattle.gl_pool.proofs.Together.{parted_any}
 use Rattle.gl_pool.specs.Trail.{boxes_in}
-use Rattle.gl_pool.specs.Listed.{ArePassed, IsPassed, listed_in}
+use Rattle.gl_pool.specs.Code.Listed.{ArePassed, IsPassed}
+use Rattle.gl_pool.specs.Listed.{listed_in}
 
-kept_sound : (rule : Rule) (before after : View) (kept best : Option Best) → IsKept rule before after kept → IsSound rule best → IsSound rule (option_or kept best)
+kept_sound : (rule : Goal) (before after : View) (kept best : Option Best) → IsKept rule before after kept → IsSound rule best → IsSound rule (option_or kept best)
 kept_sound rule before after None best is sound = sound
 kept_sound rule before after (Some kept) best is sound = is.0
 
-kept_raised : (rule : Rule) (before after : View) (kept best : Option Best) → IsKept rule before after kept → before.raised ≡ word_of best → after.raised ≡ word_of (option_or kept best)
+kept_raised : (rule : Goal) (before after : View) (kept best : Option Best) → IsKept rule before after kept → before.raised ≡ word_of best → after.raised ≡ word_of (option_or kept best)
 kept_raised rule before after None best is raised = is ∙ raised
 kept_raised rule before after (Some kept) best is raised = is.1
 
 -- what a worker kept and closed joins the tally
-pub tally_on : (rule : Rule) (word : BestWord) (place place' : Place) (tally after : Tally) (share : Haul) → IsTally rule word tally → HasHauled rule word place place' tally.seat after.seat share → after.best ≡ option_or share.kept tally.best → (listed_in after.closed.items) ≡ (listed_in tally.closed.items) ++ (boxes_in share.closed) → (ArePassed tally.closed.items → ArePassed after.closed.items) → IsTally rule word after
+pub tally_on : (rule : Goal) (word : BestWord) (place place' : Place) (tally after : Tally) (share : Haul) → IsTally rule word tally → HasHauled rule word place place' tally.seat after.seat share
+    → after.best ≡ option_or share.kept tally.best → (listed_in after.closed.items) ≡ (listed_in tally.closed.items) ++ (boxes_in share.closed)
+    → (ArePassed tally.closed.items → ArePassed after.closed.items) → IsTally rule word after
 tally_on rule word place place' tally after share is worked best closed passed = record {
   is_seat = worked.seat.is_seat;
   sound = subst (IsSound rule) (sym best) (kept_sound rule (view_of tally.seat) (view_of after.seat) share.kept tally.best worked.kept is.sound);
   raised = kept_raised rule (view_of tally.seat) (view_of after.seat) share.kept tally.best worked.kept is.raised ∙ ap word_of (sym best);
   closed = All-same (λ (box : Closed). IsClosedFor rule (seen_by after.seat) (spans_of box.cell) box.why) _ _ closed
-      (All-append (λ (box : Closed). IsClosedFor rule (seen_by after.seat) (spans_of box.cell) box.why) (listed_in tally.closed.items) (boxes_in share.closed) (all_closed_longer rule tally.seat after.seat (listed_in tally.closed.items) worked.seat.no_less is.closed) worked.reasons);
+      (All-append (λ (box : Closed). IsClosedFor rule (seen_by after.seat) (spans_of box.cell) box.why) (listed_in tally.closed.items) (boxes_in share.closed)
+      (all_closed_longer rule tally.seat after.seat (listed_in tally.closed.items) worked.seat.no_less is.closed) worked.reasons);
   passed = passed is.passed;
 }
 
-pub turns_on : (rule : Rule) (word : BestWord) (place place' : Place) (tally after : Tally) (share : Haul) → HasHauled rule word place place' tally.seat after.seat share → (listed_in after.closed.items) ≡ (listed_in tally.closed.items) ++ (boxes_in share.closed) → Turns rule place place' tally after
+pub turns_on : (rule : Goal) (word : BestWord) (place place' : Place) (tally after : Tally) (share : Haul) → HasHauled rule word place place' tally.seat after.seat share
+    → (listed_in after.closed.items) ≡ (listed_in tally.closed.items) ++ (boxes_in share.closed) → Turns rule place place' tally after
 turns_on rule word place place' tally after share worked closed = record {
   taken = worked.taken;
   put = worked.put;
@@ -57,9 +62,11 @@ turns_on rule word place place' tally after share worked closed = record {
 }
 
 -- one tally takes in another
-pub gathered : (word : BestWord) (tally other after : Tally) → IsSeatOf word after.seat → view_of after.seat ≡ both_of (view_of tally.seat) (view_of other.seat) → IsGreater tally.best other.best after.best → after.closed.items ≡ tally.closed.items ++ other.closed.items → Gathers word tally other after
+pub gathered : (word : BestWord) (tally other after : Tally) → IsSeatOf word after.seat → view_of after.seat ≡ both_of (view_of tally.seat) (view_of other.seat)
+    → IsGreater tally.best other.best after.best → after.closed.items ≡ tally.closed.items ++ other.closed.items → Gathers word tally other after
 gathered word tally other after seat both greater appended =
-    let joined : listed_in after.closed.items ≡ listed_in tally.closed.items ++ listed_in other.closed.items = ap listed_in appended ∙ flat_map-append (λ list. list.boxes.items) tally.closed.items other.closed.items in
+    let joined : listed_in after.closed.items ≡ listed_in tally.closed.items ++ listed_in other.closed.items = ap listed_in appended
+    ∙ flat_map-append (λ list. list.boxes.items) tally.closed.items other.closed.items in
     let seen : (view_of after.seat).seen ≡ max (view_of tally.seat).seen (view_of other.seat).seen = ap (λ (v : View). v.seen) both in
     let raised : (view_of after.seat).raised ≡ max (view_of tally.seat).raised (view_of other.seat).raised = ap (λ (v : View). v.raised) both in
     record {

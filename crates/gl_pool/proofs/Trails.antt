@@ -12,24 +12,22 @@ use Rattle.gl_plain.specs.Order.{cells_of}
 use Rattle.gl_walk.specs.Walk.{AreFrontiers, open_cells}
 use Rattle.gl_walk.proofs.Frontiers.{open_push, passed_on}
 use Rattle.gl_pool.specs.declared.trail.Trail.{Trail}
-use Rattle.gl_pool.specs.Listed.{Lead}
-use Rattle.gl_pool.specs.Trail.{IsTrail}
+use Rattle.gl_pool.specs.Code.Listed.{Lead}
+use Rattle.gl_pool.specs.Code.Trail.{IsTrail}
 
 -- one box more
 pub boxes_more : (front boxes after : List Closed) (box : Closed) → after ≡ boxes ++ box ∷ [] → front ++ after ≡ (front ++ boxes) ++ box ∷ []
 boxes_more front boxes after box is = ap (λ (l : List Closed). front ++ l) is ∙ sym (append_assoc front boxes (box ∷ []))
-
--- boxes lead on to cells with the same spans
-pub lead_on : (before after other : List Cell) (boxes : List Closed) → open_cells after ≡ open_cells other → Lead before boxes after → Lead before boxes other
-lead_on before after other boxes same lead more fronts = lead more (subst (λ (l : List (List (ℕ × ℕ))). AreFrontiers l more) (sym same) fronts)
 
 -- the first open cell is closed
 lead_closed : (before rest : List Cell) (cell : Cell) (why : Why) (boxes : List Closed) → Lead before boxes (rest ++ cell ∷ []) → Lead before (boxes ++ record { cell = cell; why = why } ∷ []) rest
 lead_closed before rest cell why boxes lead more fronts =
     let box : Closed = record { cell = cell; why = why } in
     let spans : Closed → List (ℕ × ℕ) = λ b. spans_of b.cell in
-    let one : AreFrontiers (open_cells (rest ++ cell ∷ [])) (spans_of cell ∷ more) = subst (λ (l : List (List (ℕ × ℕ))). AreFrontiers l (spans_of cell ∷ more)) (sym (open_push rest cell)) ((passed_on (spans_of cell) (open_cells rest) more).1 fronts) in
-    let regroup : map spans (boxes ++ box ∷ []) ++ more ≡ map spans boxes ++ (spans_of cell ∷ more) = ap (λ (l : List (List (ℕ × ℕ))). l ++ more) (map-append spans boxes (box ∷ [])) ∙ append_assoc (map spans boxes) (spans_of cell ∷ []) more in
+    let one : AreFrontiers (open_cells (rest ++ cell ∷ [])) (spans_of cell ∷ more) =
+    subst (λ (l : List (List (ℕ × ℕ))). AreFrontiers l (spans_of cell ∷ more)) (sym (open_push rest cell)) ((passed_on (spans_of cell) (open_cells rest) more).1 fronts) in
+    let regroup : map spans (boxes ++ box ∷ []) ++ more ≡ map spans boxes ++ (spans_of cell ∷ more) = ap (λ (l : List (List (ℕ × ℕ))). l ++ more) (map-append spans boxes (box ∷ []))
+    ∙ append_assoc (map spans boxes) (spans_of cell ∷ []) more in
     subst (AreFrontiers (open_cells before)) (sym regroup) (lead (spans_of cell ∷ more) one)
 
 -- frontiers of the halves are one of the cell
@@ -43,14 +41,16 @@ halves_open cell lower upper others more halves fronts = (
 )
 
 -- the first open cell gives way to its halves
-lead_cut : (before rest : List Cell) (cell lower upper : Cell) (boxes : List Closed) → AreHalves (spans_of cell) (spans_of lower) (spans_of upper) → Lead before boxes (rest ++ cell ∷ []) → Lead before boxes ((rest ++ upper ∷ []) ++ lower ∷ [])
+lead_cut : (before rest : List Cell) (cell lower upper : Cell) (boxes : List Closed) → AreHalves (spans_of cell) (spans_of lower) (spans_of upper) → Lead before boxes (rest ++ cell ∷ [])
+    → Lead before boxes ((rest ++ upper ∷ []) ++ lower ∷ [])
 lead_cut before rest cell lower upper boxes halves lead more fronts =
     let two : AreFrontiers (spans_of lower ∷ spans_of upper ∷ open_cells rest) more =
     subst (λ (l : List (List (ℕ × ℕ))). AreFrontiers l more) (open_push (rest ++ upper ∷ []) lower ∙ ap (λ (l : List (List (ℕ × ℕ))). spans_of lower ∷ l) (open_push rest upper)) fronts in
     lead more (subst (λ (l : List (List (ℕ × ℕ))). AreFrontiers l more) (sym (open_push rest cell)) (halves_open (spans_of cell) (spans_of lower) (spans_of upper) (open_cells rest) more halves two))
 
 -- the last of a worker's cells is closed
-pub closed_on : (trail : Trail) (cells rest : List Cell) (cell : Cell) (why : Why) (boxes : List Closed) → IsTrail trail cells → cells ≡ rest ++ cell ∷ [] → boxes ≡ trail.last.boxes.items ++ record { cell = cell; why = why } ∷ [] → Lead trail.last.before.items boxes (trail.last.after.items ++ rest)
+pub closed_on : (trail : Trail) (cells rest : List Cell) (cell : Cell) (why : Why) (boxes : List Closed) → IsTrail trail cells → cells ≡ rest ++ cell ∷ []
+    → boxes ≡ trail.last.boxes.items ++ record { cell = cell; why = why } ∷ [] → Lead trail.last.before.items boxes (trail.last.after.items ++ rest)
 closed_on trail cells rest cell why boxes way top more_boxes =
     let before = trail.last.before.items in
     let after = trail.last.after.items in
@@ -59,7 +59,8 @@ closed_on trail cells rest cell why boxes way top more_boxes =
     (lead_closed before (after ++ rest) cell why trail.last.boxes.items (subst (Lead before trail.last.boxes.items) behind way.leads))
 
 -- the last of a worker's cells is cut
-pub cut_on : (trail : Trail) (cells rest halved : List Cell) (cell lower upper : Cell) → IsTrail trail cells → cells ≡ rest ++ cell ∷ [] → halved ≡ (rest ++ upper ∷ []) ++ lower ∷ [] → AreHalves (spans_of cell) (spans_of lower) (spans_of upper) → Lead trail.last.before.items trail.last.boxes.items (trail.last.after.items ++ halved)
+pub cut_on : (trail : Trail) (cells rest halved : List Cell) (cell lower upper : Cell) → IsTrail trail cells → cells ≡ rest ++ cell ∷ [] → halved ≡ (rest ++ upper ∷ []) ++ lower ∷ []
+    → AreHalves (spans_of cell) (spans_of lower) (spans_of upper) → Lead trail.last.before.items trail.last.boxes.items (trail.last.after.items ++ halved)
 cut_on trail cells rest halved cell lower upper way top two halves =
     let before = trail.last.before.items in
     let after = trail.last.after.items in
@@ -70,7 +71,8 @@ cut_on trail cells rest halved cell lower upper way top two halves =
     subst (Lead before boxes) along (lead_cut before (after ++ rest) cell lower upper boxes halves (subst (Lead before boxes) behind way.leads))
 
 -- the first of a worker's cells is put behind them
-pub put_on : (trail : Trail) (cells rest opened : List Cell) (cell : Cell) → IsTrail trail cells → cells ≡ cell ∷ rest → opened ≡ trail.last.after.items ++ cell ∷ [] → Lead trail.last.before.items trail.last.boxes.items (opened ++ rest)
+pub put_on : (trail : Trail) (cells rest opened : List Cell) (cell : Cell) → IsTrail trail cells → cells ≡ cell ∷ rest → opened ≡ trail.last.after.items ++ cell ∷ []
+    → Lead trail.last.before.items trail.last.boxes.items (opened ++ rest)
 put_on trail cells rest opened cell way first put =
     let after = trail.last.after.items in
     let same : after ++ cells ≡ opened ++ rest =
@@ -85,21 +87,11 @@ lead_done trail way = subst (Lead trail.last.before.items trail.last.boxes.items
 abbrev pub Completes : List (ℕ × ℕ) → List Closed → List Cell → Type 0
 Completes whole passed opened = (more : List (List (ℕ × ℕ))) → AreFrontiers (open_cells opened) more → IsFrontier whole (cells_of passed ++ more)
 
--- nothing is passed yet
-pub completes_start : (whole : Cell) (opened : List Cell) → opened ≡ whole ∷ [] → Completes (spans_of whole) [] opened
-completes_start whole opened is more open_ =
-    let fronts : AreFrontiers (spans_of whole ∷ []) more = subst (λ (l : List Cell). AreFrontiers (open_cells l) more) is open_ in
-    subst (IsFrontier (spans_of whole)) (sym (fronts.4 ∙ ap (λ (l : List (List (ℕ × ℕ))). fronts.0 ++ l) fronts.3 ∙ append-nil fronts.0)) fronts.2
-
 -- one list more is passed
-pub completes_on : (whole : List (ℕ × ℕ)) (passed boxes : List Closed) (opened before after : List Cell) → map spans_of opened ≡ map spans_of before → Lead before boxes after → Completes whole passed opened → Completes whole (passed ++ boxes) after
+pub completes_on : (whole : List (ℕ × ℕ)) (passed boxes : List Closed) (opened before after : List Cell) → map spans_of opened ≡ map spans_of before → Lead before boxes after
+    → Completes whole passed opened → Completes whole (passed ++ boxes) after
 completes_on whole passed boxes opened before after same lead completes more fronts =
     let start : AreFrontiers (open_cells opened) (cells_of boxes ++ more) = subst (λ (l : List (List (ℕ × ℕ))). AreFrontiers (reverse l) (cells_of boxes ++ more)) (sym same) (lead more fronts) in
     let regroup : cells_of (passed ++ boxes) ++ more ≡ cells_of passed ++ (cells_of boxes ++ more) =
     ap (λ (l : List (List (ℕ × ℕ))). l ++ more) (map-append (λ (b : Closed). spans_of b.cell) passed boxes) ∙ append_assoc (cells_of passed) (cells_of boxes) more in
     subst (IsFrontier whole) (sym regroup) (completes (cells_of boxes ++ more) start)
-
--- nothing is open any more
-pub completes_whole : (whole : List (ℕ × ℕ)) (passed : List Closed) (opened : List Cell) → opened ≡ [] → Completes whole passed opened → IsFrontier whole (cells_of passed)
-completes_whole whole passed opened none completes =
-    subst (IsFrontier whole) (append-nil (cells_of passed)) (completes [] (subst (λ (l : List Cell). AreFrontiers (open_cells l) []) (sym none) refl))

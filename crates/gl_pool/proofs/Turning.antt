@@ -8,7 +8,7 @@ use Rattle.std.proofs.lemmas.List.Elements.{All-cons, All-head, All-nil, All-tai
 use Rattle.std.proofs.lemmas.List.Sums.{sum_by-append, sum_by-cons}
 use Rattle.gl_box.specs.declared.cell.Cell.{Cell}
 use Rattle.gl_box.specs.declared.closed.Closed.{Closed}
-use Rattle.gl_goal.specs.Rule.{Rule}
+use Rattle.gl_goal.specs.Goal.{Goal}
 use Rattle.gl_best.specs.declared.word.BestWord.{BestWord}
 use Rattle.gl_best.specs.Rule.{times}
 use Rattle.gl_best.specs.Seats.{view_of}
@@ -16,21 +16,22 @@ use Rattle.gl_deal.specs.declared.place.Place.{Place}
 use Rattle.gl_deal.specs.Tokens.{hand_view}
 use Rattle.gl_pool.specs.declared.crew.Worker.{Worker}
 use Rattle.gl_pool.specs.declared.tally.Tally.{Tally}
-use Rattle.gl_pool.specs.Crew.{AreSeated, Collects, HasTurned, MoveAll, WorkedAll, closed_by, post_of, times_seated}
+use Rattle.gl_pool.specs.Code.Crew.{AreSeated, Collects, HasTurned, MoveAll, WorkedAll, closed_by, post_of, times_seated}
 use Rattle.gl_pool.specs.Parts.{ArePartedInto, IsFromTaken, IsPartOfTaken, IsStrange}
 use Rattle.gl_pool.specs.Taken.{Moves, taken_weight}
-use Rattle.gl_pool.specs.Tally.{IsTally}
+use Rattle.gl_pool.specs.Code.Tally.{IsTally}
 use Rattle.gl_pool.proofs.Together.{worked_both}
 use Rattle.gl_pool.specs.Listed.{listed_in}
 
 -- each worker of a list has turned into that of another
-pub TurnedAll : Rule → BestWord → List Worker → List Worker → Type 0
+pub TurnedAll : Goal → BestWord → List Worker → List Worker → Type 0
 TurnedAll rule word [] [] = Unit {0}
 TurnedAll rule word [] (a ∷ afters) = ⊥
 TurnedAll rule word (b ∷ bs) [] = ⊥
 TurnedAll rule word (b ∷ bs) (a ∷ afters) = HasTurned rule word b a × TurnedAll rule word bs afters
 
-pub turned_each : (rule : Rule) (word : BestWord) (before after : List Worker) → length before ≡ length after → ((k : ℕ) (d : Worker) → k < length before → HasTurned rule word (get_or before k d) (get_or after k d)) → TurnedAll rule word before after
+pub turned_each : (rule : Goal) (word : BestWord) (before after : List Worker) → length before ≡ length after
+    → ((k : ℕ) (d : Worker) → k < length before → HasTurned rule word (get_or before k d) (get_or after k d)) → TurnedAll rule word before after
 unfolding TurnedAll
 turned_each rule word [] [] same each = tt
 turned_each rule word [] (a ∷ afters) same each = absurd (omega arith)
@@ -55,7 +56,8 @@ none_moved : MoveAll [] [] [] []
 none_moved = record { took = λ weight. refl; puts = λ weight. refl; posts = refl }
 
 -- one place more
-pub one_moved : (before after : Place) (befores afters : List Place) (taken put all_taken all_put : List Cell) → Moves before after taken put → MoveAll befores afters all_taken all_put → MoveAll (before ∷ befores) (after ∷ afters) (all_taken ++ taken) (all_put ++ put)
+pub one_moved : (before after : Place) (befores afters : List Place) (taken put all_taken all_put : List Cell) → Moves before after taken put → MoveAll befores afters all_taken all_put
+    → MoveAll (before ∷ befores) (after ∷ afters) (all_taken ++ taken) (all_put ++ put)
 one_moved before after befores afters taken put all_taken all_put moves rest = record {
   took = λ weight.
       let got : Place → ℕ = λ place. taken_weight weight place + sum_by weight (hand_view place.hand).gathered in
@@ -63,12 +65,13 @@ one_moved before after befores afters taken put all_taken all_put moves rest = r
       omega (arith, moves.took weight, rest.took weight, gathered, sum_by-cons got before befores, sum_by-cons got after afters, sum_by-append weight all_taken taken);
   puts = λ weight.
       let put_of : Place → ℕ = λ place. sum_by weight (hand_view place.hand).put in
-      let put_is : sum_by weight (hand_view after.hand).put ≡ sum_by weight (hand_view before.hand).put + sum_by weight put = ap (sum_by weight) moves.puts ∙ sum_by-append weight (hand_view before.hand).put put in
+      let put_is : sum_by weight (hand_view after.hand).put ≡ sum_by weight (hand_view before.hand).put + sum_by weight put = ap (sum_by weight) moves.puts
+      ∙ sum_by-append weight (hand_view before.hand).put put in
       omega (arith, rest.puts weight, put_is, sum_by-cons put_of before befores, sum_by-cons put_of after afters, sum_by-append weight all_put put);
   posts = λ i. post_kept before after taken put moves i ∷ rest.posts i;
 }
 
-none_parted : (rule : Rule) → ArePartedInto rule None [] [] [] []
+none_parted : (rule : Goal) → ArePartedInto rule None [] [] [] []
 none_parted rule = record {
   parted = λ tuple. refl;
   closed_are = All-nil (λ (box : Closed). IsFromTaken rule None [] box.cell);
@@ -77,7 +80,7 @@ none_parted rule = record {
 }
 
 -- what workers did together who had closed nothing before
-pub record TurnsTogether (rule : Rule) (word : BestWord) (before after : List Worker) : Type 0 where
+pub record TurnsTogether (rule : Goal) (word : BestWord) (before after : List Worker) : Type 0 where
   pub taken : List Cell
   pub put : List Cell
   pub strange : List Cell
@@ -86,7 +89,8 @@ pub record TurnsTogether (rule : Rule) (word : BestWord) (before after : List Wo
   pub tallies : All (λ worker. IsTally rule word worker.tally) after
   pub numbers : (number : ℕ) → times_seated number after ≡ times_seated number before
 
-pub turn_together : (rule : Rule) (word : BestWord) (before after : List Worker) → TurnedAll rule word before after → All (λ worker. (listed_in worker.tally.closed.items) ≡ []) before → TurnsTogether rule word before after
+pub turn_together : (rule : Goal) (word : BestWord) (before after : List Worker) → TurnedAll rule word before after → All (λ worker. (listed_in worker.tally.closed.items) ≡ []) before
+    → TurnsTogether rule word before after
 unfolding TurnedAll
 turn_together rule word [] [] turned nothing = record {
   taken = [];
@@ -114,18 +118,28 @@ turn_together rule word (b ∷ bs) (a ∷ afters) turned nothing =
       tallies = All-cons (λ (w : Worker). IsTally rule word w.tally) a afters turned.0.is_tally rest.tallies;
       numbers = λ number.
           let same : times number (view_of a.tally.seat).numbers ≡ times number (view_of b.tally.seat).numbers = ap (times number) turn.numbers in
-          omega (arith, rest.numbers number, sum_by-cons (λ (w : Worker). times number (view_of w.tally.seat).numbers) a afters, sum_by-cons (λ (w : Worker). times number (view_of w.tally.seat).numbers) b bs);
+          omega (
+            arith,
+            rest.numbers number,
+            sum_by-cons (λ (w : Worker). times number (view_of w.tally.seat).numbers) a afters,
+            sum_by-cons (λ (w : Worker). times number (view_of w.tally.seat).numbers) b bs,
+          );
     }
 
 -- what each result of a worker says, where all came back
-turned_ok : (rule : Rule) (word : BestWord) (before : List Worker) (results : List (Result Worker AllocError)) (after : List Worker) → length results ≡ length before → results ≡ map Ok after → ((k : ℕ) (d : Result Worker AllocError) (e : Worker) → k < length before → IfOk (get_or results k d) (HasTurned rule word (get_or before k e))) → TurnedAll rule word before after
+turned_ok : (rule : Goal) (word : BestWord) (before : List Worker) (results : List (Result Worker AllocError)) (after : List Worker) → length results ≡ length before → results ≡ map Ok after
+    → ((k : ℕ) (d : Result Worker AllocError) (e : Worker) → k < length before → IfOk (get_or results k d) (HasTurned rule word (get_or before k e))) → TurnedAll rule word before after
 turned_ok rule word before results after same all each =
     let long : length results ≡ length after = ap length all ∙ length-map after Ok in
     turned_each rule word before after (omega arith)
-    (λ k d below. subst (λ (r : Result Worker AllocError). IfOk r (HasTurned rule word (get_or before k d))) (ap (λ (l : List (Result Worker AllocError)). get_or l k (Ok d)) all ∙ get_or-map Ok after k d (Ok d) (omega arith)) (each k (Ok d) d below))
+    (λ k d below. subst (λ (r : Result Worker AllocError). IfOk r (HasTurned rule word (get_or before k d))) (ap (λ (l : List (Result Worker AllocError)). get_or l k (Ok d)) all
+    ∙ get_or-map Ok after k d (Ok d) (omega arith)) (each k (Ok d) d below))
 
 -- what workers found and did, once they are collected
-pub worked_all : (rule : Rule) (word : BestWord) (places after : List Place) (tally tally_after : Tally) (before : List Worker) (results : List (Result Worker AllocError)) → IsTally rule word tally → (listed_in tally.closed.items) ≡ [] → AreSeated word places tally before → length results ≡ length before → ((k : ℕ) (d : Result Worker AllocError) (e : Worker) → k < length before → IfOk (get_or results k d) (HasTurned rule word (get_or before k e))) → Collects word results after tally_after → IsTally rule word tally_after × WorkedAll rule places after tally tally_after
+pub worked_all : (rule : Goal) (word : BestWord) (places after : List Place) (tally tally_after : Tally) (before : List Worker) (results : List (Result Worker AllocError)) → IsTally rule word tally
+    → (listed_in tally.closed.items) ≡ [] → AreSeated word places tally before → length results ≡ length before
+    → ((k : ℕ) (d : Result Worker AllocError) (e : Worker) → k < length before → IfOk (get_or results k d) (HasTurned rule word (get_or before k e))) → Collects word results after tally_after
+    → IsTally rule word tally_after × WorkedAll rule places after tally tally_after
 worked_all rule word places after tally tally_after before results is empty seated same each collects =
     let all = turn_together rule word before collects.workers (turned_ok rule word before results collects.workers same collects.all_worked each) (seated.nothing empty) in (
       collects.is_tally rule all.tallies,
@@ -133,7 +147,8 @@ worked_all rule word places after tally tally_after before results is empty seat
         taken = all.taken;
         put = all.put;
         strange = all.strange;
-        moves = subst (λ (l : List Place). MoveAll l after all.taken all.put) seated.places_are (subst (λ (l : List Place). MoveAll (map place_in before) l all.taken all.put) (sym collects.places_are) all.moves);
+        moves = subst (λ (l : List Place). MoveAll l after all.taken all.put) seated.places_are
+            (subst (λ (l : List Place). MoveAll (map place_in before) l all.taken all.put) (sym collects.places_are) all.moves);
         parts = subst (λ (l : List Closed). ArePartedInto rule None all.taken l all.put all.strange) (sym collects.closed) all.parts;
         numbers = λ number. collects.numbers number ∙ all.numbers number ∙ seated.numbers number;
       },

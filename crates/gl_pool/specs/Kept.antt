@@ -3,7 +3,7 @@ use Rattle.std.specs.Prelude.{◌≡◌, ℕ, ◌+◌, ◌<◌, ◌≤◌, List,
 use Rattle.gl_box.specs.declared.closed.Closed.{Closed}
 use Rattle.gl_box.specs.Cell.{spans_of}
 use Rattle.gl_box.specs.Tuple.{places_of}
-use Rattle.gl_goal.specs.Rule.{Rule, IsReached}
+use Rattle.gl_goal.specs.Goal.{Goal, IsReached}
 use Rattle.gl_goal.specs.Certificate.{IsClosedFor}
 use Rattle.gl_plain.specs.declared.found.Best.{Best}
 use Rattle.gl_best.specs.declared.rule.View.{View}
@@ -23,14 +23,14 @@ pub record KeepsSeat (word : BestWord) (before after : Seat) : Type 0 where
 
 -- Nothing was kept, and nothing was raised. Or a legal tuple was kept, with its value; just that
 -- value was raised, and it is above what had been seen before.
-abbrev pub IsKept : Rule → View → View → Option Best → Type 0
-IsKept rule before after None = after.raised ≡ before.raised
-IsKept rule before after (Some best) =
-    IsReached rule best.total (places_of best.tuple)
+abbrev pub IsKept : Goal → View → View → Option Best → Type 0
+IsKept goal before after None = after.raised ≡ before.raised
+IsKept goal before after (Some best) =
+    IsReached goal best.total (places_of best.tuple)
     × (after.raised ≡ best.total + 1)
     × (before.seen < after.raised)
 
 -- each closed cell is closed by its reason for what the seat has seen
-abbrev pub AreClosedFor : Rule → Seat → List Closed → Type 0
-AreClosedFor rule seat closed =
-    All (λ box. IsClosedFor rule (seen_by seat) (spans_of box.cell) box.why) closed
+abbrev pub AreClosedFor : Goal → Seat → List Closed → Type 0
+AreClosedFor goal seat closed =
+    All (λ box. IsClosedFor goal (seen_by seat) (spans_of box.cell) box.why) closed

@@ -1,11 +1,7 @@
+pub mod Code
 pub mod Listed
 pub mod Trail
 pub mod Taken
 pub mod Parts
 pub mod Kept
 pub mod Work
-pub mod UnderWay
-pub mod Tally
-pub mod Crew
-pub mod Settle
-pub mod Many

@@ -1,20 +1,9 @@
--- The boxes that a worker closes, list by list, while it works.
+-- The boxes of a worker's lists, all together.
 use Rattle.std.specs.Prelude.{List, ◌++◌}
-use Rattle.gl_box.specs.declared.cell.Cell.{Cell}
 use Rattle.gl_box.specs.declared.closed.Closed.{Closed}
-use Rattle.gl_pool.specs.declared.bench.Bench.{Bench}
 use Rattle.gl_pool.specs.declared.trail.Trail.{Trail}
-use Rattle.gl_pool.specs.Listed.{ArePassed, Lead, listed_in}
+use Rattle.gl_pool.specs.Listed.{listed_in}
 
 -- all boxes, one list after the other
 abbrev pub boxes_in : Trail → List Closed
 boxes_in trail = listed_in trail.lists.items ++ trail.last.boxes.items
-
--- The lists that are done lead as is said. The last one leads to the cells that the worker has
--- before it, and those that are open behind them.
-pub record IsTrail (trail : Trail) (cells : List Cell) : Type 0 where
-  pub passed : ArePassed trail.lists.items
-  pub leads : Lead trail.last.before.items trail.last.boxes.items (trail.last.after.items ++ cells)
-
-abbrev pub IsOnTrail : Bench → Type 0
-IsOnTrail bench = IsTrail bench.share.closed bench.cells.items

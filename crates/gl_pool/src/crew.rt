@@ -1,8 +1,8 @@
 ghost use Rattle.std.specs.Prelude.{◌≡◌, ◌≤◌, ◌<◌, [], All, IfOk, OnOk, length, map};
 ghost use Rattle.gl_best.specs.Seats.{IsSeatOf, view_of};
-ghost use Rattle.gl_pool.specs.Tally.{IsTally};
+ghost use Rattle.gl_pool.specs.Code.Tally.{IsTally};
 ghost use Rattle.gl_pool.specs.Listed.{listed_in};
-ghost use Rattle.gl_pool.specs.Crew.{AreSeated, Collects, HasTurned, WorkedAll, has_seat};
+ghost use Rattle.gl_pool.specs.Code.Crew.{AreSeated, Collects, HasTurned, WorkedAll, has_seat};
 
 use crate::crowd::Crowd;
 use crate::gate::Gate;
@@ -22,8 +22,9 @@ pub(crate) struct Worker {
     pub(crate) tally: Tally,
 }
 
-/// A worker for each place. The last one has what was found before, and each other one a seat that
-/// is shared with it. The only error is want of memory.
+/// A worker for each place; the last one is worker 0, whose work is done by the thread that calls.
+/// It has what was found before, and each other one a seat that is shared with it. The only error
+/// is want of memory.
 fn seated(
     alloc: Global,
     word: &BestWord,
@@ -40,6 +41,7 @@ fn seated(
     let Some(last) = places.pop() else {
         unreachable!()
     };
+    let others = places.len();
     for place in places {
         let shared = Tally {
             seat: word.share(&mut tally.seat),
@@ -47,13 +49,13 @@ fn seated(
             closed: Vec::new(alloc),
         };
         workers.push(Worker {
-            number: workers.len() as u32,
+            number: others.saturating_sub(workers.len()) as u32,
             place,
             tally: shared,
         })?;
     }
     workers.push(Worker {
-        number: workers.len() as u32,
+        number: 0,
         place: last,
         tally,
     })?;

@@ -4,7 +4,8 @@ ghost use Rattle.gl_box.specs.Cell.{spans_of};
 ghost use Rattle.gl_box.specs.Frontier.{IsFrontier};
 ghost use Rattle.gl_plain.specs.Order.{AreParts, cells_of};
 ghost use Rattle.gl_walk.specs.InLists.{boxes_in};
-ghost use Rattle.gl_pool.specs.Listed.{ArePassed, listed_in};
+ghost use Rattle.gl_pool.specs.Code.Listed.{ArePassed};
+ghost use Rattle.gl_pool.specs.Listed.{listed_in};
 
 use crate::trail::Listed;
 use gl_box::{Cell, Closed, covers};

@@ -3,9 +3,9 @@ ghost use Rattle.gl_best.specs.Rule.{first_view};
 ghost use Rattle.gl_best.specs.Seats.{HasAll, IsSeatOf, view_of};
 ghost use Rattle.gl_plain.specs.Answer.{IsAnswer};
 ghost use Rattle.gl_plain.specs.Search.{IsSound};
-ghost use Rattle.gl_pool.specs.Many.{ComesToAll, IsDealt, IsLeft};
+ghost use Rattle.gl_pool.specs.Code.Many.{ComesToAll, IsDealt, IsLeft};
 ghost use Rattle.gl_pool.specs.Listed.{listed_in};
-ghost use Rattle.gl_pool.specs.Tally.{IsTally};
+ghost use Rattle.gl_pool.specs.Code.Tally.{IsTally};
 
 use crate::crew::work_all;
 use crate::crowd::Crowd;
@@ -21,7 +21,7 @@ use std::alloc::{AllocError, Global};
 use std::sync::Wait;
 use std::thread::Threads;
 
-/// A place for each worker, the first of which has the whole cell in its deque. `None` where it has
+/// A place for each worker, the last of which has the whole cell in its deque. `None` where it has
 /// no room there. The only error is want of memory.
 fn dealt<G: Goal>(alloc: Global, goal: &G, workers: u32) -> Result<Option<Vec<Place>>, AllocError>
     requires some { 1 ≤ workers }
@@ -32,7 +32,8 @@ fn dealt<G: Goal>(alloc: Global, goal: &G, workers: u32) -> Result<Option<Vec<Pl
         (λ places. IsDealt (G.rule goal.now) places.items)) }
 {
     let mut places = deal(alloc, workers)?;
-    match places[0].hand.put(whole(goal)) {
+    let last = places.len() - 1;
+    match places[last].hand.put(whole(goal)) {
         Ok(()) => Ok(Some(places)),
         Err(_) => Ok(None),
     }

@@ -1,6 +1,6 @@
 ghost use Rattle.std.specs.Prelude.{◌≡◌, ◌+◌, ◌<◌, ◌^◌, length, map};
 ghost use Rattle.gl_deal.specs.Tokens.{end_of};
-ghost use Rattle.gl_pool.specs.Settle.{ArePassesOf, Settles, SettlesAll, StandReady, owner_at};
+ghost use Rattle.gl_pool.specs.Code.Settle.{ArePassesOf, Settles, SettlesAll, StandReady, owner_at};
 
 use gl_deal::{Pass, Place};
 use std::alloc::Global;

@@ -1,5 +1,6 @@
 ghost use Rattle.std.specs.Prelude.{◌≡◌, [], None};
-ghost use Rattle.gl_pool.specs.Trail.{IsTrail, boxes_in};
+ghost use Rattle.gl_pool.specs.Code.Trail.{IsTrail};
+ghost use Rattle.gl_pool.specs.Trail.{boxes_in};
 
 use crate::trail::{Trail, empty_trail};
 use gl_box::{Cell, Closed};

@@ -1,12 +1,12 @@
 ghost use Rattle.std.specs.Prelude.{◌≡◌, ◌<◌, [], ◌∷◌, OnOk, vec_len};
-ghost use Rattle.gl_goal.specs.Rule.{Rule};
+ghost use Rattle.gl_goal.specs.Goal.{Goal};
 ghost use Rattle.gl_plain.specs.Steps.{Closes};
 ghost use Rattle.gl_best.specs.declared.word.BestWord.{BestWord};
 ghost use Rattle.gl_best.specs.declared.word.Seat.{Seat};
 ghost use Rattle.gl_deal.specs.declared.place.Place.{Place};
 ghost use Rattle.gl_pool.specs.Taken.{Moves};
-ghost use Rattle.gl_pool.specs.Trail.{IsOnTrail, IsTrail};
-ghost use Rattle.gl_pool.specs.UnderWay.{GoesOn, IsAtWork, Steps};
+ghost use Rattle.gl_pool.specs.Code.Trail.{IsOnTrail, IsTrail};
+ghost use Rattle.gl_pool.specs.Code.UnderWay.{GoesOn, IsAtWork, Steps};
 
 use crate::bench::Bench;
 use crate::trail::come_to;
@@ -14,7 +14,7 @@ use gl_best::{BestWord, Seat};
 use gl_box::{Cell, Closed, Why, covers, halve};
 use gl_deal::Place;
 use gl_goal::{Goal, whole};
-use gl_plain::{Best, Verdict, test_for};
+use gl_plain::{Best, CellVerdict, test_for};
 use std::alloc::{AllocError, Global};
 use std::sync::Wait;
 
@@ -59,8 +59,12 @@ fn step<G: Goal>(
 {
     let top = bench.cells.len() - 1;
     match test_for(goal, &bench.cells[top], bench.seen, &mut bench.legs) {
-        Verdict::Closed(why) => close(&mut bench.cells, &mut bench.share.closed.last.boxes, why)?,
-        Verdict::Open(bound) => match halve(&mut bench.cells[top]) {
+        CellVerdict::Closed(why) => close(
+            &mut bench.cells,
+            &mut bench.share.closed.last.boxes,
+            why,
+        )?,
+        CellVerdict::Open(bound) => match halve(&mut bench.cells[top]) {
             Some(lower) => bench.cells.push(lower)?,
             None => {
                 bench.share.kept = Some(Best {
@@ -108,7 +112,7 @@ fn stretch<G: Goal>(
 /// Puts the oldest cell into the deque, for others to steal, where the worker has more than it
 /// keeps. The only error is want of memory.
 fn put_oldest(place: &mut Place, bench: &mut Bench) -> Result<(), AllocError>
-    ensures on { OnOk result ((rule : Rule) (word : BestWord) (seat : Seat)
+    ensures on { OnOk result ((rule : Goal) (word : BestWord) (seat : Seat)
         → GoesOn rule word place.old place.new seat seat bench.old bench.new) }
     ensures legs { bench.new.legs.items ≡ bench.old.legs.items }
     ensures trail { OnOk result (IsOnTrail bench.old → IsOnTrail bench.new) }

@@ -1,7 +1,8 @@
 ghost use Rattle.std.specs.Prelude.{◌≡◌, [], ◌∷◌, MatchOption, map};
 ghost use Rattle.gl_deal.specs.Tokens.{end_of, pass_deque, pass_view};
 ghost use Rattle.gl_deal.specs.Views.{with_stolen};
-ghost use Rattle.gl_pool.specs.Taken.{FindsNone, Moves, Steals};
+ghost use Rattle.gl_pool.specs.Code.Taken.{FindsNone, Steals};
+ghost use Rattle.gl_pool.specs.Taken.{Moves};
 
 use crate::crowd::Crowd;
 use gl_box::Cell;

@@ -1,6 +1,6 @@
 ghost use Rattle.std.specs.Prelude.{OnOk};
 ghost use Rattle.gl_best.specs.Seats.{IsSeatOf};
-ghost use Rattle.gl_pool.specs.Tally.{Gathers, IsGreater, IsTally, Turns};
+ghost use Rattle.gl_pool.specs.Code.Tally.{Gathers, IsGreater, IsTally, Turns};
 
 use crate::crowd::Crowd;
 use crate::gate::Gate;

@@ -1,8 +1,10 @@
 ghost use Rattle.std.specs.Prelude.{◌≡◌, [], ◌∷◌, ◌++◌, false, IfOk, IsTrue, OnOk};
 ghost use Rattle.std.specs.List.{flat_map};
 ghost use Rattle.gl_walk.specs.Walk.{open_cells};
-ghost use Rattle.gl_pool.specs.Listed.{ArePassed, IsPassed, listed_in};
-ghost use Rattle.gl_pool.specs.Trail.{IsTrail, boxes_in};
+ghost use Rattle.gl_pool.specs.Code.Listed.{ArePassed, IsPassed};
+ghost use Rattle.gl_pool.specs.Listed.{listed_in};
+ghost use Rattle.gl_pool.specs.Code.Trail.{IsTrail};
+ghost use Rattle.gl_pool.specs.Trail.{boxes_in};
 
 use gl_box::{Cell, Closed, covers, halve};
 use gl_walk::all_boxes;

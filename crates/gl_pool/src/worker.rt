@@ -1,6 +1,7 @@
 ghost use Rattle.std.specs.Prelude.{◌≡◌, [], None, IfOk};
 ghost use Rattle.gl_best.specs.Seats.{IsSeatOf};
-ghost use Rattle.gl_pool.specs.Trail.{IsTrail, boxes_in};
+ghost use Rattle.gl_pool.specs.Code.Trail.{IsTrail};
+ghost use Rattle.gl_pool.specs.Trail.{boxes_in};
 ghost use Rattle.gl_pool.specs.Work.{HasHauled, HasWorked};
 
 use crate::bench::Bench;

@@ -11,7 +11,8 @@ use Rattle.gl_proof.specs.Claim.{Statement, box_line, claim_text, fix_lines, fro
 use Rattle.gl_proof.specs.Line.{ClaimLine, ended}
 
 -- one box more
-pub box_more : (before was now : List ℕ) (boxes : List Closed) (i : ℕ) (closed : Closed) → i < length boxes → closed ≡ get_or boxes i closed → was ≡ before ++ spelled (map box_line (take i (map box_of boxes))) → now ≡ was ++ ended (box_line (box_of closed)) → now ≡ before ++ spelled (map box_line (take (i + 1) (map box_of boxes)))
+pub box_more : (before was now : List ℕ) (boxes : List Closed) (i : ℕ) (closed : Closed) → i < length boxes → closed ≡ get_or boxes i closed
+    → was ≡ before ++ spelled (map box_line (take i (map box_of boxes))) → now ≡ was ++ ended (box_line (box_of closed)) → now ≡ before ++ spelled (map box_line (take (i + 1) (map box_of boxes)))
 box_more before was now boxes i closed below item is added =
     let front = before ++ spelled (map box_line (take i (map box_of boxes))) in
     let inside : i < length (map box_of boxes) = rw length-map below in
@@ -36,13 +37,15 @@ boxes_text-append front back =
     ∙ flat_map-append ended (map box_line (map box_of front)) (map box_line (map box_of back))
 
 -- one list more
-pub lists_more : (lists : List (Vec Closed Global)) (i : ℕ) (list : Vec Closed Global) → i < length lists → list ≡ get_or lists i list → in_lists (take (i + 1) lists) ≡ in_lists (take i lists) ++ list.items
+pub lists_more : (lists : List (Vec Closed Global)) (i : ℕ) (list : Vec Closed Global) → i < length lists → list ≡ get_or lists i list
+    → in_lists (take (i + 1) lists) ≡ in_lists (take i lists) ++ list.items
 lists_more lists i list below item =
     ap in_lists (take_more lists i list below ∙ ap (λ (l : Vec Closed Global). take i lists ++ l ∷ []) (sym item))
     ∙ flat_map-append (λ list. list.items) (take i lists) (list ∷ [])
     ∙ ap (λ (l : List Closed). in_lists (take i lists) ++ l) (append-nil list.items)
 
-pub list_more : (before was now piece : List ℕ) (lists : List (Vec Closed Global)) (i : ℕ) (list : Vec Closed Global) → i < length lists → list ≡ get_or lists i list → was ≡ before ++ boxes_text (in_lists (take i lists)) → piece ≡ boxes_text list.items → now ≡ was ++ piece → now ≡ before ++ boxes_text (in_lists (take (i + 1) lists))
+pub list_more : (before was now piece : List ℕ) (lists : List (Vec Closed Global)) (i : ℕ) (list : Vec Closed Global) → i < length lists → list ≡ get_or lists i list
+    → was ≡ before ++ boxes_text (in_lists (take i lists)) → piece ≡ boxes_text list.items → now ≡ was ++ piece → now ≡ before ++ boxes_text (in_lists (take (i + 1) lists))
 list_more before was now piece lists i list below item is of added =
     let front = in_lists (take i lists) in
     added

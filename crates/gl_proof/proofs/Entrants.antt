@@ -8,7 +8,7 @@ use Rattle.std.proofs.lemmas.Bool.{and_parts, and_from, le-leb, leb-true}
 use Rattle.std.proofs.lemmas.Bool.Decides.{nat_tests}
 use Rattle.gl_lines.specs.Fronts.{Stops}
 use Rattle.gl_lines.proofs.Codes.{front_unique}
-use Rattle.gl_proof.specs.Fronts.{IsEntrantAt}
+use Rattle.gl_proof.specs.Code.Fronts.{IsEntrantAt}
 use Rattle.gl_proof.specs.Number.{is_number}
 
 pub is_number_parts : (number : List ℕ) → is_number number ≡ true → (1 ≤ length number) × (length number ≤ 8) × (list_all is_ascii_alphanumeric number ≡ true)
@@ -23,18 +23,10 @@ is_number_from number some most all =
     (and_from (nat_le 1 (length number)) (nat_le (length number) 8) (le-leb 1 (length number) some) (le-leb (length number) 8 most)) all
 
 -- letters and digits at the front of a text are those of the entrant's number
-pub entrant_front : (text front back number rest : List ℕ) → list_all is_ascii_alphanumeric front ≡ true → Stops is_ascii_alphanumeric back → text ≡ front ++ back → IsEntrantAt text number rest → (front ≡ number) × (back ≡ 32 ∷ rest) × (1 ≤ length front) × (length front ≤ 8)
+pub entrant_front : (text front back number rest : List ℕ) → list_all is_ascii_alphanumeric front ≡ true → Stops is_ascii_alphanumeric back → text ≡ front ++ back → IsEntrantAt text number rest
+    → (front ≡ number) × (back ≡ 32 ∷ rest) × (1 ≤ length front) × (length front ≤ 8)
 entrant_front text front back number rest all stops is at =
     let parts = is_number_parts number at.0 in
     let same = front_unique is_ascii_alphanumeric front number back (32 ∷ rest) all parts.2 stops refl (sym is ∙ at.1) in
     let long = ap length same.0 in
     (same.0, same.1, omega (arith, long, parts.0), omega (arith, long, parts.1))
-
-letter_small : (b : ℕ) → is_ascii_alphanumeric b ≡ true → b < 128
-letter_small b letter = grind (arith, nat_tests)
-
--- letters and digits are ASCII
-pub letters_ascii : (text : List ℕ) → list_all is_ascii_alphanumeric text ≡ true → IsAscii text
-letters_ascii [] all k = omega arith
-letters_ascii (b ∷ bs) all zero = letter_small b (and_parts (is_ascii_alphanumeric b) (list_all is_ascii_alphanumeric bs) all).0
-letters_ascii (b ∷ bs) all (suc k) = letters_ascii bs (and_parts (is_ascii_alphanumeric b) (list_all is_ascii_alphanumeric bs) all).1 k

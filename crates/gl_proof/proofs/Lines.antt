@@ -14,12 +14,14 @@ use Rattle.gl_lines.proofs.Codes.{Continues, front_unique, words_front}
 use Rattle.gl_lines.proofs.Words.{number_once, span_once}
 use Rattle.gl_proof.specs.declared.claim.ClaimKind.{ClaimKind}
 use Rattle.gl_proof.specs.declared.claim.ClaimKind.TheVariants.{Area, Out, Free, Triangle}
-use Rattle.gl_proof.specs.Fronts.{AreFixesAt, AreSpansAt, IsEntrantAt}
+use Rattle.gl_proof.specs.Code.Fronts.{AreFixesAt, AreSpansAt, IsEntrantAt}
 use Rattle.gl_proof.specs.Line.{BoxLine, ClaimLine, FixLine, ended, kind_word, reason_word}
 use Rattle.gl_proof.proofs.Entrants.{entrant_front, is_number_parts}
 
 -- the spans that were read, and those that are spelled
-pub spans_on : (axes : ℕ) (spans : List Span) (text rest : List ℕ) (ys : List (ℕ × ℕ)) (more : List ℕ) → axes ≤ 10 → length spans ≡ 10 → text ≡ spaced (map span_word (map ends (take axes spans))) ++ rest → All IsSpan (map ends (take axes spans)) → (0 < axes → Stops is_ascii_digit rest) → AreSpansAt text ys more → Continues span_word IsSpan (map ends (take axes spans)) ys rest more
+pub spans_on : (axes : ℕ) (spans : List Span) (text rest : List ℕ) (ys : List (ℕ × ℕ)) (more : List ℕ) → axes ≤ 10 → length spans ≡ 10
+    → text ≡ spaced (map span_word (map ends (take axes spans))) ++ rest → All IsSpan (map ends (take axes spans)) → (0 < axes → Stops is_ascii_digit rest) → AreSpansAt text ys more
+    → Continues span_word IsSpan (map ends (take axes spans)) ys rest more
 spans_on axes spans text rest ys more few ten is each stops at =
     let long = length-take-le axes spans (omega arith) in
     words_front span_word IsSpan span_once (map ends (take axes spans)) ys rest more each at.are_spans.each
@@ -28,7 +30,8 @@ spans_on axes spans text rest ys more few ten is each stops at =
 pub length-read : (axes : ℕ) (spans : List Span) → axes ≤ 10 → length spans ≡ 10 → length (map ends (take axes spans)) ≡ axes
 length-read axes spans few ten = length-map (take axes spans) ends ∙ length-take-le axes spans (omega arith)
 
-pub fixes_on : (fixes : List ℕ) (text rest ys more : List ℕ) → text ≡ spaced (map decimal fixes) ++ rest → All (λ fix. fix < 2 ^ 32) fixes → (0 < length fixes → Stops is_ascii_digit rest) → AreFixesAt text ys more → Continues decimal (λ fix. fix < 2 ^ 32) fixes ys rest more
+pub fixes_on : (fixes : List ℕ) (text rest ys more : List ℕ) → text ≡ spaced (map decimal fixes) ++ rest → All (λ fix. fix < 2 ^ 32) fixes → (0 < length fixes → Stops is_ascii_digit rest)
+    → AreFixesAt text ys more → Continues decimal (λ fix. fix < 2 ^ 32) fixes ys rest more
 fixes_on fixes text rest ys more is each stops at =
     words_front decimal (λ fix. fix < 2 ^ 32) number_once fixes ys rest more each at.are_fixes.each stops (sym is ∙ at.is)
 
@@ -48,7 +51,8 @@ three_words word a b c r =
     append_assoc (word ++ spaced (a ∷ b ∷ c ∷ [])) (10 ∷ []) r ∙ append_assoc word (spaced (a ∷ b ∷ c ∷ [])) q ∙ ap (λ (l : List ℕ). word ++ l) first
 
 -- the line of a claim, part by part
-pub claim_is : (number : List ℕ) (kind : ClaimKind) (total : Option ℕ) (r : List ℕ) → ended (ClaimLine number kind total) ++ r ≡ codes "CLAIM " ++ (number ++ 32 ∷ (kind_word kind ++ 32 ∷ (total_word total ++ 10 ∷ r)))
+pub claim_is : (number : List ℕ) (kind : ClaimKind) (total : Option ℕ) (r : List ℕ)
+    → ended (ClaimLine number kind total) ++ r ≡ codes "CLAIM " ++ (number ++ 32 ∷ (kind_word kind ++ 32 ∷ (total_word total ++ 10 ∷ r)))
 claim_is number kind total r = three_words (codes "CLAIM") number (kind_word kind) (total_word total) r
 
 pub fix_is : (fixes r : List ℕ) → ended (FixLine fixes) ++ r ≡ codes "FIX" ++ (spaced (map decimal fixes) ++ 10 ∷ r)
@@ -57,7 +61,8 @@ fix_is fixes r = simp (append_assoc, append-nil)
 pub box_is : (why : Why) (spans : List (ℕ × ℕ)) (r : List ℕ) → ended (BoxLine why spans) ++ r ≡ codes "BOX " ++ (reason_word why ++ (spaced (map span_word spans) ++ 10 ∷ r))
 box_is why spans r = simp (append_assoc, append-nil)
 
-pub claim_tail : (text after number : List ℕ) (kind : ClaimKind) (total : Option ℕ) (r : List ℕ) → text ≡ codes "CLAIM " ++ after → text ≡ ended (ClaimLine number kind total) ++ r → after ≡ number ++ 32 ∷ (kind_word kind ++ 32 ∷ (total_word total ++ 10 ∷ r))
+pub claim_tail : (text after number : List ℕ) (kind : ClaimKind) (total : Option ℕ) (r : List ℕ) → text ≡ codes "CLAIM " ++ after → text ≡ ended (ClaimLine number kind total) ++ r
+    → after ≡ number ++ 32 ∷ (kind_word kind ++ 32 ∷ (total_word total ++ 10 ∷ r))
 claim_tail text after number kind total r front line = append_cancel_left (codes "CLAIM ") _ _ (sym front ∙ line ∙ claim_is number kind total r)
 
 pub entrant_unique : (text m n r q : List ℕ) → IsEntrantAt text m r → IsEntrantAt text n q → (m ≡ n) × (r ≡ q)

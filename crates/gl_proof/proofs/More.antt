@@ -12,10 +12,10 @@ use Rattle.gl_lines.proofs.Refused.{told_on}
 use Rattle.gl_proof.specs.declared.claim.ClaimKind.{ClaimKind}
 use Rattle.gl_proof.specs.declared.version.Version.{Version}
 use Rattle.gl_proof.specs.Claim.{IsStatement, Statement, box_line, claim_lines, claim_text, fix_lines, front_text, spelled}
-use Rattle.gl_proof.specs.Fronts.{IsBoxAt}
+use Rattle.gl_proof.specs.Code.Fronts.{IsBoxAt}
 use Rattle.gl_proof.specs.Line.{AreSpans, EndLine, HeadingLine, ended}
-use Rattle.gl_proof.specs.Passage.{IsClaimRead}
-use Rattle.gl_proof.specs.Reading.{AddsBoxes, AreClaimsAt, IsReadTo}
+use Rattle.gl_proof.specs.Code.Passage.{IsClaimRead, AddsBoxes}
+use Rattle.gl_proof.specs.Reading.{AreClaimsAt, IsReadTo}
 use Rattle.gl_proof.specs.Text.{IsTextOf}
 use Rattle.gl_proof.proofs.Appended.{boxes_text, boxes_text-append, claim_text-parts}
 use Rattle.gl_proof.proofs.Chain.{claims_more, length-claims_more}
@@ -31,14 +31,16 @@ abbrev HasSpans : List (ℕ × ℕ) × Why → Type 0
 HasSpans box = AreSpans box.0
 
 -- a box more
-pub box_read : (text rest more : List ℕ) (before cells : List Closed) (closed : Closed) → spelled (map box_line (map box_of before)) ++ text ≡ spelled (map box_line (map box_of cells)) ++ rest → IsBoxAt rest (box_of closed) more → spelled (map box_line (map box_of before)) ++ text ≡ spelled (map box_line (map box_of (cells ++ closed ∷ []))) ++ more
+pub box_read : (text rest more : List ℕ) (before cells : List Closed) (closed : Closed) → spelled (map box_line (map box_of before)) ++ text ≡ spelled (map box_line (map box_of cells)) ++ rest
+    → IsBoxAt rest (box_of closed) more → spelled (map box_line (map box_of before)) ++ text ≡ spelled (map box_line (map box_of (cells ++ closed ∷ []))) ++ more
 box_read text rest more before cells closed is at =
     is
     ∙ ap (λ (l : List ℕ). boxes_text cells ++ l) (at.1 ∙ ap (λ (l : List ℕ). l ++ more) (sym (append-nil (ended (box_line (box_of closed))))))
     ∙ sym (append_assoc (boxes_text cells) (boxes_text (closed ∷ [])) more)
     ∙ ap (λ (l : List ℕ). l ++ more) (sym (boxes_text-append cells (closed ∷ [])))
 
-pub box_kept : (before cells : List Closed) (closed : Closed) (rest more : List ℕ) → (All HasSpans (map box_of before) → All HasSpans (map box_of cells)) → IsBoxAt rest (box_of closed) more → All HasSpans (map box_of before) → All HasSpans (map box_of (cells ++ closed ∷ []))
+pub box_kept : (before cells : List Closed) (closed : Closed) (rest more : List ℕ) → (All HasSpans (map box_of before) → All HasSpans (map box_of cells)) → IsBoxAt rest (box_of closed) more
+    → All HasSpans (map box_of before) → All HasSpans (map box_of (cells ++ closed ∷ []))
 box_kept before cells closed rest more each at some =
     subst (All HasSpans) (sym (map_push box_of cells closed)) (All-push HasSpans (map box_of cells) (box_of closed) (each some) at.0)
 
@@ -51,15 +53,18 @@ begun v text rest is = record {
 }
 
 -- a claim more
-pub claim_more : (v : Version) (whole : List ℕ) (said : List Statement) (s : Statement) (text rest : List ℕ) (line next : ℕ) → AreClaimsAt v whole said text line → IsClaimRead text line s rest next → AreClaimsAt v whole (said ++ s ∷ []) rest next
+pub claim_more : (v : Version) (whole : List ℕ) (said : List Statement) (s : Statement) (text rest : List ℕ) (line next : ℕ) → AreClaimsAt v whole said text line → IsClaimRead text line s rest next
+    → AreClaimsAt v whole (said ++ s ∷ []) rest next
 claim_more v whole said s text rest line next at read = record {
   each = All-push IsStatement said s at.each read.is_statement;
   is = claims_more v whole said text s rest at.is read.is;
-  counted = told_on next line (length (flat_map claim_lines said) + 2) (length (claim_lines s)) read.counted at.counted ∙ ap (λ (n : ℕ). min n 4_294_967_295) (omega (arith, length-claims_more said s));
+  counted = told_on next line (length (flat_map claim_lines said) + 2) (length (claim_lines s)) read.counted at.counted
+      ∙ ap (λ (n : ℕ). min n 4_294_967_295) (omega (arith, length-claims_more said s));
 }
 
 -- the lines up to the last claim, its lines before its boxes, and these
-lines_end : (v : Version) (said : List Statement) (s : Statement) (rest : List ℕ) → spelled (HeadingLine v ∷ flat_map claim_lines (said ++ s ∷ [])) ++ rest ≡ spelled (HeadingLine v ∷ flat_map claim_lines said) ++ (front_text s ++ (spelled (map box_line s.boxes) ++ rest))
+lines_end : (v : Version) (said : List Statement) (s : Statement) (rest : List ℕ)
+    → spelled (HeadingLine v ∷ flat_map claim_lines (said ++ s ∷ [])) ++ rest ≡ spelled (HeadingLine v ∷ flat_map claim_lines said) ++ (front_text s ++ (spelled (map box_line s.boxes) ++ rest))
 lines_end v said s rest =
     let all = spelled (HeadingLine v ∷ flat_map claim_lines said) in
     sym (claims_more v (all ++ (claim_text s ++ rest)) said (claim_text s ++ rest) s rest refl refl)
@@ -69,19 +74,25 @@ lines_end v said s rest =
 abbrev pub with_boxes : List ℕ → ClaimKind → Option ℕ → List ℕ → List Closed → Statement
 with_boxes number kind total fixes boxes = record { number = number; kind = kind; total = total; fixes = fixes; boxes = map box_of boxes }
 
-length_boxes : (number : List ℕ) (kind : ClaimKind) (total : Option ℕ) (fixes : List ℕ) (boxes : List Closed) → length (claim_lines (with_boxes number kind total fixes boxes)) ≡ 1 + length (fix_lines total fixes) + length boxes
+length_boxes : (number : List ℕ) (kind : ClaimKind) (total : Option ℕ) (fixes : List ℕ) (boxes : List Closed)
+    → length (claim_lines (with_boxes number kind total fixes boxes)) ≡ 1 + length (fix_lines total fixes) + length boxes
 length_boxes number kind total fixes boxes =
     omega (arith, length-append (fix_lines total fixes) (map box_line (map box_of boxes)), length-map (map box_of boxes) box_line, length-map boxes box_of)
 
 -- boxes more of the last claim
-pub boxes_more : (v : Version) (whole : List ℕ) (said : List Statement) (number : List ℕ) (kind : ClaimKind) (total : Option ℕ) (fixes : List ℕ) (front before after : List Closed) (text rest : List ℕ) (line next count : ℕ) → AddsBoxes text before after rest → count + length before ≡ length after → next ≡ min (line + count) 4_294_967_295 → AreClaimsAt v whole (said ++ with_boxes number kind total fixes (front ++ before) ∷ []) text line → AreClaimsAt v whole (said ++ with_boxes number kind total fixes (front ++ after) ∷ []) rest next
+pub boxes_more : (v : Version) (whole : List ℕ) (said : List Statement) (number : List ℕ) (kind : ClaimKind) (total : Option ℕ) (fixes : List ℕ) (front before after : List Closed) (text rest : List ℕ)
+    (line next count : ℕ) → AddsBoxes text before after rest → count + length before ≡ length after → next ≡ min (line + count) 4_294_967_295
+    → AreClaimsAt v whole (said ++ with_boxes number kind total fixes (front ++ before) ∷ []) text line
+    → AreClaimsAt v whole (said ++ with_boxes number kind total fixes (front ++ after) ∷ []) rest next
 boxes_more v whole said number kind total fixes front before after text rest line next count adds many is_next at =
     let s = with_boxes number kind total fixes (front ++ before) in
     let t = with_boxes number kind total fixes (front ++ after) in
     let all = spelled (HeadingLine v ∷ flat_map claim_lines said) in
     let was : IsStatement s = all_back IsStatement said (s ∷ []) at.each 0 s (omega arith) in
     let split : All HasSpans (map box_of front ++ map box_of before) = subst (All HasSpans) (map-append box_of front before) was.boxes in
-    let spans : All HasSpans (map box_of (front ++ after)) = subst (All HasSpans) (sym (map-append box_of front after)) (All-append HasSpans (map box_of front) (map box_of after) (all_front HasSpans (map box_of front) (map box_of before) split) (adds.each (all_back HasSpans (map box_of front) (map box_of before) split))) in
+    let spans : All HasSpans (map box_of (front ++ after)) = subst (All HasSpans) (sym (map-append box_of front after))
+    (All-append HasSpans (map box_of front) (map box_of after) (all_front HasSpans (map box_of front) (map box_of before) split)
+    (adds.each (all_back HasSpans (map box_of front) (map box_of before) split))) in
     let same : boxes_text (front ++ before) ++ text ≡ boxes_text (front ++ after) ++ rest =
     ap (λ (l : List ℕ). l ++ text) (boxes_text-append front before) ∙ append_assoc (boxes_text front) (boxes_text before) text
     ∙ ap (λ (l : List ℕ). boxes_text front ++ l) adds.is
@@ -90,29 +101,42 @@ boxes_more v whole said number kind total fixes front before after text rest lin
       each = All-push IsStatement said t (all_front IsStatement said (s ∷ []) at.each) (record { number = was.number; total = was.total; fixes = was.fixes; boxes = spans });
       is = at.is ∙ lines_end v said s text ∙ ap (λ (l : List ℕ). all ++ (front_text s ++ l)) same ∙ sym (lines_end v said t rest);
       counted = told_on next line (length (flat_map claim_lines (said ++ s ∷ [])) + 2) count is_next at.counted
-          ∙ ap (λ (n : ℕ). min n 4_294_967_295) (omega (arith, many, length-claims_more said s, length-claims_more said t, length_boxes number kind total fixes (front ++ before), length_boxes number kind total fixes (front ++ after), length-append front before, length-append front after));
+          ∙ ap (λ (n : ℕ). min n 4_294_967_295) (omega (
+            arith,
+            many,
+            length-claims_more said s,
+            length-claims_more said t,
+            length_boxes number kind total fixes (front ++ before),
+            length_boxes number kind total fixes (front ++ after),
+            length-append front before,
+            length-append front after,
+          ));
     }
 
 -- what a reader that has the heading has read
-pub read_to : (o : Option Version) (v : Version) (text : List ℕ) (said : List Statement) (rest items : List ℕ) (line : ℕ) → o ≡ Some v → rest ≡ items → IsReadTo o text said items line → AreClaimsAt v text said rest line
+pub read_to : (o : Option Version) (v : Version) (text : List ℕ) (said : List Statement) (rest items : List ℕ) (line : ℕ) → o ≡ Some v → rest ≡ items → IsReadTo o text said items line
+    → AreClaimsAt v text said rest line
 read_to o v text said rest items line is same at =
     subst (λ (r : List ℕ). AreClaimsAt v text said r line) (sym same) (subst (λ (o : Option Version). IsReadTo o text said items line) is at)
 
 -- what it has read once the heading came
-pub heading_read : (o : Option Version) (v : Version) (text : List ℕ) (said : List Statement) (rest items after : List ℕ) (line : ℕ) → o ≡ None → rest ≡ items → rest ≡ ended (HeadingLine v) ++ after → IsReadTo o text said items line → AreClaimsAt v text said after line
+pub heading_read : (o : Option Version) (v : Version) (text : List ℕ) (said : List Statement) (rest items after : List ℕ) (line : ℕ) → o ≡ None → rest ≡ items → rest ≡ ended (HeadingLine v) ++ after
+    → IsReadTo o text said items line → AreClaimsAt v text said after line
 heading_read None v text said rest items after line none same front at =
     subst (λ (n : ℕ). AreClaimsAt v text said after n) (sym at.2)
     (subst (λ (ss : List Statement). AreClaimsAt v text ss after 2) (sym at.1) (begun v text after (at.0 ∙ sym same ∙ front)))
 heading_read (Some w) v text said rest items after line none same front at = absurd (cc)
 
 -- and once more was read behind it
-pub front_read : (o : Option Version) (text : List ℕ) (said more : List Statement) (rest items left kept : List ℕ) (line next : ℕ) → o ≢ None → rest ≡ items → kept ≡ left → ((version : Version) (whole : List ℕ) → AreClaimsAt version whole said rest line → AreClaimsAt version whole more left next) → IsReadTo o text said items line → IsReadTo o text more kept next
+pub front_read : (o : Option Version) (text : List ℕ) (said more : List Statement) (rest items left kept : List ℕ) (line next : ℕ) → o ≢ None → rest ≡ items → kept ≡ left
+    → ((version : Version) (whole : List ℕ) → AreClaimsAt version whole said rest line → AreClaimsAt version whole more left next) → IsReadTo o text said items line → IsReadTo o text more kept next
 front_read None text said more rest items left kept line next some same keeps on at = absurd (some refl)
 front_read (Some v) text said more rest items left kept line next some same keeps on at =
     subst (λ (r : List ℕ). AreClaimsAt v text more r next) (sym keeps) (on v text (subst (λ (r : List ℕ). AreClaimsAt v text said r line) (sym same) at))
 
 -- a piece more behind what isn't read yet
-pub longer : (version : Option Version) (text : List ℕ) (said : List Statement) (rest : List ℕ) (line : ℕ) (piece : List ℕ) → IsReadTo version text said rest line → IsReadTo version (text ++ piece) said (rest ++ piece) line
+pub longer : (version : Option Version) (text : List ℕ) (said : List Statement) (rest : List ℕ) (line : ℕ) (piece : List ℕ) → IsReadTo version text said rest line
+    → IsReadTo version (text ++ piece) said (rest ++ piece) line
 longer None text said rest line piece at = (ap (λ (l : List ℕ). l ++ piece) at.0, at.1, at.2)
 longer (Some v) text said rest line piece at = record {
   each = at.each;
@@ -121,7 +145,8 @@ longer (Some v) text said rest line piece at = record {
 }
 
 -- the end behind the claims, and nothing behind it
-pub text_ended : (v : Version) (whole : List ℕ) (said : List Statement) (rest after : List ℕ) (line : ℕ) → AreClaimsAt v whole said rest line → rest ≡ ended EndLine ++ after → length rest ≤ 4 → IsTextOf v whole said
+pub text_ended : (v : Version) (whole : List ℕ) (said : List Statement) (rest after : List ℕ) (line : ℕ) → AreClaimsAt v whole said rest line → rest ≡ ended EndLine ++ after → length rest ≤ 4
+    → IsTextOf v whole said
 text_ended v whole said rest [] line at front short =
     let all = spelled (HeadingLine v ∷ flat_map claim_lines said) in
     record { each = at.each; is = at.is ∙ ap (λ (l : List ℕ). all ++ l) front ∙ sym (flat_map-append ended (HeadingLine v ∷ flat_map claim_lines said) (EndLine ∷ [])) }

@@ -15,14 +15,14 @@ use Rattle.gl_proof.specs.declared.version.Version.{Version}
 use Rattle.gl_proof.specs.declared.version.Version.TheVariants.{One, Two}
 use Rattle.gl_lines.specs.declared.error.ProofError.{ProofError}
 use Rattle.gl_lines.specs.declared.error.ProofError.TheVariants.{Heading, Line as WrongLine, Cut, Memory}
-use Rattle.gl_lines.specs.Grammar.{IsPlain}
+use Rattle.gl_lines.specs.Code.Grammar.{IsPlain}
 use Rattle.gl_lines.specs.Refusal.{IsRefusal, RunsThrough}
 use Rattle.gl_lines.specs.Words.{IsSpan, spaced, span_word, total_word}
 use Rattle.gl_lines.proofs.Codes.{words_front}
 use Rattle.gl_lines.proofs.Refused.{IsFull, follow_append, full_refused, full_unique, last-append, refused_once}
 use Rattle.gl_lines.proofs.Words.{feed_first, no_word, number_once, span_once, total_there, total_unique}
 use Rattle.gl_proof.specs.Claim.{IsStatement, Statement, box_line, claim_lines, fix_lines, spelled}
-use Rattle.gl_proof.specs.Fronts.{Adds, AddsBox, AreSpansAt}
+use Rattle.gl_proof.specs.Code.Fronts.{Adds, AddsBox, AreSpansAt}
 use Rattle.gl_proof.specs.Line.{AreFixes, Line, HeadingLine, ClaimLine, FixLine, BoxLine, EndLine, IsLine, ended, kind_word, proof_grammar, reason_word}
 use Rattle.gl_proof.specs.Refusal.{IsRefused}
 use Rattle.gl_proof.specs.Text.{IsTextOf, lines_of, proof_text}
@@ -79,7 +79,8 @@ reason_unique Shut Bound r q same = let byte : 83 ≡ 66 = ap (λ (l : List ℕ)
 reason_unique Bound Disordered r q same = let byte : 66 ≡ 68 = ap (λ (l : List ℕ). get_or l 0 0) same in absurd (omega (arith, byte))
 reason_unique Bound Shut r q same = let byte : 66 ≡ 83 = ap (λ (l : List ℕ). get_or l 0 0) same in absurd (omega (arith, byte))
 
-claims_unique : (m n : List ℕ) (k j : ClaimKind) (t u : Option ℕ) (r q : List ℕ) → IsLine (ClaimLine m k t) → IsLine (ClaimLine n j u) → ended (ClaimLine m k t) ++ r ≡ ended (ClaimLine n j u) ++ q → (ClaimLine m k t ≡ ClaimLine n j u) × (r ≡ q)
+claims_unique : (m n : List ℕ) (k j : ClaimKind) (t u : Option ℕ) (r q : List ℕ) → IsLine (ClaimLine m k t) → IsLine (ClaimLine n j u) → ended (ClaimLine m k t) ++ r ≡ ended (ClaimLine n j u) ++ q
+    → (ClaimLine m k t ≡ ClaimLine n j u) × (r ≡ q)
 claims_unique m n k j t u r q is_one is_other same =
     let rest : List ℕ = kind_word k ++ 32 ∷ (total_word t ++ 10 ∷ r) in
     let more : List ℕ = kind_word j ++ 32 ∷ (total_word u ++ 10 ∷ q) in
@@ -102,7 +103,8 @@ line_unique (FixLine fixes) (FixLine others) r q is_l is_m same =
     let tails : 10 ∷ r ≡ 10 ∷ q = last.1 in
     (ap FixLine (sym last.0), cc)
 line_unique (BoxLine why spans) (BoxLine reason others) r q is_l is_m same =
-    let words : reason_word why ++ (spaced (map span_word spans) ++ 10 ∷ r) ≡ reason_word reason ++ (spaced (map span_word others) ++ 10 ∷ q) = append_cancel_left (codes "BOX ") _ _ (sym (box_is why spans r) ∙ same ∙ box_is reason others q) in
+    let words : reason_word why ++ (spaced (map span_word spans) ++ 10 ∷ r) ≡ reason_word reason ++ (spaced (map span_word others) ++ 10 ∷ q) =
+    append_cancel_left (codes "BOX ") _ _ (sym (box_is why spans r) ∙ same ∙ box_is reason others q) in
     let letter = reason_unique why reason _ _ words in
     let on = words_front span_word IsSpan span_once spans others (10 ∷ r) q is_l.each is_m.each (λ some. refl) letter.1 in
     let last = no_word span_word IsSpan spans others (10 ∷ r) q (feed_first r) on in
@@ -147,7 +149,8 @@ refused_by v text r Memory begins is = tt
 headed : (v : Version) (text : List ℕ) (lines : List Line) (rest : List ℕ) → RunsThrough (proof_grammar v) text lines rest → text ≡ ended (HeadingLine v) ++ (spelled lines ++ rest)
 headed v text lines rest runs = runs.is ∙ append_assoc (ended (HeadingLine v)) (spelled lines) rest
 
-once_by : (v : Version) (text : List ℕ) (lines : List Line) (rest : List ℕ) (a b : ProofError) → (a ≡ Memory → ⊥) → (b ≡ Memory → ⊥) → RunsThrough (proof_grammar v) text lines rest → IsRefused text a → IsRefused text b → a ≡ b
+once_by : (v : Version) (text : List ℕ) (lines : List Line) (rest : List ℕ) (a b : ProofError) → (a ≡ Memory → ⊥) → (b ≡ Memory → ⊥) → RunsThrough (proof_grammar v) text lines rest → IsRefused text a
+    → IsRefused text b → a ≡ b
 once_by v text lines rest a b some_a some_b runs is_a is_b =
     let begins = headed v text lines rest runs in
     refused_once (proof_grammar v) (proof_plain v) text a b some_a some_b (refused_by v text _ a begins is_a) (refused_by v text _ b begins is_b)
@@ -194,7 +197,9 @@ unfolding no_box_first
 no_box_lines [] = tt
 no_box_lines (s ∷ ss) = tt
 
-claim_unique : (m n : List ℕ) (k j : ClaimKind) (t u : Option ℕ) (fs gs : List ℕ) (xs ys : List (List (ℕ × ℕ) × Why)) (r q : List Line) → MatchOption t (fs ≡ []) (λ _. AreFixes fs) → MatchOption u (gs ≡ []) (λ _. AreFixes gs) → no_box_first r → no_box_first q → ClaimLine m k t ∷ (fix_lines t fs ++ (map box_line xs ++ r)) ≡ ClaimLine n j u ∷ (fix_lines u gs ++ (map box_line ys ++ q)) → (m ≡ n) × (k ≡ j) × (t ≡ u) × (fs ≡ gs) × (xs ≡ ys) × (r ≡ q)
+claim_unique : (m n : List ℕ) (k j : ClaimKind) (t u : Option ℕ) (fs gs : List ℕ) (xs ys : List (List (ℕ × ℕ) × Why)) (r q : List Line) → MatchOption t (fs ≡ []) (λ _. AreFixes fs)
+    → MatchOption u (gs ≡ []) (λ _. AreFixes gs) → no_box_first r → no_box_first q
+    → ClaimLine m k t ∷ (fix_lines t fs ++ (map box_line xs ++ r)) ≡ ClaimLine n j u ∷ (fix_lines u gs ++ (map box_line ys ++ q)) → (m ≡ n) × (k ≡ j) × (t ≡ u) × (fs ≡ gs) × (xs ≡ ys) × (r ≡ q)
 claim_unique m n k j None None fs gs xs ys r q named_f named_g none_r none_q same =
     let number : m ≡ n = cc in
     let kind : k ≡ j = cc in
@@ -227,7 +232,8 @@ lines_injective (s ∷ ss) [] each_s each_t same = let line : ClaimLine s.number
 lines_injective (s ∷ ss) (t ∷ ts) each_s each_t same =
     let is_s = All-head IsStatement s ss each_s in
     let is_t = All-head IsStatement t ts each_t in
-    let parts = claim_unique s.number t.number s.kind t.kind s.total t.total s.fixes t.fixes s.boxes t.boxes (lines_of ss) (lines_of ts) is_s.fixes is_t.fixes (no_box_lines ss) (no_box_lines ts) (sym (lines_first s ss) ∙ same ∙ lines_first t ts) in
+    let parts = claim_unique s.number t.number s.kind t.kind s.total t.total s.fixes t.fixes s.boxes t.boxes (lines_of ss) (lines_of ts) is_s.fixes is_t.fixes (no_box_lines ss) (no_box_lines ts)
+    (sym (lines_first s ss) ∙ same ∙ lines_first t ts) in
     let first : s ≡ t = λ i. record { number = parts.0 i; kind = parts.1 i; total = parts.2 i; fixes = parts.3 i; boxes = parts.4 i } in
     let rest = lines_injective ss ts (All-tail IsStatement s ss each_s) (All-tail IsStatement t ts each_t) parts.5 in
     λ i. first i ∷ rest i
@@ -243,7 +249,8 @@ text_unique {v} {w} text ss ts one other =
     lines_injective ss ts one.each other.each (full_unique (proof_grammar v) (proof_plain v) text (lines_of ss) (lines_of ts) (text_full v text ss one) (text_full v text ts also))
 
 -- with the word of a box and the letter of its reason before them, spans are the line of a box
-pub box_adds : (text words tail : List ℕ) (why : Why) (before after : List Closed) (taken : Option (Bor (List ℕ))) → text ≡ codes "BOX " ++ words → words ≡ reason_word why ++ tail → Adds (AreSpansAt tail) why before after taken → AddsBox text before after taken
+pub box_adds : (text words tail : List ℕ) (why : Why) (before after : List Closed) (taken : Option (Bor (List ℕ))) → text ≡ codes "BOX " ++ words → words ≡ reason_word why ++ tail
+    → Adds (AreSpansAt tail) why before after taken → AddsBox text before after taken
 box_adds text words tail why before after None front letter adds = (
   λ box rest at.
       let line : words ≡ reason_word box.1 ++ (spaced (map span_word box.0) ++ 10 ∷ rest) = append_cancel_left (codes "BOX ") _ _ (sym front ∙ at.1 ∙ box_is box.1 box.0 rest) in
@@ -259,6 +266,7 @@ box_adds text words tail why before after (Some rest) front letter adds = (
   adds.2,
 )
 
-pub box_added : {E : Type 0} (text words tail : List ℕ) (why : Why) (before after : List Closed) (result : Result (Option (Bor (List ℕ))) E) → text ≡ codes "BOX " ++ words → words ≡ reason_word why ++ tail → IfOk result (Adds (AreSpansAt tail) why before after) → IfOk result (AddsBox text before after)
+pub box_added : {E : Type 0} (text words tail : List ℕ) (why : Why) (before after : List Closed) (result : Result (Option (Bor (List ℕ))) E) → text ≡ codes "BOX " ++ words
+    → words ≡ reason_word why ++ tail → IfOk result (Adds (AreSpansAt tail) why before after) → IfOk result (AddsBox text before after)
 box_added text words tail why before after (Ok taken) front letter adds = box_adds text words tail why before after taken front letter adds
 box_added text words tail why before after (Err error) front letter adds = adds

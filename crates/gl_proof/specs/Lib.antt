@@ -1,9 +1,7 @@
 pub mod Claim
-pub mod ClaimFront
-pub mod Fronts
+pub mod Code
 pub mod Line
 pub mod Number
-pub mod Passage
 pub mod Reading
 pub mod Refusal
 pub mod Text

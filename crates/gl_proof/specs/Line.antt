@@ -92,7 +92,8 @@ may_follow (FixLine fixes) next = goes_on next
 may_follow (BoxLine why spans) next = goes_on next
 may_follow EndLine next = false
 
--- the lines of the proofs of a version, and how they follow each other: the versions differ in their
+-- the lines of the proofs of a version, and how they follow each other: the versions differ in
+-- their
 -- heading alone
 abbrev pub proof_grammar : Version → Grammar Line
 proof_grammar version = record {

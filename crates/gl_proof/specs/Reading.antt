@@ -1,25 +1,13 @@
 -- What a reader stands for that takes the text of a proof piece by piece.
-use Rattle.std.specs.Prelude.{◌≡◌, ℕ, ◌+◌, ◌≤◌, min, List, [], ◌∷◌, ◌++◌, length, map, Option, None, Some, All}
+use Rattle.std.specs.Prelude.{◌≡◌, ℕ, ◌+◌, min, List, [], ◌∷◌, ◌++◌, length, map, Option, None, Some, All}
 use Rattle.std.specs.List.{flat_map}
-use Rattle.gl_box.specs.declared.closed.Closed.{Closed}
-use Rattle.gl_box.specs.Closed.{box_of}
 use Rattle.gl_proof.specs.declared.version.Version.{Version}
 use Rattle.gl_proof.specs.declared.reader.ProofReader.{ProofReader}
-use Rattle.gl_proof.specs.Line.{HeadingLine, AreSpans}
-use Rattle.gl_proof.specs.Claim.{IsStatement, Statement, box_line, claim_lines, spelled, statement_of}
-use Rattle.gl_proof.specs.Passage.{NoBox}
+use Rattle.gl_proof.specs.Line.{HeadingLine}
+use Rattle.gl_proof.specs.Claim.{IsStatement, Statement, claim_lines, spelled, statement_of}
 
--- A reader added the boxes whose lines stand at the front of a text to some boxes, all of them, and
--- left the rest.
-pub record AddsBoxes (text : List ℕ) (before after : List Closed) (rest : List ℕ) : Type 0 where
-  pub each : All (λ box. AreSpans box.0) (map box_of before)
-      → All (λ box. AreSpans box.0) (map box_of after)
-  pub is : spelled (map box_line (map box_of before)) ++ text
-      ≡ spelled (map box_line (map box_of after)) ++ rest
-  pub grows : length before ≤ length after
-  pub last : NoBox rest
-
--- The heading of a version and the lines of some claims begin a text, and the rest is left. The line
+-- The heading of a version and the lines of some claims begin a text, and the rest is left. The
+-- line
 -- that follows has this number.
 pub record AreClaimsAt (version : Version) (text : List ℕ) (said : List Statement) (rest : List ℕ)
     (line : ℕ) : Type 0 where

@@ -6,7 +6,8 @@ use Rattle.gl_lines.specs.Refusal.{IsHeadless, IsRefusal}
 use Rattle.gl_proof.specs.declared.version.Version.{Version}
 use Rattle.gl_proof.specs.Line.{proof_grammar}
 
--- What an error tells of a text: that it begins with the heading of no version; or else what is wrong
+-- What an error tells of a text: that it begins with the heading of no version; or else what is
+-- wrong
 -- by the version that its heading tells. Want of memory tells nothing.
 abbrev pub IsRefused : List ℕ → ProofError → Type 0
 IsRefused text Heading = (version : Version) → IsHeadless (proof_grammar version) text

@@ -3,8 +3,7 @@ ghost use Rattle.gl_box.specs.Closed.{box_of};
 ghost use Rattle.gl_proof.specs.Claim.{fix_lines, statement_of};
 ghost use Rattle.gl_proof.specs.Number.{is_number};
 ghost use Rattle.gl_lines.specs.Misfit.{OrMemory};
-ghost use Rattle.gl_proof.specs.Passage.{AreBoxesAt, AreClaimedAt, IsClaimRead, LacksClaim, LacksFixes};
-ghost use Rattle.gl_proof.specs.Reading.{AddsBoxes};
+ghost use Rattle.gl_proof.specs.Code.Passage.{AreBoxesAt, AreClaimedAt, IsClaimRead, LacksClaim, LacksFixes, AddsBoxes};
 
 use crate::claim::Claim;
 use crate::line::{add_box_at, claim_line_at, fixes_at};

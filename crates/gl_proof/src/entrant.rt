@@ -1,7 +1,7 @@
 ghost use Rattle.std.specs.Prelude.{◌≡◌, ◌≤◌, length, take_while};
 ghost use Rattle.std.specs.Char.{is_ascii_alphanumeric};
 ghost use Rattle.gl_lines.specs.Fronts.{Reads};
-ghost use Rattle.gl_proof.specs.Fronts.{IsEntrantAt};
+ghost use Rattle.gl_proof.specs.Code.Fronts.{IsEntrantAt};
 
 use gl_lines::behind;
 

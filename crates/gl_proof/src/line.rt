@@ -1,7 +1,6 @@
 ghost use Rattle.std.specs.Prelude.{◌≡◌, ◌≢◌, ◌≤◌, ℕ, List, [], ◌∷◌, ◌++◌, length, IfOk, OnOk, MatchOption, codes};
 ghost use Rattle.gl_lines.specs.Fronts.{Reads};
-ghost use Rattle.gl_proof.specs.Fronts.{AreFixesAt, Adds, AddsBox, AreSpansAt, IsClaimAt, IsKindAt, IsReasonAt};
-ghost use Rattle.gl_proof.specs.ClaimFront.{said_of};
+ghost use Rattle.gl_proof.specs.Code.Fronts.{AreFixesAt, Adds, AddsBox, AreSpansAt, IsClaimAt, IsKindAt, IsReasonAt, said_of};
 
 use crate::claim::ClaimKind;
 use crate::entrant::entrant_at;

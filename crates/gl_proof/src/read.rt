@@ -3,9 +3,9 @@ ghost use Rattle.gl_lines.specs.Fronts.{Reads};
 ghost use Rattle.gl_lines.specs.declared.error.ProofError.{ProofError};
 ghost use Rattle.gl_lines.specs.declared.error.ProofError.TheVariants.{Memory};
 ghost use Rattle.gl_proof.specs.Claim.{Statement, statement_of};
-ghost use Rattle.gl_proof.specs.Fronts.{IsHeadingAt};
+ghost use Rattle.gl_proof.specs.Code.Fronts.{IsHeadingAt};
 ghost use Rattle.gl_proof.specs.Line.{EndLine, ended};
-ghost use Rattle.gl_proof.specs.Passage.{NoBox};
+ghost use Rattle.gl_proof.specs.Code.Passage.{NoBox};
 ghost use Rattle.gl_proof.specs.Reading.{AreClaimsAt};
 ghost use Rattle.gl_proof.specs.Refusal.{IsRefused};
 ghost use Rattle.gl_proof.specs.Text.{IsTextOf, statements_of};
@@ -85,10 +85,12 @@ pub(crate) fn read_lines(alloc: Global, text: &[u8]) -> Result<Proof, ProofError
     read_claims(alloc, version, Vec::new(alloc), rest, 2)
 }
 
-/// Reads a proof from its text, as docs/proof-file.md has it: the one proof, of the one version, with
+/// Reads a proof from its text, as docs/proof-file.md has it: the one proof, of the one version,
+/// with
 /// this text. So what was written is read again, and there is no second spelling of a proof.
 ///
-/// [`ProofError::Heading`] comes where the text doesn't begin with the heading of a version and its LF,
+/// [`ProofError::Heading`] comes where the text doesn't begin with the heading of a version and its
+/// LF,
 /// [`ProofError::Line`] with the first line, ended by LF, that may not stand where it stands, or
 /// that begins behind the end, and [`ProofError::Cut`] where neither of these is so and the end is
 /// missing; [`ProofError::Memory`] only for want of memory.

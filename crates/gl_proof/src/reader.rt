@@ -1,6 +1,6 @@
 ghost use Rattle.std.specs.Prelude.{◌≡◌, ◌≢◌, ◌++◌, ◌<◌, ℕ, List, [], None, length, map, IfErr, IfOk, OnOk};
 ghost use Rattle.gl_proof.specs.Claim.{statement_of};
-ghost use Rattle.gl_proof.specs.Passage.{NoBox};
+ghost use Rattle.gl_proof.specs.Code.Passage.{NoBox};
 ghost use Rattle.gl_proof.specs.Reading.{AreClaimsAt, StandsForProof};
 ghost use Rattle.gl_proof.specs.Refusal.{IsRefused};
 ghost use Rattle.gl_proof.specs.Text.{IsTextOf, statements_of};
@@ -18,7 +18,8 @@ use std::alloc::{AllocError, Global};
 /// so many are left, none of them can be read.
 const MOST_LEFT: usize = 1_024;
 
-/// Reads the text of a proof piece by piece, wherever it is cut. It keeps the claims and boxes whose
+/// Reads the text of a proof piece by piece, wherever it is cut. It keeps the claims and boxes
+/// whose
 /// lines came whole, and the bytes behind them, so that the text is never held whole, unless a line
 /// of it is wrong.
 #[derive(Drop)]

@@ -1,4 +1,5 @@
-/// The version of a proof's text, which its first line tells. Both have the same lines, and the claims of
+/// The version of a proof's text, which its first line tells. Both have the same lines, and the
+/// claims of
 /// both are checked by the same tests.
 #[derive(Clone, Copy, Debug, PartialEq, Eq)]
 pub enum Version {

@@ -93,7 +93,8 @@ fn push_claim_line(
     Ok(())
 }
 
-/// Appends the lines of boxes, so that a claim with millions of them can be written piece by piece. The
+/// Appends the lines of boxes, so that a claim with millions of them can be written piece by piece.
+/// The
 /// only error is want of memory; `out` has then what it had, and perhaps more.
 pub fn write_boxes(out: &mut Vec<u8>, cells: &[Closed]) -> Result<(), AllocError>
     ensures ok { OnOk result (out.new.items
@@ -106,7 +107,8 @@ pub fn write_boxes(out: &mut Vec<u8>, cells: &[Closed]) -> Result<(), AllocError
     Ok(())
 }
 
-/// Appends the lines of a claim that stand before its boxes. The only error is want of memory; `out` has
+/// Appends the lines of a claim that stand before its boxes. The only error is want of memory;
+/// `out` has
 /// then what it had, and perhaps more.
 pub fn write_front(out: &mut Vec<u8>, claim: &Claim) -> Result<(), AllocError>
     ensures ok { OnOk result

@@ -117,7 +117,8 @@ fn directions(rt: HostRuntime) {
     }
 }
 
-/// The roots of squares, of the numbers beside them and of those halfway to the next, as far as chords
+/// The roots of squares, of the numbers beside them and of those halfway to the next, as far as
+/// chords
 /// of the sphere reach.
 #[test]
 fn roots_about_squares(rt: HostRuntime) {

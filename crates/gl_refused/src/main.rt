@@ -1,4 +1,5 @@
-//! The program over a folder without the file that it is asked for, as a test: the gate runs it and wants
+//! The program over a folder without the file that it is asked for, as a test: the gate runs it and
+//! wants
 //! the status of a refusal.
 #![tactic(auto)]
 

@@ -20,7 +20,8 @@ pub fn short(alloc: Global, most: u64) -> Result<MemDesk, AllocError> {
     MemDesk::short(alloc, Vec::new(alloc), Vec::new(alloc), most.max(1))
 }
 
-/// A folder with the same files, whose call with this number fails, counted behind those that put the
+/// A folder with the same files, whose call with this number fails, counted behind those that put
+/// the
 /// files there. None fails if it is 0.
 pub fn twin(alloc: Global, desk: &mut MemDesk, failing: u64) -> Result<MemDesk> {
     let names = desk.names(alloc)?;
@@ -74,7 +75,8 @@ pub fn copy(rt: &HostRuntime, desk: &mut MemDesk, rest: &str) -> Result<()> {
     append(rt.alloc(), desk, name, text.as_str())
 }
 
-/// `change NAME FILE OLD -> NEW` appends what a file of `data/` has, with its first part that is `OLD`
+/// `change NAME FILE OLD -> NEW` appends what a file of `data/` has, with its first part that is
+/// `OLD`
 /// replaced.
 pub fn change(rt: &HostRuntime, desk: &mut MemDesk, rest: &str) -> Result<()> {
     let (name, rest) = rest.split_once(' ').context("a name")?;
@@ -103,7 +105,8 @@ pub fn times(rt: &HostRuntime, desk: &mut MemDesk, rest: &str) -> Result<()> {
     append(rt.alloc(), desk, name, all.as_str())
 }
 
-/// `seconds COUNT NAME` appends so many fixes a second apart from midnight on, across the next one, at
+/// `seconds COUNT NAME` appends so many fixes a second apart from midnight on, across the next one,
+/// at
 /// one place.
 pub fn seconds(rt: &HostRuntime, desk: &mut MemDesk, rest: &str) -> Result<()> {
     let (count, name) = rest.split_once(' ').context("a count and a name")?;

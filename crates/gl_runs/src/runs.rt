@@ -30,10 +30,12 @@ pub enum Line<'a> {
     Bare(&'a str),
     /// `first WORDS`: how it ended, and the first line of what it said.
     First(&'a str),
-    /// `among WORDS | LINE | LINE`: how it ended, the first line of what it said, and whether the rest
+    /// `among WORDS | LINE | LINE`: how it ended, the first line of what it said, and whether the
+    /// rest
     /// of it is one of these lines.
     Among(&'a str, &'a str),
-    /// `severe WORDS`: how it ended with a steward that always owes the greatest number, and what it
+    /// `severe WORDS`: how it ended with a steward that always owes the greatest number, and what
+    /// it
     /// said.
     Severe(&'a str),
 }
@@ -77,7 +79,8 @@ pub struct Ended {
     pub calls: u64,
 }
 
-/// Runs the words of a line, with the two stewards of the program, or with those that the line wants.
+/// Runs the words of a line, with the two stewards of the program, or with those that the line
+/// wants.
 pub fn end_of<Rt: Threads + Wait + Sync>(
     rt: &Rt,
     alloc: Global,

@@ -1,4 +1,5 @@
-//! The program over the folder of a day, as a test: the gate runs `score` in it and wants the sheet, with
+//! The program over the folder of a day, as a test: the gate runs `score` in it and wants the
+//! sheet, with
 //! the penalties of the ceiling and of the engine.
 #![tactic(auto)]
 

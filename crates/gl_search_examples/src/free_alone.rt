@@ -38,7 +38,8 @@ fn there_and_back(alts: [i16; 9]) -> [Fix; 9] {
     ]
 }
 
-/// The greatest free distance over nine fixes that go there and back, by spans of time and by place.
+/// The greatest free distance over nine fixes that go there and back, by spans of time and by
+/// place.
 fn free_over(alloc: Global, alts: [i16; 9], loss: u16) -> Result<[u64; 2], Fail> {
     let fixes = there_and_back(alts);
     let goal = FreeGoal::new(alloc, &fixes, 0, 8, i32::from(loss))?;

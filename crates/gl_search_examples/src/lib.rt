@@ -1,4 +1,5 @@
-//! Worked examples of cells, hulls, goals, proofs, the checker, badge claims and the closest approach.
+//! Worked examples of cells, hulls, goals, proofs, the checker, badge claims and the closest
+//! approach.
 //! They are tests alone.
 #![tactic(auto)]
 

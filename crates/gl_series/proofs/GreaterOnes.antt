@@ -24,7 +24,8 @@ module _ (total : ℕ) where
       let one : worth x ≡ 1 = ap (λ (b : Bool). cond b 1 0) (lt-ltb total x (All-head (λ y. total < y) x xs high)) in
       omega (arith, one, sum_by-cons worth x xs, all_greater xs (All-tail (λ y. total < y) x xs high))
 
-  pub rank_at : (totals : List ℕ) (place : ℕ) → place ≤ length totals → IsPartitionPoint (λ y. leb y total ≡ true) (λ y. leb y total ≡ false) totals place → rank_of totals total ≡ length totals - place + 1
+  pub rank_at : (totals : List ℕ) (place : ℕ) → place ≤ length totals → IsPartitionPoint (λ y. leb y total ≡ true) (λ y. leb y total ≡ false) totals place
+      → rank_of totals total ≡ length totals - place + 1
   rank_at totals place within point =
       let long = length-take-le place totals within in
       let front : All (λ x. x ≤ total) (take place totals) = All-from_get_or (λ x. x ≤ total) (take place totals) 0 (λ k below.

@@ -9,7 +9,7 @@ use Rattle.std.proofs.lemmas.List.Kept.{AllPairs-cons}
 use Rattle.gl_series.specs.declared.entry.Entry.{Entry}
 use Rattle.gl_series.specs.declared.entry.Entry.TheVariants.{Day, Team}
 use Rattle.gl_series.specs.declared.series.Member.{Member}
-use Rattle.gl_series.specs.Adding.{with_entry}
+use Rattle.gl_series.specs.Code.Adding.{with_entry}
 use Rattle.gl_series.specs.SeriesList.{Fit, IsSeries, day_of, member_of, series_of}
 
 module _ {X : Type 0} where
@@ -53,7 +53,8 @@ abbrev numbers_apart : Member → Member → Type 0
 numbers_apart one other = one.number ≢ other.number
 
 -- a day more
-pub day_fits : (days : List (List ℕ)) (teams : List Member) (name : List ℕ) → IsSeries (record { days = days; teams = teams }) → length days < 30 → All (λ day. day ≢ name) days → IsSeries (with_entry days teams (Day name))
+pub day_fits : (days : List (List ℕ)) (teams : List Member) (name : List ℕ) → IsSeries (record { days = days; teams = teams }) → length days < 30 → All (λ day. day ≢ name) days
+    → IsSeries (with_entry days teams (Day name))
 day_fits days teams name is room new = record {
   few_days = omega (arith, length-append days (name ∷ []), room);
   days_differ = pairs_push days_apart days name is.days_differ new;
@@ -66,7 +67,8 @@ day_room days teams name fits =
     (omega (arith, fits.few_days, length-append days (name ∷ [])), pairs_last days_apart days name fits.days_differ)
 
 -- a member more
-pub member_fits : (days : List (List ℕ)) (teams : List Member) (member : Member) → IsSeries (record { days = days; teams = teams }) → length teams < 1_000 → All (λ other. other.number ≢ member.number) teams → IsSeries (with_entry days teams (Team member))
+pub member_fits : (days : List (List ℕ)) (teams : List Member) (member : Member) → IsSeries (record { days = days; teams = teams }) → length teams < 1_000
+    → All (λ other. other.number ≢ member.number) teams → IsSeries (with_entry days teams (Team member))
 member_fits days teams member is room new = record {
   few_days = subst (λ (ds : List (List ℕ)). length ds ≤ 30) (sym (append-nil days)) is.few_days;
   days_differ = subst (AllPairs days_apart) (sym (append-nil days)) is.days_differ;
@@ -74,7 +76,8 @@ member_fits days teams member is room new = record {
   numbers_differ = pairs_push numbers_apart teams member is.numbers_differ new;
 }
 
-pub member_room : (days : List (List ℕ)) (teams : List Member) (member : Member) → IsSeries (with_entry days teams (Team member)) → (length teams < 1_000) × All (λ other. other.number ≢ member.number) teams
+pub member_room : (days : List (List ℕ)) (teams : List Member) (member : Member) → IsSeries (with_entry days teams (Team member))
+    → (length teams < 1_000) × All (λ other. other.number ≢ member.number) teams
 member_room days teams member fits =
     (omega (arith, fits.few_members, length-append teams (member ∷ [])), pairs_last numbers_apart teams member fits.numbers_differ)
 
@@ -93,6 +96,8 @@ fit_begins a b fit =
 -- what entries say with one more
 pub series_push : (entries : List Entry) (entry : Entry) → series_of (entries ++ entry ∷ []) ≡ with_entry (flat_map day_of entries) (flat_map member_of entries) entry
 series_push entries entry =
-    let days : flat_map day_of (entries ++ entry ∷ []) ≡ flat_map day_of entries ++ day_of entry = flat_map-append day_of entries (entry ∷ []) ∙ ap (λ (l : List (List ℕ)). flat_map day_of entries ++ l) (append-nil (day_of entry)) in
-    let teams : flat_map member_of (entries ++ entry ∷ []) ≡ flat_map member_of entries ++ member_of entry = flat_map-append member_of entries (entry ∷ []) ∙ ap (λ (l : List Member). flat_map member_of entries ++ l) (append-nil (member_of entry)) in
+    let days : flat_map day_of (entries ++ entry ∷ []) ≡ flat_map day_of entries ++ day_of entry = flat_map-append day_of entries (entry ∷ [])
+    ∙ ap (λ (l : List (List ℕ)). flat_map day_of entries ++ l) (append-nil (day_of entry)) in
+    let teams : flat_map member_of (entries ++ entry ∷ []) ≡ flat_map member_of entries ++ member_of entry = flat_map-append member_of entries (entry ∷ [])
+    ∙ ap (λ (l : List Member). flat_map member_of entries ++ l) (append-nil (member_of entry)) in
     λ i. record { days = days i; teams = teams i }

@@ -37,13 +37,9 @@ kept_more old new numbers key changes has number =
     ((λ absent. All-push apart numbers key ((has number).0 (sym now ∙ absent)) differs), (λ all. now ∙ (has number).1 (all_begin apart numbers (key ∷ []) all))))
     (cases_Bool (same_text key number))
 
--- what holds of what is read off each of some items
-pub all_read : {X Y : Type 0} (P : Y → Type 0) (f : X → Y) (xs : List X) → All P (map f xs) → All (λ x. P (f x)) xs
-all_read P f [] all = All-nil (λ x. P (f x))
-all_read P f (x ∷ xs) all = All-cons (λ y. P (f y)) x xs (All-head P (f x) (map f xs) all) (all_read P f xs (All-tail P (f x) (map f xs) all))
-
 -- a number is new exactly where the set hasn't it
-pub new_number : (seen : BTreeSet (List ℕ)) (numbers : List (List ℕ)) (number : List ℕ) (found : Bool) → found ≡ contains (slice_cmp nat_cmp) seen number → Has seen numbers → IsTrue (not found) ↔ All (λ other. other ≢ number) numbers
+pub new_number : (seen : BTreeSet (List ℕ)) (numbers : List (List ℕ)) (number : List ℕ) (found : Bool) → found ≡ contains (slice_cmp nat_cmp) seen number → Has seen numbers
+    → IsTrue (not found) ↔ All (λ other. other ≢ number) numbers
 new_number seen numbers number true is has = (
   λ free. absurd (false≢true free),
   λ all. absurd (false≢true (sym ((has number).1 all) ∙ sym is)),
@@ -51,6 +47,7 @@ new_number seen numbers number true is has = (
 new_number seen numbers number false is has = (λ free. (has number).0 (sym is), λ all. refl)
 
 -- the numbers of some items and one more
-pub kept_item : {X : Type 0} (f : X → List ℕ) (old new : BTreeSet (List ℕ)) (xs ys : List X) (x : X) → ys ≡ xs ++ x ∷ [] → ((numbers : List (List ℕ)) → Has old numbers → Has new (numbers ++ f x ∷ [])) → Has old (map f xs) → Has new (map f ys)
+pub kept_item : {X : Type 0} (f : X → List ℕ) (old new : BTreeSet (List ℕ)) (xs ys : List X) (x : X) → ys ≡ xs ++ x ∷ [] → ((numbers : List (List ℕ)) → Has old numbers → Has new (numbers ++ f x ∷ []))
+    → Has old (map f xs) → Has new (map f ys)
 kept_item f old new xs ys x is added has =
     subst (Has new) (sym (ap (map f) is ∙ map-append f xs (x ∷ []))) (added (map f xs) has)

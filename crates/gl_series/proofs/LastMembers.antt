@@ -7,7 +7,7 @@ use Rattle.std.proofs.lemmas.List.Folds.{list_any_at}
 use Rattle.std.proofs.lemmas.List.Sums.{sum_by-cons}
 use Rattle.gl_series.specs.declared.series.Member.{Member}
 use Rattle.gl_series.specs.Forms.{is_text}
-use Rattle.gl_series.specs.Tallies.{has_team, last_members}
+use Rattle.gl_series.specs.Code.Tallies.{has_team, last_members}
 use Rattle.gl_series.proofs.Beside.{text_is, text_same}
 
 -- each of them is a member
@@ -17,7 +17,8 @@ last_are_members (member ∷ members) =
     let rest = All-weaker (Contains members) (Contains (member ∷ members)) (λ other has. (suc has.0, omega (arith, has.1), has.2)) (last_members members) (last_are_members members) in
     ⊎_elim
     (λ (later : has_team member.team members ≡ true). subst (λ (b : Bool). All (Contains (member ∷ members)) (cond b [] (member ∷ []) ++ last_members members)) (sym later) rest)
-    (λ (last : has_team member.team members ≡ false). subst (λ (b : Bool). All (Contains (member ∷ members)) (cond b [] (member ∷ []) ++ last_members members)) (sym last) (All-cons (Contains (member ∷ members)) member (last_members members) (0, omega arith, refl) rest))
+    (λ (last : has_team member.team members ≡ false). subst (λ (b : Bool). All (Contains (member ∷ members)) (cond b [] (member ∷ []) ++ last_members members)) (sym last)
+    (All-cons (Contains (member ∷ members)) member (last_members members) (0, omega arith, refl) rest))
     (cases_Bool (has_team member.team members))
 
 pub last_fewer : (members : List Member) → length (last_members members) ≤ length members
@@ -26,9 +27,11 @@ last_fewer (member ∷ members) =
     let rest = last_fewer members in
     ⊎_elim
     (λ (later : has_team member.team members ≡ true).
-    let long : length (last_members (member ∷ members)) ≡ length (last_members members) = ap (λ (b : Bool). length (cond b [] (member ∷ []) ++ last_members members)) later in omega (arith, long, rest))
+    let long : length (last_members (member ∷ members)) ≡ length (last_members members) = ap (λ (b : Bool). length (cond b [] (member ∷ []) ++ last_members members)) later in
+    omega (arith, long, rest))
     (λ (last : has_team member.team members ≡ false).
-    let long : length (last_members (member ∷ members)) ≡ suc (length (last_members members)) = ap (λ (b : Bool). length (cond b [] (member ∷ []) ++ last_members members)) last in omega (arith, long, rest))
+    let long : length (last_members (member ∷ members)) ≡ suc (length (last_members members)) = ap (λ (b : Bool). length (cond b [] (member ∷ []) ++ last_members members)) last in
+    omega (arith, long, rest))
     (cases_Bool (has_team member.team members))
 
 -- a team, counted among them
@@ -69,9 +72,11 @@ module _ (team : List ℕ) where
       (cases_Bool (is_member member))
 
 pub team_found : (members : List Member) (member : Member) → Contains members member → has_team member.team members ≡ true
-team_found members member has = list_any_at (λ other. is_text member.team other.team) members has.0 member has.1 (text_is member.team (get_or members has.0 member).team (ap (λ (m : Member). m.team) (sym has.2)))
+team_found members member has = list_any_at (λ other. is_text member.team other.team) members has.0 member has.1
+    (text_is member.team (get_or members has.0 member).team (ap (λ (m : Member). m.team) (sym has.2)))
 
-pub members_more : (front more : List Member) (rest later members : List Member) (member : Member) → front ++ last_members rest ≡ last_members members → rest ≡ member ∷ later → more ≡ front ++ cond (has_team member.team later) [] (member ∷ []) → more ++ last_members later ≡ last_members members
+pub members_more : (front more : List Member) (rest later members : List Member) (member : Member) → front ++ last_members rest ≡ last_members members → rest ≡ member ∷ later
+    → more ≡ front ++ cond (has_team member.team later) [] (member ∷ []) → more ++ last_members later ≡ last_members members
 members_more front more rest later members member so_far here grown =
     ap (λ (l : List Member). l ++ last_members later) grown
     ∙ append_assoc front (cond (has_team member.team later) [] (member ∷ [])) (last_members later)

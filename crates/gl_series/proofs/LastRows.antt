@@ -1,7 +1,7 @@
 -- The rows whose numbers no later day has: each number of the days stands among them once.
 use Rattle.std.proofs.Common.{◌≡◌, ◌≢◌, ◌∙◌, sym, ap, subst, refl, ℕ, suc, ◌+◌, ◌*◌, ◌<◌, ◌≤◌, Bool, true, false, ◌||◌, List, [], ◌∷◌, ◌++◌, length, map, get_or, take, append_assoc, arith, ⊎_elim}
 use Rattle.std.specs.Prelude.{All, AllPairs, Contains, cond, count_by, filter, not}
-use Rattle.std.proofs.lemmas.Bool.{cases_Bool, false≢true}
+use Rattle.std.proofs.lemmas.Bool.{cases_Bool, false≢true, or_parts}
 use Rattle.std.proofs.lemmas.List.{length-append, map_push, take_more}
 use Rattle.std.proofs.lemmas.List.Elements.{All-append, All-cons, All-head, All-nil, All-tail, All-weaker}
 use Rattle.std.proofs.lemmas.List.Folds.{list_any_at}
@@ -9,7 +9,7 @@ use Rattle.std.proofs.lemmas.List.Sums.{count_by-le-length, length-filter, sum_b
 use Rattle.gl_series.specs.declared.day.DayRow.{DayRow}
 use Rattle.gl_series.specs.declared.day.DaySheet.{DaySheet}
 use Rattle.gl_series.specs.Forms.{is_text}
-use Rattle.gl_series.specs.Tallies.{has_number, is_in_days, last_rows}
+use Rattle.gl_series.specs.Code.Tallies.{has_number, is_in_days, last_rows}
 use Rattle.gl_series.specs.Totals.{IsDay, IsLastName}
 use Rattle.gl_series.proofs.Beside.{text_apart, text_is, text_not, text_same}
 use Rattle.gl_series.proofs.Growing.{pairs_head, pairs_tail}
@@ -19,16 +19,13 @@ pub map_more : {X Y : Type 0} (f : X → Y) (xs : List X) (i : ℕ) (x : X) → 
 map_more f xs i x inside at =
     ap (map f) (take_more xs i x inside ∙ ap (λ y. take i xs ++ y ∷ []) (sym at)) ∙ map_push f (take i xs) x
 
-pub last_more : (front more : List DayRow) (rest later days : List DaySheet) (day : DaySheet) → front ++ last_rows rest ≡ last_rows days → rest ≡ day ∷ later → more ≡ front ++ filter (λ row. not (is_in_days row.number later)) day.rows → more ++ last_rows later ≡ last_rows days
+pub last_more : (front more : List DayRow) (rest later days : List DaySheet) (day : DaySheet) → front ++ last_rows rest ≡ last_rows days → rest ≡ day ∷ later
+    → more ≡ front ++ filter (λ row. not (is_in_days row.number later)) day.rows → more ++ last_rows later ≡ last_rows days
 last_more front more rest later days day so_far here grown =
     ap (λ (l : List DayRow). l ++ last_rows later) grown
     ∙ append_assoc front (filter (λ row. not (is_in_days row.number later)) day.rows) (last_rows later)
     ∙ ap (λ (ds : List DaySheet). front ++ last_rows ds) (sym here)
     ∙ so_far
-
-either_false : (a b : Bool) → (a || b) ≡ false → (a ≡ false) × (b ≡ false)
-either_false false b lacks = (refl, lacks)
-either_false true b lacks = absurd (false≢true (sym lacks))
 
 not_true : (b : Bool) → not b ≡ true → b ≡ false
 not_true false is = refl
@@ -47,13 +44,13 @@ kept p Q (x ∷ xs) each =
 not_in_rows : (number : List ℕ) (rows : List DayRow) → has_number number rows ≡ false → All (λ row. row.number ≢ number) rows
 not_in_rows number [] lacks = All-nil (λ row. row.number ≢ number)
 not_in_rows number (row ∷ rows) lacks =
-    let both = either_false (is_text number row.number) (has_number number rows) lacks in
+    let both = or_parts (is_text number row.number) (has_number number rows) lacks in
     All-cons (λ other. other.number ≢ number) row rows (λ same. text_apart number row.number both.0 (sym same)) (not_in_rows number rows both.1)
 
 not_in_days : (number : List ℕ) (days : List DaySheet) → is_in_days number days ≡ false → All (λ day. All (λ row. row.number ≢ number) day.rows) days
 not_in_days number [] lacks = All-nil (λ day. All (λ row. row.number ≢ number) day.rows)
 not_in_days number (day ∷ days) lacks =
-    let both = either_false (has_number number day.rows) (is_in_days number days) lacks in
+    let both = or_parts (has_number number day.rows) (is_in_days number days) lacks in
     All-cons (λ other. All (λ row. row.number ≢ number) other.rows) day days (not_in_rows number day.rows both.0) (not_in_days number days both.1)
 
 abbrev IsNamed : List DaySheet → DayRow → Type 0
@@ -119,7 +116,8 @@ module _ (number : List ℕ) where
   rows_counted (row ∷ rows) differ =
       ⊎_elim
       (λ (is : is_row row ≡ true).
-      let apart : All (λ r. r.number ≢ number) rows = All-weaker (λ r. row.number ≢ r.number) (λ r. r.number ≢ number) (λ r away same. away (sym (text_same number row.number is) ∙ sym same)) rows (pairs_head (λ one other. one.number ≢ other.number) row rows differ) in
+      let apart : All (λ r. r.number ≢ number) rows = All-weaker (λ r. row.number ≢ r.number) (λ r. r.number ≢ number) (λ r away same. away (sym (text_same number row.number is) ∙ sym same)) rows
+      (pairs_head (λ one other. one.number ≢ other.number) row rows differ) in
       let one : worth row ≡ 1 = ap (λ (b : Bool). cond b 1 0) is in
       let whole : count_by is_row (row ∷ rows) ≡ 1 = omega (arith, one, sum_by-cons worth row rows, none_counted rows apart) in
       whole ∙ sym (ap (λ (b : Bool). cond (b || has_number number rows) 1 0) is))
@@ -159,13 +157,15 @@ module _ (number : List ℕ) where
         ⊎_elim
         (λ (is : is_row row ≡ true).
         let stays : is_last row ≡ true = ap (λ (n : List ℕ). not (is_in_days n days)) (sym (text_same number row.number is)) ∙ ap not last in
-        ap (λ (b : Bool). count_by is_row (rest_of row rows b)) stays ∙ sum_by-cons worth row (filter is_last rows) ∙ ap (λ (n : ℕ). worth row + n) (last_counted last rows) ∙ sym (sum_by-cons worth row rows))
+        ap (λ (b : Bool). count_by is_row (rest_of row rows b)) stays ∙ sum_by-cons worth row (filter is_last rows) ∙ ap (λ (n : ℕ). worth row + n) (last_counted last rows)
+        ∙ sym (sum_by-cons worth row rows))
         (λ (is : is_row row ≡ false).
         let nothing : worth row ≡ 0 = ap (λ (b : Bool). cond b 1 0) is in
         let same : count_by is_row rows ≡ count_by is_row (row ∷ rows) = omega (arith, nothing, sum_by-cons worth row rows) in
         ⊎_elim
         (λ (stays : is_last row ≡ true).
-        ap (λ (b : Bool). count_by is_row (rest_of row rows b)) stays ∙ sum_by-cons worth row (filter is_last rows) ∙ ap (λ (n : ℕ). worth row + n) (last_counted last rows) ∙ sym (sum_by-cons worth row rows))
+        ap (λ (b : Bool). count_by is_row (rest_of row rows b)) stays ∙ sum_by-cons worth row (filter is_last rows) ∙ ap (λ (n : ℕ). worth row + n) (last_counted last rows)
+        ∙ sym (sum_by-cons worth row rows))
         (λ (goes : is_last row ≡ false). ap (λ (b : Bool). count_by is_row (rest_of row rows b)) goes ∙ last_counted last rows ∙ same)
         (cases_Bool (is_last row)))
         (cases_Bool (is_row row))
@@ -188,7 +188,8 @@ module _ (number : List ℕ) where
       let here = last_counted days last day.rows ∙ rows_counted day.rows differ in
       let none : count_by is_row (last_rows days) ≡ 0 = rest ∙ ap (λ (b : Bool). cond b 1 0) last in
       let whole : count_by is_row (last_rows (day ∷ days)) ≡ cond (has_number number day.rows) 1 0 = omega (arith, parts, here, none) in
-      let found : (has_number number day.rows || is_in_days number days) ≡ has_number number day.rows = ap (λ (b : Bool). has_number number day.rows || b) last ∙ or_false (has_number number day.rows) in
+      let found : (has_number number day.rows || is_in_days number days) ≡ has_number number day.rows = ap (λ (b : Bool). has_number number day.rows || b) last
+      ∙ or_false (has_number number day.rows) in
       whole ∙ sym (ap (λ (b : Bool). cond b 1 0) found))
       (cases_Bool (is_in_days number days))
     where
@@ -203,5 +204,6 @@ module _ (number : List ℕ) where
 -- a row of a day is found
 pub row_found : (days : List DaySheet) (day : DaySheet) (row : DayRow) → Contains days day → Contains day.rows row → is_in_days row.number days ≡ true
 row_found days day row has_day has_row =
-    let in_rows : has_number row.number day.rows ≡ true = list_any_at (λ other. is_text row.number other.number) day.rows has_row.0 row has_row.1 (text_is row.number (get_or day.rows has_row.0 row).number (ap (λ (r : DayRow). r.number) (sym has_row.2))) in
+    let in_rows : has_number row.number day.rows ≡ true = list_any_at (λ other. is_text row.number other.number) day.rows has_row.0 row has_row.1
+    (text_is row.number (get_or day.rows has_row.0 row).number (ap (λ (r : DayRow). r.number) (sym has_row.2))) in
     list_any_at (λ other. has_number row.number other.rows) days has_day.0 day has_day.1 (ap (λ (d : DaySheet). has_number row.number d.rows) has_day.2 ∙ in_rows)

@@ -9,7 +9,7 @@ use Rattle.std.proofs.lemmas.List.Sums.{sum_by-append, sum_by-cons, sum_by-take-
 use Rattle.gl_series.specs.declared.day.DaySheet.{DaySheet}
 use Rattle.gl_series.specs.declared.scored.Scored.{Scored}
 use Rattle.gl_series.specs.Choices.{IsChoice, points_on}
-use Rattle.gl_series.specs.Tallies.{AreInOrder, AreScored, IsTally}
+use Rattle.gl_series.specs.Code.Tallies.{AreInOrder, AreScored, IsTally}
 
 module _ {X : Type 0} (p : X → ℕ) where
   -- a number for each item
@@ -104,7 +104,8 @@ front_few s l cut is few =
     omega (arith, whole, long, few)
 
 -- days in the order of their points
-pub in_order : (days : List DaySheet) (number : List ℕ) (unsorted sorted : List Scored) → AreScored number days unsorted → IsPermutation unsorted sorted → IsNonDecreasingBy points_of sorted → AreInOrder number days sorted
+pub in_order : (days : List DaySheet) (number : List ℕ) (unsorted sorted : List Scored) → AreScored number days unsorted → IsPermutation unsorted sorted → IsNonDecreasingBy points_of sorted
+    → AreInOrder number days sorted
 in_order days number unsorted sorted scored moved rising = record {
   days_are = subst (λ (ds : List DaySheet). IsPermutation ds (map day_of sorted)) scored.days_are (IsPermutation-map day_of unsorted sorted moved);
   points_are = All-permutation (λ one. one.points ≡ points_on number one.day.now) unsorted sorted moved scored.points_are;
@@ -113,7 +114,8 @@ in_order days number unsorted sorted scored moved rising = record {
 }
 
 -- the cut of a sorted list of days gives a total
-pub tally_of : (days : List DaySheet) (limit : ℕ) (number : List ℕ) (sorted : List Scored) (cut total dropped : ℕ) → AreInOrder number days sorted → cut ≡ min (length sorted) limit → total ≡ sum_by points_of (drop cut sorted) → dropped ≡ sum_by points_of (take cut sorted) → IsTally days limit number total dropped
+pub tally_of : (days : List DaySheet) (limit : ℕ) (number : List ℕ) (sorted : List Scored) (cut total dropped : ℕ) → AreInOrder number days sorted → cut ≡ min (length sorted) limit
+    → total ≡ sum_by points_of (drop cut sorted) → dropped ≡ sum_by points_of (take cut sorted) → IsTally days limit number total dropped
 tally_of days limit number sorted cut total dropped scored cut_is total_is dropped_is =
     let P : Scored → Type 0 = λ one. one.points ≡ points_on number one.day.now in
     let p = points_on number in
@@ -135,7 +137,8 @@ tally_of days limit number sorted cut total dropped scored cut_is total_is dropp
               drop cut s,
               record {
                 left = take cut s;
-                parts = IsPermutation-trans days s (drop cut s ++ take cut s) days_moved (subst (λ (l : List DaySheet). IsPermutation l (drop cut s ++ take cut s)) (take-append-drop cut s) (IsPermutation-append_comm (take cut s) (drop cut s)));
+                parts = IsPermutation-trans days s (drop cut s ++ take cut s) days_moved
+                    (subst (λ (l : List DaySheet). IsPermutation l (drop cut s ++ take cut s)) (take-append-drop cut s) (IsPermutation-append_comm (take cut s) (drop cut s)));
                 many = length-take-le cut s (omega (arith, cut_is, many)) ∙ all;
               },
               counted_sum,
@@ -145,7 +148,9 @@ tally_of days limit number sorted cut total dropped scored cut_is total_is dropp
       dropped_is = omega (arith, counted_sum, left_sum, sum_by-take-drop p s cut, sum_by-IsPermutation p days s days_moved);
     }
   where
-    greatest_of : (counted : List DaySheet) (choice : IsChoice days limit counted) → IsPermutation days (map day_of sorted) → IsNonDecreasingBy (points_on number) (map day_of sorted) → total ≡ sum_by (points_on number) (drop cut (map day_of sorted)) → cut ≡ min (length (map day_of sorted)) limit → length (map day_of sorted) ≡ length days → sum_by (points_on number) counted ≤ total
+    greatest_of : (counted : List DaySheet) (choice : IsChoice days limit counted) → IsPermutation days (map day_of sorted) → IsNonDecreasingBy (points_on number) (map day_of sorted)
+        → total ≡ sum_by (points_on number) (drop cut (map day_of sorted)) → cut ≡ min (length (map day_of sorted)) limit → length (map day_of sorted) ≡ length days
+        → sum_by (points_on number) counted ≤ total
     greatest_of [] choice days_moved up counted_sum cut_is long = omega arith
     greatest_of (x ∷ counted) choice days_moved up counted_sum cut_is long =
         let s = map day_of sorted in

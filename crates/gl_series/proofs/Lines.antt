@@ -11,12 +11,14 @@ use Rattle.gl_series.specs.declared.error.ListError.{ListError}
 use Rattle.gl_series.specs.declared.error.ListError.TheVariants.{Heading, Line, Memory}
 use Rattle.gl_series.specs.declared.series.Member.{Member}
 use Rattle.gl_series.specs.declared.series.Series.{Series}
-use Rattle.gl_series.specs.Adding.{IsBehindHeading, IsNext, IsStopped, Says, SaysUpTo, StopsAt, with_entry}
+use Rattle.gl_series.specs.Code.Adding.{IsBehindHeading, IsNext, IsStopped, Says, SaysUpTo, StopsAt, with_entry}
 use Rattle.gl_series.specs.OneByOne.{Reads, StopsBehind}
 use Rattle.gl_series.specs.SeriesList.{Fit, IsLineOf, IsList, IsRefused, IsSeries, day_of, heading, line_of, member_of, series_of}
 use Rattle.gl_series.proofs.Growing.{fit_begins, series_push}
-use Rattle.gl_series.proofs.Members.{first_space, number_spaceless}
+use Rattle.gl_series.proofs.Members.{number_spaceless}
 use Rattle.gl_series.proofs.Unique.{reads_on, reads_once, stops_once}
+use Rattle.gl_text.proofs.Lists.{AllZip-push}
+use Rattle.gl_text.proofs.Characters.{first_space}
 
 -- a line of one kind begins otherwise than one of the other
 kinds_apart : (line name : List ℕ) (member : Member) → line ≡ line_of (Day name) → line ≡ line_of (Team member) → ⊥
@@ -35,13 +37,6 @@ line_unique line (Team m) (Team n) a b =
     let parts = first_space m.number n.number m.team n.team (number_spaceless m.number a.is_entry.0) (number_spaceless n.number b.is_entry.0) tails in
     λ i. Team (record { number = parts.0 i; team = parts.1 i })
 
--- one line more and its entry
-pub zip_push : {L I : Type 0} (Is : L → I → Type 0) (ls : List L) (xs : List I) (l : L) (x : I) → AllZip Is ls xs → Is l x → AllZip Is (ls ++ l ∷ []) (xs ++ x ∷ [])
-zip_push Is [] [] l x each is = (is, each)
-zip_push Is [] (y ∷ ys) l x each is = absurd each
-zip_push Is (k ∷ ks) [] l x each is = absurd each
-zip_push Is (k ∷ ks) (y ∷ ys) l x each is = (each.0, zip_push Is ks ys l x each.1 is)
-
 pub zip_long : {L I : Type 0} (Is : L → I → Type 0) (ls : List L) (xs : List I) → AllZip Is ls xs → length xs ≡ length ls
 zip_long Is [] [] each = refl
 zip_long Is [] (y ∷ ys) each = absurd each
@@ -55,7 +50,8 @@ entries_counted (Day name ∷ entries) = omega (arith, entries_counted entries)
 entries_counted (Team member ∷ entries) = omega (arith, entries_counted entries)
 
 -- the days and members of some lines, with what one more entry says
-next_fits : (days : List (List ℕ)) (teams : List Member) (entries : List Entry) (entry : Entry) → record { days = days; teams = teams } ≡ series_of entries → series_of (entries ++ entry ∷ []) ≡ with_entry days teams entry
+next_fits : (days : List (List ℕ)) (teams : List Member) (entries : List Entry) (entry : Entry) → record { days = days; teams = teams } ≡ series_of entries
+    → series_of (entries ++ entry ∷ []) ≡ with_entry days teams entry
 next_fits days teams entries entry says =
     series_push entries entry ∙ ap (λ (s : Series). with_entry s.days s.teams entry) (sym says)
 
@@ -67,13 +63,20 @@ says_none lines = record {
     entries = [];
     reads = record {
       each = tt;
-      fit = record { few_days = omega arith; days_differ = λ i j d below within. absurd (omega (arith, below, within)); few_members = omega arith; numbers_differ = λ i j d below within. absurd (omega (arith, below, within)) };
+      fit = record {
+        few_days = omega arith;
+        days_differ = λ i j d below within. absurd (omega (arith, below, within));
+        few_members = omega arith;
+        numbers_differ =
+            λ i j d below within. absurd (omega (arith, below, within));
+      };
     };
     says = refl;
   };
 }
 
-pub says_more : (lines rest behind : List (List ℕ)) (line : List ℕ) (days : List (List ℕ)) (teams : List Member) (entry : Entry) (series : Series) → SaysUpTo lines rest (record { days = days; teams = teams }) → rest ≡ line ∷ behind → IsNext days teams line entry → series ≡ with_entry days teams entry → SaysUpTo lines behind series
+pub says_more : (lines rest behind : List (List ℕ)) (line : List ℕ) (days : List (List ℕ)) (teams : List Member) (entry : Entry) (series : Series)
+    → SaysUpTo lines rest (record { days = days; teams = teams }) → rest ≡ line ∷ behind → IsNext days teams line entry → series ≡ with_entry days teams entry → SaysUpTo lines behind series
 says_more lines rest behind line days teams entry series far here next is =
     let before = far.says in
     let grown = next_fits days teams before.entries entry before.says in
@@ -83,14 +86,15 @@ says_more lines rest behind line days teams entry series far here next is =
       says = record {
         entries = before.entries ++ entry ∷ [];
         reads = record {
-          each = zip_push IsLineOf far.front before.entries line entry before.reads.each next.is_line;
+          each = AllZip-push IsLineOf far.front before.entries line entry before.reads.each next.is_line;
           fit = subst IsSeries (sym grown) next.fits;
         };
         says = is ∙ sym grown;
       };
     }
 
-pub stops_here : (lines rest behind : List (List ℕ)) (line : List ℕ) (days : List (List ℕ)) (teams : List Member) (number : ℕ) → SaysUpTo lines rest (record { days = days; teams = teams }) → rest ≡ line ∷ behind → ((entry : Entry) → IsNext days teams line entry → ⊥) → number ≡ length days + length teams + 2 → StopsAt lines number
+pub stops_here : (lines rest behind : List (List ℕ)) (line : List ℕ) (days : List (List ℕ)) (teams : List Member) (number : ℕ) → SaysUpTo lines rest (record { days = days; teams = teams })
+    → rest ≡ line ∷ behind → ((entry : Entry) → IsNext days teams line entry → ⊥) → number ≡ length days + length teams + 2 → StopsAt lines number
 stops_here lines rest behind line days teams number far here none is =
     let before = far.says in
     let many = zip_long IsLineOf far.front before.entries before.reads.each in
@@ -172,7 +176,8 @@ refused_once text Heading Memory some too a b = absurd (too refl)
 refused_once text (Line m) Memory some too a b = absurd (too refl)
 refused_once text Memory other some too a b = absurd (some refl)
 
-pub exactly : (text : List ℕ) (answer : Result Series ListError) (error : ListError) → IfOk answer (IsList text) → IfErr answer (IsRefused text) → (error ≡ Memory → ⊥) → IsRefused text error → IsErrOf answer error ⊎ IsErrOf answer Memory
+pub exactly : (text : List ℕ) (answer : Result Series ListError) (error : ListError) → IfOk answer (IsList text) → IfErr answer (IsRefused text) → (error ≡ Memory → ⊥) → IsRefused text error
+    → IsErrOf answer error ⊎ IsErrOf answer Memory
 exactly text (Ok series) error ok refused some is = absurd (list_refused text series error some ok is)
 exactly text (Err Heading) error ok refused some is = inl (ap Err (refused_once text Heading error (λ same. cc) some refused is))
 exactly text (Err (Line number)) error ok refused some is = inl (ap Err (refused_once text (Line number) error (λ same. cc) some refused is))

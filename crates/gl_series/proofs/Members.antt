@@ -8,8 +8,9 @@ use Rattle.std.proofs.lemmas.Bool.{false≢true, and_parts}
 use Rattle.std.proofs.lemmas.Bool.Decides.{nat_tests}
 use Rattle.std.proofs.lemmas.List.{drop_more, get_or-take, get_or_at, length-take-le, take-append-drop, length-append}
 use Rattle.std.proofs.lemmas.List.Elements.{All-cons, All-from_get_or, All-nil, All-tail}
-use Rattle.gl_series.specs.Adding.{IsFirstSpace, IsSpaced}
+use Rattle.gl_series.specs.Code.Adding.{IsFirstSpace, IsSpaced}
 use Rattle.gl_series.specs.Forms.{is_number, is_short}
+use Rattle.gl_text.proofs.Characters.{first_space, letters_ascii}
 
 -- a text with a space in it, cut there
 pub spaced_at : (text : List ℕ) (place : ℕ) → IsFirstSpace text place → IsSpaced text (take place text) (drop (place + 1) text)
@@ -19,24 +20,6 @@ spaced_at text place first = record {
       let inside : k < place = omega (arith, below, length-take-le place text (omega (arith, first.inside))) in
       first.none k inside (sym (get_or-take place text k 0 inside) ∙ same));
 }
-
-pub no_space : (text front back : List ℕ) → ((k : ℕ) → k < length text → get_or text k 0 ≢ 32) → text ≢ front ++ 32 ∷ back
-no_space text front back none same =
-    none (length front) (omega (arith, ap length same, length-append front (32 ∷ back)))
-    (ap (λ (l : List ℕ). get_or l (length front) 0) same ∙ get_or_at front 32 back 0 (length front) refl)
-
--- the first space of a text parts it in one way
-pub first_space : (front other back behind : List ℕ) → All (λ byte. byte ≢ 32) front → All (λ byte. byte ≢ 32) other → front ++ 32 ∷ back ≡ other ++ 32 ∷ behind → (front ≡ other) × (back ≡ behind)
-first_space [] [] back behind none_front none_other same = (refl, cc)
-first_space [] (y ∷ ys) back behind none_front none_other same =
-    let first : y ≡ 32 = cc in absurd (none_other 0 0 (omega arith) first)
-first_space (x ∷ xs) [] back behind none_front none_other same =
-    let first : x ≡ 32 = cc in absurd (none_front 0 0 (omega arith) first)
-first_space (x ∷ xs) (y ∷ ys) back behind none_front none_other same =
-    let first : x ≡ y = cc in
-    let others : xs ++ 32 ∷ back ≡ ys ++ 32 ∷ behind = cc in
-    let rest = first_space xs ys back behind (All-tail (λ byte. byte ≢ 32) x xs none_front) (All-tail (λ byte. byte ≢ 32) y ys none_other) others in
-    (λ i. first i ∷ rest.0 i, rest.1)
 
 -- a number has no space, and is ASCII
 letters_spaceless : (text : List ℕ) → list_all is_ascii_alphanumeric text ≡ true → All (λ byte. byte ≢ 32) text
@@ -55,15 +38,6 @@ number_spaceless text is = letters_spaceless text (letters_of text is)
 pub member_parted : (rest one another number team : List ℕ) → IsTrue (is_number number) → IsSpaced rest one another → rest ≡ number ++ 32 ∷ team → (one ≡ number) × (another ≡ team)
 member_parted rest one another number team is_number spaced same =
     first_space one number another team spaced.none (number_spaceless number is_number) (sym spaced.is ∙ same)
-
-letter_small : (b : ℕ) → is_ascii_alphanumeric b ≡ true → b < 128
-letter_small b letter = grind (arith, nat_tests)
-
--- letters and digits are ASCII
-pub letters_ascii : (text : List ℕ) → list_all is_ascii_alphanumeric text ≡ true → IsAscii text
-letters_ascii [] all k = omega arith
-letters_ascii (b ∷ bs) all zero = letter_small b (and_parts (is_ascii_alphanumeric b) (list_all is_ascii_alphanumeric bs) all).0
-letters_ascii (b ∷ bs) all (suc k) = letters_ascii bs (and_parts (is_ascii_alphanumeric b) (list_all is_ascii_alphanumeric bs) all).1 k
 
 pub number_ascii : (text : List ℕ) → IsTrue (is_number text) → IsAscii text
 number_ascii text is = letters_ascii text (letters_of text is)

@@ -23,7 +23,8 @@ in_cons y ys x (suc k) inside at = inr (k, omega (arith, inside), at)
 behind : {X : Type 0} (y : X) (ys : List X) (x : X) → Contains ys x → Contains (y ∷ ys) x
 behind y ys x has = (suc has.0, omega (arith, has.1), has.2)
 
-same_items : {X : Type 0} (cmp : X → X → Ordering) → ((a b : X) → cmp a b ≡ Less → cmp b a ≡ Less → ⊥) → (xs ys : List X) → AllPairs (λ a b. cmp a b ≡ Less) xs → AllPairs (λ a b. cmp a b ≡ Less) ys → ((x : X) → Contains xs x → Contains ys x) → ((y : X) → Contains ys y → Contains xs y) → xs ≡ ys
+same_items : {X : Type 0} (cmp : X → X → Ordering) → ((a b : X) → cmp a b ≡ Less → cmp b a ≡ Less → ⊥) → (xs ys : List X) → AllPairs (λ a b. cmp a b ≡ Less) xs → AllPairs (λ a b. cmp a b ≡ Less) ys
+    → ((x : X) → Contains xs x → Contains ys x) → ((y : X) → Contains ys y → Contains xs y) → xs ≡ ys
 same_items cmp never [] [] up over to from = refl
 same_items cmp never [] (y ∷ ys) up over to from =
     let none = from y (0, omega arith, refl) in absurd (omega (arith, none.1))
@@ -142,7 +143,8 @@ module _ {X : Type 0} (key : X → List ℕ) where
         let clash : Less ≡ Greater = sym other ∙ order.antisymm b a ∙ ap ordering_reverse one in absurd (cc)
 
     -- lists in order, of which each item has one in the other list that is plainly the same
-    pub one_list : (xs ys : List X) → IsSorted cmp xs → IsSorted cmp ys → AllPairs (λ one other. key one ≢ key other) xs → AllPairs (λ one other. key one ≢ key other) ys → ((x : X) → Contains xs x → (y : X) × Contains ys y × (plain y ≡ plain x)) → ((y : X) → Contains ys y → (x : X) × Contains xs x × (plain x ≡ plain y)) → map plain xs ≡ map plain ys
+    pub one_list : (xs ys : List X) → IsSorted cmp xs → IsSorted cmp ys → AllPairs (λ one other. key one ≢ key other) xs → AllPairs (λ one other. key one ≢ key other) ys
+        → ((x : X) → Contains xs x → (y : X) × Contains ys y × (plain y ≡ plain x)) → ((y : X) → Contains ys y → (x : X) × Contains xs x × (plain x ≡ plain y)) → map plain xs ≡ map plain ys
     one_list xs ys up over apart away to from =
         same_items cmp never (map plain xs) (map plain ys)
         (pairs_map plain (λ a b. cmp a b ≡ Less) xs (strictly xs up apart))

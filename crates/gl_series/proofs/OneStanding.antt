@@ -36,7 +36,8 @@ total_once days drop number a b one other =
     (λ (none : length days ≤ drop). one.nothing none ∙ sym (other.nothing none))
     (cases_lt drop (length days))
 
-row_once : (rows : List DayRow) (a b : DayRow) (i j : ℕ) → AllPairs (λ one other. one.number ≢ other.number) rows → i < length rows → get_or rows i a ≡ a → j < length rows → get_or rows j b ≡ b → a.number ≡ b.number → a ≡ b
+row_once : (rows : List DayRow) (a b : DayRow) (i j : ℕ) → AllPairs (λ one other. one.number ≢ other.number) rows → i < length rows → get_or rows i a ≡ a → j < length rows → get_or rows j b ≡ b
+    → a.number ≡ b.number → a ≡ b
 row_once [] a b i j apart first at second by same = absurd (omega (arith, first))
 row_once (r ∷ rows) a b zero zero apart first at second by same = sym at ∙ by
 row_once (r ∷ rows) a b zero (suc j) apart first at second by same =
@@ -56,7 +57,8 @@ at_last : (number : List ℕ) (front behind : List DaySheet) (last : DaySheet) �
 at_last number [] behind last lack = All-head (Lacks number) last behind lack
 at_last number (day ∷ front) behind last lack = at_last number front behind last (All-tail (Lacks number) day (front ++ last ∷ behind) lack)
 
-last_once : (number : List ℕ) (f g b c : List DaySheet) (l m : DaySheet) (r s : DayRow) → EachDay (f ++ l ∷ b) → f ++ l ∷ b ≡ g ++ m ∷ c → Contains l.rows r → Contains m.rows s → r.number ≡ number → s.number ≡ number → All (Lacks number) b → All (Lacks number) c → r ≡ s
+last_once : (number : List ℕ) (f g b c : List DaySheet) (l m : DaySheet) (r s : DayRow) → EachDay (f ++ l ∷ b) → f ++ l ∷ b ≡ g ++ m ∷ c → Contains l.rows r → Contains m.rows s → r.number ≡ number
+    → s.number ≡ number → All (Lacks number) b → All (Lacks number) c → r ≡ s
 last_once number [] [] b c l m r s each same has_r has_s is_r is_s lack_b lack_c =
     let first : l ≡ m = cc in
     let differ = (All-head (λ (d : DaySheet). IsDay d.rows) l b each).numbers_differ in
@@ -76,7 +78,8 @@ last_once number (d ∷ f) (e ∷ g) b c l m r s each same has_r has_s is_r is_s
 
 name_once : (days : List DaySheet) (number a b : List ℕ) → EachDay days → IsLastName days number a → IsLastName days number b → a ≡ b
 name_once days number a b each one other =
-    let row = last_once number one.front other.front one.behind other.behind one.last other.last one.row other.row (subst EachDay one.parts each) (sym one.parts ∙ other.parts) one.has other.has one.number_is other.number_is one.no_later other.no_later in
+    let row = last_once number one.front other.front one.behind other.behind one.last other.last one.row other.row (subst EachDay one.parts each) (sym one.parts
+    ∙ other.parts) one.has other.has one.number_is other.number_is one.no_later other.no_later in
     sym one.name_is ∙ ap (λ (r : DayRow). r.name) row ∙ other.name_is
 
 -- the pilots of given days
@@ -88,10 +91,12 @@ module _ (days : List DaySheet) (drop : ℕ) where
   plain pilot = record pilot { rank = 0 }
 
   -- a pilot of the days stands once in each standing of them
-  stands_once : (some others : List Total) (pilot : Total) → ArePilots days drop some → ArePilots days drop others → Contains some pilot → count_by (λ other. is_text pilot.number other.number) others ≡ 1
+  stands_once : (some others : List Total) (pilot : Total) → ArePilots days drop some → ArePilots days drop others → Contains some pilot
+      → count_by (λ other. is_text pilot.number other.number) others ≡ 1
   stands_once some others pilot first second has =
       let named = (All-contains (IsPilot days drop some) some pilot first.each has).name_is in
-      let day_there : Contains days named.last = subst (λ (l : List DaySheet). Contains l named.last) (sym named.parts) (Contains-append_right named.front (named.last ∷ named.behind) named.last (0, omega arith, refl)) in
+      let day_there : Contains days named.last = subst (λ (l : List DaySheet). Contains l named.last) (sym named.parts)
+      (Contains-append_right named.front (named.last ∷ named.behind) named.last (0, omega arith, refl)) in
       subst (λ (n : List ℕ). count_by (λ (other : Total). is_text n other.number) others ≡ 1) named.number_is (second.once named.last day_there named.row named.has)
 
   pub pilots_apart : (pilots : List Total) → ArePilots days drop pilots → AllPairs (λ one other. one.number ≢ other.number) pilots
@@ -99,7 +104,8 @@ module _ (days : List DaySheet) (drop : ℕ) where
       keys_apart number_of pilots (All-weaker (Contains pilots) (λ pilot. count_by (λ other. is_text pilot.number other.number) pilots ≤ 1)
       (λ pilot has. omega (arith, stands_once pilots pilots pilot are are has)) pilots (All-contains_itself pilots))
 
-  twin : (some others : List Total) → EachDay days → ArePilots days drop some → ArePilots days drop others → (pilot : Total) → Contains some pilot → (other : Total) × Contains others other × (plain other ≡ plain pilot)
+  twin : (some others : List Total) → EachDay days → ArePilots days drop some → ArePilots days drop others → (pilot : Total) → Contains some pilot
+      → (other : Total) × Contains others other × (plain other ≡ plain pilot)
   twin some others each first second pilot has =
       let found = counted_some number_of pilot.number others (omega (arith, stands_once some others pilot first second has)) in
       let other = found.0 in
@@ -150,7 +156,8 @@ module _ (members : List Member) (pilots : List Total) where
   abbrev plain_team : TeamTotal → TeamTotal
   plain_team team = record team { rank = 0 }
 
-  team_once : (some others : List TeamTotal) (team : TeamTotal) → AreTeams members pilots some → AreTeams members pilots others → Contains some team → count_by (λ other. is_text team.team other.team) others ≡ 1
+  team_once : (some others : List TeamTotal) (team : TeamTotal) → AreTeams members pilots some → AreTeams members pilots others → Contains some team
+      → count_by (λ other. is_text team.team other.team) others ≡ 1
   team_once some others team first second has =
       let named = (All-contains (IsTeam members pilots some) some team first.each has).is_named in
       let member = from_map (λ (m : Member). m.team) members team.team named.0 named.1 named.2 in
@@ -161,7 +168,8 @@ module _ (members : List Member) (pilots : List Total) where
       keys_apart name_of teams (All-weaker (Contains teams) (λ team. count_by (λ other. is_text team.team other.team) teams ≤ 1)
       (λ team has. omega (arith, team_once teams teams team are are has)) teams (All-contains_itself teams))
 
-  team_twin : (some others : List TeamTotal) → AreTeams members pilots some → AreTeams members pilots others → (team : TeamTotal) → Contains some team → (other : TeamTotal) × Contains others other × (plain_team other ≡ plain_team team)
+  team_twin : (some others : List TeamTotal) → AreTeams members pilots some → AreTeams members pilots others → (team : TeamTotal) → Contains some team
+      → (other : TeamTotal) × Contains others other × (plain_team other ≡ plain_team team)
   team_twin some others first second team has =
       let found = counted_some name_of team.team others (omega (arith, team_once some others team first second has)) in
       let other = found.0 in
@@ -175,7 +183,8 @@ module _ (members : List Member) (pilots : List Total) where
   plain_sums [] = refl
   plain_sums (t ∷ teams) = ap (λ (l : List ℕ). t.total ∷ l) (plain_sums teams)
 
-  with_places : (totals : List ℕ) (xs ys : List TeamTotal) → map plain_team xs ≡ map plain_team ys → All (λ x. x.rank ≡ rank_of totals x.total) xs → All (λ y. y.rank ≡ rank_of totals y.total) ys → xs ≡ ys
+  with_places : (totals : List ℕ) (xs ys : List TeamTotal) → map plain_team xs ≡ map plain_team ys → All (λ x. x.rank ≡ rank_of totals x.total) xs → All (λ y. y.rank ≡ rank_of totals y.total) ys
+      → xs ≡ ys
   with_places totals [] [] same first second = refl
   with_places totals [] (y ∷ ys) same first second = absurd (cc)
   with_places totals (x ∷ xs) [] same first second = absurd (cc)
@@ -197,7 +206,8 @@ module _ (members : List Member) (pilots : List Total) where
       (team_twin some others first second) (team_twin others some second first) in
       let totals : map (λ (t : TeamTotal). t.total) some ≡ map (λ (t : TeamTotal). t.total) others = sym (plain_sums some) ∙ ap (map (λ (t : TeamTotal). t.total)) same ∙ plain_sums others in
       with_places (map (λ (t : TeamTotal). t.total) others) some others same
-      (All-weaker (IsTeam members pilots some) (λ p. p.rank ≡ rank_of (map (λ (q : TeamTotal). q.total) others) p.total) (λ p is. is.rank_is ∙ ap (λ (l : List ℕ). rank_of l p.total) totals) some first.each)
+      (All-weaker (IsTeam members pilots some) (λ p. p.rank ≡ rank_of (map (λ (q : TeamTotal). q.total) others) p.total) (λ p is. is.rank_is
+      ∙ ap (λ (l : List ℕ). rank_of l p.total) totals) some first.each)
       (All-weaker (IsTeam members pilots others) (λ p. p.rank ≡ rank_of (map (λ (q : TeamTotal). q.total) others) p.total) (λ p is. is.rank_is) others second.each)
 
 pub standing_once : (series : Series) (days : List DaySheet) (drop : ℕ) (one other : Standing) → AreDays days → IsStanding series days drop one → IsStanding series days drop other → one ≡ other

@@ -12,7 +12,7 @@ use Rattle.std.proofs.lemmas.List.{get_or-map, length-map}
 use Rattle.std.proofs.lemmas.List.Elements.{All-map}
 use Rattle.std.proofs.lemmas.List.Sorted.{All-permutation, Contains-permutation, IsPermutation-sym, ranks_by, searchable_from_sorted, sorted_far}
 use Rattle.std.proofs.lemmas.Slice.Eq.{bytes_eq-Decides}
-use Rattle.gl_series.specs.Tallies.{text_cmp}
+use Rattle.gl_series.specs.Code.Tallies.{text_cmp}
 
 pub equal_texts : (a b : List ℕ) → text_cmp a b ≡ Equal → a ≡ b
 equal_texts a b equal = (bytes_eq-Decides a b).0 (texts_ties a b ∙ ap is_eq equal)
@@ -33,7 +33,9 @@ tied_texts a b up down = equal_texts a b (neither_less (text_cmp a b) (text_cmp 
 
 module _ {X : Type 0} (text_of : X → List ℕ) where
   -- a search that finds no place finds no such text
-  pub none_found : (xs : List X) (text : List ℕ) (i : ℕ) → IsSorted (λ one other. text_cmp (text_of one) (text_of other)) xs → (IsNonDecreasingBy (λ x. ordering_index (text_cmp (text_of x) text)) xs → IsPartitionPoint (λ x. text_cmp (text_of x) text ≡ Less) (λ x. text_cmp (text_of x) text ≡ Greater) xs i) → All (λ x. text_of x ≢ text) xs
+  pub none_found : (xs : List X) (text : List ℕ) (i : ℕ) → IsSorted (λ one other. text_cmp (text_of one) (text_of other)) xs
+      → (IsNonDecreasingBy (λ x. ordering_index (text_cmp (text_of x) text)) xs → IsPartitionPoint (λ x. text_cmp (text_of x) text ≡ Less) (λ x. text_cmp (text_of x) text ≡ Greater) xs i)
+      → All (λ x. text_of x ≢ text) xs
   none_found xs text i sorted point =
       let parted = point (searchable_from_sorted nat_list_cmp_total text_of xs text sorted) in
       λ k d within same.
@@ -56,7 +58,9 @@ module _ {X : Type 0} (text_of : X → List ℕ) where
 
 module _ {X : Type 0} (text_of : X → List ℕ) (whole : List X) (refs : List (Bor X)) (moved : IsPermutation whole (map (λ one. one.now) refs)) where
   -- so of a list whose items are looked up by their places in another order
-  pub none_among : (text : List ℕ) (i : ℕ) → IsSorted (λ one other. text_cmp (text_of one.now) (text_of other.now)) refs → (IsNonDecreasingBy (λ x. ordering_index (text_cmp (text_of x.now) text)) refs → IsPartitionPoint (λ x. text_cmp (text_of x.now) text ≡ Less) (λ x. text_cmp (text_of x.now) text ≡ Greater) refs i) → All (λ x. text_of x ≢ text) whole
+  pub none_among : (text : List ℕ) (i : ℕ) → IsSorted (λ one other. text_cmp (text_of one.now) (text_of other.now)) refs
+      → (IsNonDecreasingBy (λ x. ordering_index (text_cmp (text_of x.now) text)) refs
+      → IsPartitionPoint (λ x. text_cmp (text_of x.now) text ≡ Less) (λ x. text_cmp (text_of x.now) text ≡ Greater) refs i) → All (λ x. text_of x ≢ text) whole
   none_among text i sorted point =
       let P : X → Type 0 = λ x. text_of x ≢ text in
       let back = IsPermutation-sym whole (map (λ one. one.now) refs) moved in

@@ -17,16 +17,17 @@ use Rattle.gl_series.specs.declared.day.DayRow.{DayRow}
 use Rattle.gl_series.specs.declared.day.DaySheet.{DaySheet}
 use Rattle.gl_series.specs.declared.error.SheetError.{SheetError}
 use Rattle.gl_series.specs.declared.error.SheetError.TheVariants.{Heading, Record, Memory}
-use Rattle.gl_series.specs.AddingRows.{IsNextRow}
+use Rattle.gl_series.specs.Code.AddingRows.{IsNextRow}
 use Rattle.gl_series.specs.OneByOne.{Reads, StopsBehind}
 use Rattle.gl_series.specs.SheetText.{Begins, IsRefusedSheet, IsRowOf, IsSheetOf, IsWrongRecord, field_of, sheet_heading}
 use Rattle.gl_series.specs.Totals.{IsDay}
 use Rattle.gl_series.specs.Forms.{is_text}
 use Rattle.gl_series.proofs.Beside.{text_apart, text_same}
 use Rattle.gl_series.proofs.Growing.{all_begin, pairs_begin, pairs_last, pairs_nil, pairs_push}
-use Rattle.gl_series.proofs.Lines.{zip_long, zip_push}
+use Rattle.gl_series.proofs.Lines.{zip_long}
 use Rattle.gl_series.proofs.Unique.{reads_on, reads_once, stops_once}
 use Rattle.std.proofs.lemmas.List.Elements.{All-nil, All-push}
+use Rattle.gl_text.proofs.Lists.{AllZip-push}
 
 -- a field is what stands at its place
 pub field_there : (fields : List (List ℕ)) (place : ℕ) (field : List ℕ) → Some field ≡ field_at fields place → field ≡ field_of fields place
@@ -91,7 +92,8 @@ Some_more front whole = (more : List (List (List ℕ))) × (whole ≡ front ++ m
 some_taken : (p q : Read) → Some p ≡ Some q → p ≡ q
 some_taken p q same = cc
 
-one_begins : (cfg : Config) (s : State) (xs : List ℕ) (a b : List (List (List ℕ))) (sa sb : State) (ya yb : List ℕ) → Reached cfg s xs a sa ya → Reached cfg s xs b sb yb → Some_more a b ⊎ Some_more b a
+one_begins : (cfg : Config) (s : State) (xs : List ℕ) (a b : List (List (List ℕ))) (sa sb : State) (ya yb : List ℕ) → Reached cfg s xs a sa ya → Reached cfg s xs b sb yb
+    → Some_more a b ⊎ Some_more b a
 unfolding Reached
 one_begins cfg s xs [] b sa sb ya yb first second = inl (b, refl)
 one_begins cfg s xs (r ∷ rs) [] sa sb ya yb first second = inr (r ∷ rs, refl)
@@ -105,7 +107,8 @@ one_begins cfg s xs (r ∷ rs) (q ∷ qs) sa sb ya yb first second =
     (one_begins cfg second.0.1 second.0.2 rs qs sa sb ya yb tail second.3)
 
 -- a text that begins with all its records begins with no more
-ended : (cfg : Config) (s : State) (xs : List ℕ) (a b : List (List (List ℕ))) (sa sb : State) (ya yb : List ℕ) → Reached cfg s xs a sa ya → next_record cfg sa [] [] ya ≡ None → Reached cfg s xs b sb yb → Some_more b a
+ended : (cfg : Config) (s : State) (xs : List ℕ) (a b : List (List (List ℕ))) (sa sb : State) (ya yb : List ℕ) → Reached cfg s xs a sa ya → next_record cfg sa [] [] ya ≡ None
+    → Reached cfg s xs b sb yb → Some_more b a
 unfolding Reached
 ended cfg s xs [] [] sa sb ya yb first none second = ([], refl)
 ended cfg s xs [] (q ∷ qs) sa sb ya yb first none second =
@@ -126,21 +129,26 @@ pub record RowsUpTo (text : List ℕ) (rows : List DayRow) (state : State) (rest
   pub reached : Reached default_config st.StartRecord (strip_bom text) (sheet_heading ∷ read) state rest
   pub reads : Reads IsRowOf IsDay read rows
 
-pub rows_none : (text : List ℕ) (fields : List (List ℕ)) (state : State) (rest : List ℕ) → Reached default_config st.StartRecord (strip_bom text) (fields ∷ []) state rest → fields ≡ sheet_heading → RowsUpTo text [] state rest
+pub rows_none : (text : List ℕ) (fields : List (List ℕ)) (state : State) (rest : List ℕ) → Reached default_config st.StartRecord (strip_bom text) (fields ∷ []) state rest → fields ≡ sheet_heading
+    → RowsUpTo text [] state rest
 rows_none text fields state rest reached is = record {
   read = [];
   reached = subst (λ (f : List (List ℕ)). Reached default_config st.StartRecord (strip_bom text) (f ∷ []) state rest) is reached;
   reads = record { each = tt; fit = no_rows };
 }
 
-pub rows_further : (text : List ℕ) (rows more : List DayRow) (before after : State) (rest behind : List ℕ) (far : RowsUpTo text rows before rest) (fields : List (List ℕ)) (row : DayRow) → Reached default_config st.StartRecord (strip_bom text) ((sheet_heading ∷ far.read) ++ fields ∷ []) after behind → IsNextRow rows fields row → more ≡ rows ++ row ∷ [] → RowsUpTo text more after behind
+pub rows_further : (text : List ℕ) (rows more : List DayRow) (before after : State) (rest behind : List ℕ) (far : RowsUpTo text rows before rest) (fields : List (List ℕ)) (row : DayRow)
+    → Reached default_config st.StartRecord (strip_bom text) ((sheet_heading ∷ far.read) ++ fields ∷ []) after behind → IsNextRow rows fields row → more ≡ rows ++ row ∷ []
+    → RowsUpTo text more after behind
 rows_further text rows more before after rest behind far fields row reached next is = record {
   read = far.read ++ fields ∷ [];
   reached = reached;
-  reads = subst (Reads IsRowOf IsDay (far.read ++ fields ∷ [])) (sym is) (record { each = zip_push IsRowOf far.read rows fields row far.reads.each next.is_row; fit = next.fits });
+  reads = subst (Reads IsRowOf IsDay (far.read ++ fields ∷ [])) (sym is) (record { each = AllZip-push IsRowOf far.read rows fields row far.reads.each next.is_row; fit = next.fits });
 }
 
-pub wrong_here : (text : List ℕ) (rows : List DayRow) (before after : State) (rest behind : List ℕ) (far : RowsUpTo text rows before rest) (fields : List (List ℕ)) (number : ℕ) → Reached default_config st.StartRecord (strip_bom text) ((sheet_heading ∷ far.read) ++ fields ∷ []) after behind → ((row : DayRow) → IsNextRow rows fields row → ⊥) → number ≡ length rows + 2 → IsWrongRecord text number
+pub wrong_here : (text : List ℕ) (rows : List DayRow) (before after : State) (rest behind : List ℕ) (far : RowsUpTo text rows before rest) (fields : List (List ℕ)) (number : ℕ)
+    → Reached default_config st.StartRecord (strip_bom text) ((sheet_heading ∷ far.read) ++ fields ∷ []) after behind → ((row : DayRow) → IsNextRow rows fields row → ⊥) → number ≡ length rows + 2
+    → IsWrongRecord text number
 wrong_here text rows before after rest behind far fields number reached none is = record {
   read = far.read ++ fields ∷ [];
   count = length far.read;
@@ -159,7 +167,8 @@ wrong_here text rows before after rest behind far fields number reached none is 
   number_is = omega (arith, is, zip_long IsRowOf far.read rows far.reads.each);
 }
 
-pub rows_all : (text : List ℕ) (rows : List DayRow) (state : State) (rest : List ℕ) → RowsUpTo text rows state rest → next_record default_config state [] [] rest ≡ None → IsSheetOf text (record { rows = rows })
+pub rows_all : (text : List ℕ) (rows : List DayRow) (state : State) (rest : List ℕ) → RowsUpTo text rows state rest → next_record default_config state [] [] rest ≡ None
+    → IsSheetOf text (record { rows = rows })
 rows_all text rows state rest far none = record {
   rest = far.read;
   records = (state, rest, far.reached, none);
@@ -167,7 +176,8 @@ rows_all text rows state rest far none = record {
 }
 
 -- a text whose first record isn't the heading, or that has none
-pub other_heading : (text : List ℕ) (fields : List (List ℕ)) (state : State) (rest : List ℕ) → Reached default_config st.StartRecord (strip_bom text) (fields ∷ []) state rest → (fields ≡ sheet_heading → ⊥) → Begins text (sheet_heading ∷ []) → ⊥
+pub other_heading : (text : List ℕ) (fields : List (List ℕ)) (state : State) (rest : List ℕ) → Reached default_config st.StartRecord (strip_bom text) (fields ∷ []) state rest
+    → (fields ≡ sheet_heading → ⊥) → Begins text (sheet_heading ∷ []) → ⊥
 unfolding Reached
 other_heading text fields state rest reached other begins =
     let same : reached.0 ≡ begins.reached.0 = some_taken reached.0 begins.reached.0 (sym reached.1 ∙ begins.reached.1) in
@@ -225,7 +235,8 @@ sheet_refused text sheet Heading some is refused =
     refused (begins_first text sheet_heading is.rest (record { state = is.records.0; rest = is.records.1; reached = is.records.2 }))
 sheet_refused text sheet (Record number) some is refused =
     let records = is.records in
-    let more = ended default_config st.StartRecord (strip_bom text) (sheet_heading ∷ is.rest) (sheet_heading ∷ refused.read) records.0 refused.begins.state records.1 refused.begins.rest records.2 records.3 refused.begins.reached in
+    let more = ended default_config st.StartRecord (strip_bom text) (sheet_heading ∷ is.rest)
+    (sheet_heading ∷ refused.read) records.0 refused.begins.state records.1 refused.begins.rest records.2 records.3 refused.begins.reached in
     let whole = behind_heading refused.read is.rest more.0 more.1 in
     reads_on IsRowOf row_unique IsDay day_begins is.rest sheet.rows refused.count is.reads (stops_longer refused.read more.0 is.rest refused.count whole refused.stops)
 sheet_refused text sheet Memory some is refused = some refl
@@ -246,7 +257,8 @@ wrong_once text m n a b =
     let whole = behind_heading b.read a.read more.0 more.1 in
     let count = stops_once IsRowOf row_unique IsDay day_begins a.read a.count b.count a.stops (stops_longer b.read more.0 a.read b.count whole b.stops) in
     omega (arith, count, a.number_is, b.number_is))
-    (one_begins default_config st.StartRecord (strip_bom text) (sheet_heading ∷ a.read) (sheet_heading ∷ b.read) a.begins.state b.begins.state a.begins.rest b.begins.rest a.begins.reached b.begins.reached)
+    (one_begins default_config st.StartRecord (strip_bom text) (sheet_heading ∷ a.read)
+    (sheet_heading ∷ b.read) a.begins.state b.begins.state a.begins.rest b.begins.rest a.begins.reached b.begins.reached)
 
 pub refused_once : (text : List ℕ) (error other : SheetError) → (error ≡ Memory → ⊥) → (other ≡ Memory → ⊥) → IsRefusedSheet text error → IsRefusedSheet text other → error ≡ other
 refused_once text Heading Heading some too a b = refl
@@ -257,7 +269,8 @@ refused_once text Heading Memory some too a b = absurd (too refl)
 refused_once text (Record m) Memory some too a b = absurd (too refl)
 refused_once text Memory other some too a b = absurd (some refl)
 
-pub exactly : (text : List ℕ) (answer : Result DaySheet SheetError) (error : SheetError) → IfOk answer (IsSheetOf text) → IfErr answer (IsRefusedSheet text) → (error ≡ Memory → ⊥) → IsRefusedSheet text error → IsErrOf answer error ⊎ IsErrOf answer Memory
+pub exactly : (text : List ℕ) (answer : Result DaySheet SheetError) (error : SheetError) → IfOk answer (IsSheetOf text) → IfErr answer (IsRefusedSheet text) → (error ≡ Memory → ⊥)
+    → IsRefusedSheet text error → IsErrOf answer error ⊎ IsErrOf answer Memory
 exactly text (Ok sheet) error ok refused some is = absurd (sheet_refused text sheet error some ok is)
 exactly text (Err Heading) error ok refused some is = inl (ap Err (refused_once text Heading error (λ same. cc) some refused is))
 exactly text (Err (Record number)) error ok refused some is = inl (ap Err (refused_once text (Record number) error (λ same. cc) some refused is))
@@ -285,16 +298,19 @@ abbrev pub left_of : Bor (List ℕ) → Option (List ℕ)
 left_of text = Some text.now
 
 -- the first record, read from the start of a text
-pub first_read : (old new : Reader (Bor (List ℕ))) (text : List ℕ) (fields : List (List ℕ)) → old.config ≡ default_config → source_of left_of old ≡ Some (strip_bom text) → old.state ≡ st.StartRecord → ReadRecord left_of old new true fields → (z : List ℕ) × (source_of left_of new ≡ Some z) × Reached default_config st.StartRecord (strip_bom text) (fields ∷ []) new.state z
+pub first_read : (old new : Reader (Bor (List ℕ))) (text : List ℕ) (fields : List (List ℕ)) → old.config ≡ default_config → source_of left_of old ≡ Some (strip_bom text) → old.state ≡ st.StartRecord
+    → ReadRecord left_of old new true fields → (z : List ℕ) × (source_of left_of new ≡ Some z) × Reached default_config st.StartRecord (strip_bom text) (fields ∷ []) new.state z
 unfolding Reached
 first_read old new text fields config source start read =
     rows-more left_of old new fields default_config st.StartRecord (strip_bom text) (strip_bom text) [] config source (sym start, refl) read
 
-pub unread_heading : (old new : Reader (Bor (List ℕ))) (text : List ℕ) (fields : List (List ℕ)) → old.config ≡ default_config → source_of left_of old ≡ Some (strip_bom text) → old.state ≡ st.StartRecord → ReadRecord left_of old new false fields → Begins text (sheet_heading ∷ []) → ⊥
+pub unread_heading : (old new : Reader (Bor (List ℕ))) (text : List ℕ) (fields : List (List ℕ)) → old.config ≡ default_config → source_of left_of old ≡ Some (strip_bom text)
+    → old.state ≡ st.StartRecord → ReadRecord left_of old new false fields → Begins text (sheet_heading ∷ []) → ⊥
 unread_heading old new text fields config source start read =
     no_heading text (subst (λ (s : State). next_record default_config s [] [] (strip_bom text) ≡ None) start (rows-end left_of old new fields default_config (strip_bom text) config source read))
 
-pub wrong_heading : (old new : Reader (Bor (List ℕ))) (text : List ℕ) (fields : List (List ℕ)) → old.config ≡ default_config → source_of left_of old ≡ Some (strip_bom text) → old.state ≡ st.StartRecord → ReadRecord left_of old new true fields → (fields ≡ sheet_heading → ⊥) → Begins text (sheet_heading ∷ []) → ⊥
+pub wrong_heading : (old new : Reader (Bor (List ℕ))) (text : List ℕ) (fields : List (List ℕ)) → old.config ≡ default_config → source_of left_of old ≡ Some (strip_bom text)
+    → old.state ≡ st.StartRecord → ReadRecord left_of old new true fields → (fields ≡ sheet_heading → ⊥) → Begins text (sheet_heading ∷ []) → ⊥
 wrong_heading old new text fields config source start read other =
     let first = first_read old new text fields config source start read in
     other_heading text fields new.state first.0 first.2 other

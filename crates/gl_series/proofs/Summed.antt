@@ -14,7 +14,7 @@ use Rattle.gl_series.specs.declared.standing.TeamTotal.{TeamTotal}
 use Rattle.gl_series.specs.declared.standing.Total.{Total}
 use Rattle.gl_series.specs.declared.teams.TeamSum.{TeamSum}
 use Rattle.gl_series.specs.Forms.{is_text}
-use Rattle.gl_series.specs.Tallies.{AreRankedTeams, AreShares, AreSharesOf, AreTeamSums, has_team, last_members, share_cmp, share_for, starts_with_team, team_of, text_cmp, total_of_sum}
+use Rattle.gl_series.specs.Code.Tallies.{AreRankedTeams, AreShares, AreSharesOf, AreTeamSums, has_team, last_members, share_cmp, share_for, starts_with_team, team_of, text_cmp, total_of_sum}
 use Rattle.gl_series.specs.Totals.{AreTeams, IsTeam, points_for, total_beside}
 use Rattle.gl_series.proofs.Beside.{text_apart, text_is, text_not, text_same}
 use Rattle.gl_series.proofs.Growing.{pairs_head, pairs_tail}
@@ -88,7 +88,8 @@ later_apart share next later rising apart =
     let turned : is_lt (text_cmp (team_name share) (team_name next)) ≡ false = subst (λ (t : List ℕ). is_lt (text_cmp t (team_name next)) ≡ false) same over in
     apart (tied_texts (team_name share) (team_name next) turned ahead)) later behind)
 
-front_apart : (front : List Share) (share next : Share) (later : List Share) → AllPairs Rising (front ++ share ∷ next ∷ later) → team_name share ≢ team_name next → All (λ one. team_name one ≢ team_name next) (front ++ share ∷ [])
+front_apart : (front : List Share) (share next : Share) (later : List Share) → AllPairs Rising (front ++ share ∷ next ∷ later) → team_name share ≢ team_name next
+    → All (λ one. team_name one ≢ team_name next) (front ++ share ∷ [])
 front_apart front share next later rising apart =
     let ahead = All-head (Rising share) next later (pairs_head Rising share (next ∷ later) (back_pairs front share (next ∷ later) rising)) in
     All-push (λ one. team_name one ≢ team_name next) front share
@@ -97,12 +98,14 @@ front_apart front share next later rising apart =
     apart (tied_texts (team_name share) (team_name next) turned ahead)) front (front_pairs front share (next ∷ later) rising))
     apart
 
-behind_apart : (shares front behind : List Share) (share : Share) → AllPairs Rising shares → front ++ share ∷ behind ≡ shares → starts_with_team (team_name share) behind ≡ false → All (λ one. team_name one ≢ team_name share) behind
+behind_apart : (shares front behind : List Share) (share : Share) → AllPairs Rising shares → front ++ share ∷ behind ≡ shares → starts_with_team (team_name share) behind ≡ false
+    → All (λ one. team_name one ≢ team_name share) behind
 behind_apart shares front [] share rising parts ends = All-nil (λ one. team_name one ≢ team_name share)
 behind_apart shares front (n ∷ b) share rising parts ends =
     later_apart share n b (back_pairs front share (n ∷ b) (subst (AllPairs Rising) (sym parts) rising)) (text_apart (team_name share) (team_name n) ends)
 
-before_apart : (shares front behind : List Share) (share other : Share) (after : List Share) → AllPairs Rising shares → front ++ share ∷ behind ≡ shares → starts_with_team (team_name share) behind ≡ false → behind ≡ other ∷ after → All (λ one. team_name one ≢ team_name other) (front ++ share ∷ [])
+before_apart : (shares front behind : List Share) (share other : Share) (after : List Share) → AllPairs Rising shares → front ++ share ∷ behind ≡ shares
+    → starts_with_team (team_name share) behind ≡ false → behind ≡ other ∷ after → All (λ one. team_name one ≢ team_name other) (front ++ share ∷ [])
 before_apart shares front [] share other after rising parts ends here = absurd (cc)
 before_apart shares front (n ∷ b) share other after rising parts ends here =
     let first : n ≡ other = cc in
@@ -110,7 +113,10 @@ before_apart shares front (n ∷ b) share other after rising parts ends here =
     (front_apart front share n b (subst (AllPairs Rising) (sym parts) rising) (text_apart (team_name share) (team_name n) ends))
 
 -- one member more
-pub sums_further : (shares front later : List Share) (share : Share) (sums more : List TeamSum) (sum : TeamSum) (total begun : ℕ) → AllPairs Rising shares → share.points ≤ 30_000 → SumsUpTo shares front (share ∷ later) sums total → sum.member.now ≡ flyer_of share → sum.total ≡ total + share.points → MatchBool (starts_with_team (team_name share) later) ((begun ≡ total + share.points) × (more ≡ sums)) ((begun ≡ 0) × (more ≡ sums ++ sum ∷ [])) → SumsUpTo shares (front ++ share ∷ []) later more begun
+pub sums_further : (shares front later : List Share) (share : Share) (sums more : List TeamSum) (sum : TeamSum) (total begun : ℕ) → AllPairs Rising shares → share.points ≤ 30_000
+    → SumsUpTo shares front (share ∷ later) sums total → sum.member.now ≡ flyer_of share → sum.total ≡ total + share.points
+    → MatchBool (starts_with_team (team_name share) later) ((begun ≡ total + share.points) × (more ≡ sums)) ((begun ≡ 0) × (more ≡ sums ++ sum ∷ []))
+    → SumsUpTo shares (front ++ share ∷ []) later more begun
 sums_further shares front later share sums more sum total begun rising low far who much next =
     ⊎_elim
     (λ (goes : starts_with_team (team_name share) later ≡ true).
@@ -133,11 +139,13 @@ sums_further shares front later share sums more sum total begun rising low far w
     higher : total ≤ length front * 30_000 → total + share.points ≤ length (front ++ share ∷ []) * 30_000
     higher few = omega (arith, few, low, length-append front (share ∷ []))
 
-    goes_on : (behind : List Share) → SumsUpTo shares front (share ∷ behind) sums total → starts_with_team (team_name share) behind ≡ true → begun ≡ total + share.points → more ≡ sums → SumsUpTo shares (front ++ share ∷ []) behind more begun
+    goes_on : (behind : List Share) → SumsUpTo shares front (share ∷ behind) sums total → starts_with_team (team_name share) behind ≡ true → begun ≡ total + share.points → more ≡ sums
+        → SumsUpTo shares (front ++ share ∷ []) behind more begun
     goes_on [] so goes is same = absurd (false≢true goes)
     goes_on (n ∷ behind) so goes is same =
         let found : has_team (team_name share) (map flyer_of (n ∷ behind)) ≡ true = ap (λ (b : Bool). b || has_team (team_name share) (map flyer_of behind)) goes in
-        let skipped : last_members (map flyer_of (share ∷ n ∷ behind)) ≡ last_members (map flyer_of (n ∷ behind)) = ap (λ (b : Bool). cond b [] (flyer_of share ∷ []) ++ last_members (map flyer_of (n ∷ behind))) found in
+        let skipped : last_members (map flyer_of (share ∷ n ∷ behind)) ≡ last_members (map flyer_of (n ∷ behind)) =
+        ap (λ (b : Bool). cond b [] (flyer_of share ∷ []) ++ last_members (map flyer_of (n ∷ behind))) found in
         let one_team = text_same (team_name share) (team_name n) goes in
         record {
           parts = whole (n ∷ behind) so;
@@ -149,17 +157,27 @@ sums_further shares front later share sums more sum total begun rising low far w
           low = omega (arith, is, higher so.low);
         }
 
-    ends_here : (behind : List Share) → SumsUpTo shares front (share ∷ behind) sums total → starts_with_team (team_name share) behind ≡ false → begun ≡ 0 → more ≡ sums ++ sum ∷ [] → SumsUpTo shares (front ++ share ∷ []) behind more begun
+    ends_here : (behind : List Share) → SumsUpTo shares front (share ∷ behind) sums total → starts_with_team (team_name share) behind ≡ false → begun ≡ 0 → more ≡ sums ++ sum ∷ []
+        → SumsUpTo shares (front ++ share ∷ []) behind more begun
     ends_here behind so ends is grown =
         let apart = behind_apart shares front behind share rising so.parts ends in
         let lacks = none_flies (team_name share) behind apart in
-        let kept : last_members (map flyer_of (share ∷ behind)) ≡ flyer_of share ∷ last_members (map flyer_of behind) = ap (λ (b : Bool). cond b [] (flyer_of share ∷ []) ++ last_members (map flyer_of behind)) lacks in
+        let kept : last_members (map flyer_of (share ∷ behind)) ≡ flyer_of share ∷ last_members (map flyer_of behind) =
+        ap (λ (b : Bool). cond b [] (flyer_of share ∷ []) ++ last_members (map flyer_of behind)) lacks in
         let named : map member_of more ≡ map member_of sums ++ flyer_of share ∷ [] = ap (map member_of) grown ∙ map_push member_of sums sum ∙ ap (λ (m : Member). map member_of sums ++ m ∷ []) who in
-        let all : sum_by (share_for (team_name share)) shares ≡ total + share.points = omega (arith, ap (sum_by (share_for (team_name share))) (sym (whole behind so)), sum_by-append (share_for (team_name share)) (front ++ share ∷ []) behind, summed behind so, nothing_for (team_name share) behind apart) in
+        let all : sum_by (share_for (team_name share)) shares ≡ total + share.points =
+        omega (
+          arith,
+          ap (sum_by (share_for (team_name share))) (sym (whole behind so)),
+          sum_by-append (share_for (team_name share)) (front ++ share ∷ []) behind,
+          summed behind so,
+          nothing_for (team_name share) behind apart,
+        ) in
         let P : TeamSum → Type 0 = λ one. one.total ≡ sum_by (share_for one.member.now.team) shares in
         record {
           parts = whole behind so;
-          members_are = ap (λ (l : List Member). l ++ last_members (map flyer_of behind)) named ∙ append_assoc (map member_of sums) (flyer_of share ∷ []) (last_members (map flyer_of behind)) ∙ ap (λ (l : List Member). map member_of sums ++ l) (sym kept) ∙ so.members_are;
+          members_are = ap (λ (l : List Member). l ++ last_members (map flyer_of behind)) named ∙ append_assoc (map member_of sums) (flyer_of share ∷ []) (last_members (map flyer_of behind))
+              ∙ ap (λ (l : List Member). map member_of sums ++ l) (sym kept) ∙ so.members_are;
           each = subst (All P) (sym grown) (All-push P sums sum so.each (much ∙ sym all ∙ ap (λ (m : Member). sum_by (share_for m.team) shares) (sym who)));
           running = λ other after here. is ∙ sym (nothing_for (team_name other) (front ++ share ∷ []) (before_apart shares front behind share other after rising so.parts ends here));
           low = omega (arith, is);
@@ -181,7 +199,10 @@ sums_all shares sums total far = record {
 }
 
 -- the same at a place of the list
-pub sums_at : (shares : List Share) (place : ℕ) (share : Share) (sums more : List TeamSum) (sum : TeamSum) (total begun : ℕ) → IsSorted share_cmp shares → All (λ one. one.points ≤ 30_000) shares → SumsUpTo shares (take place shares) (drop place shares) sums total → place < length shares → share ≡ get_or shares place share → sum.member.now ≡ flyer_of share → sum.total ≡ total + share.points → MatchBool (starts_with_team (team_name share) (drop (place + 1) shares)) ((begun ≡ total + share.points) × (more ≡ sums)) ((begun ≡ 0) × (more ≡ sums ++ sum ∷ [])) → SumsUpTo shares (take (place + 1) shares) (drop (place + 1) shares) more begun
+pub sums_at : (shares : List Share) (place : ℕ) (share : Share) (sums more : List TeamSum) (sum : TeamSum) (total begun : ℕ) → IsSorted share_cmp shares → All (λ one. one.points ≤ 30_000) shares
+    → SumsUpTo shares (take place shares) (drop place shares) sums total → place < length shares → share ≡ get_or shares place share → sum.member.now ≡ flyer_of share
+    → sum.total ≡ total + share.points → MatchBool (starts_with_team (team_name share) (drop (place + 1) shares)) ((begun ≡ total + share.points) × (more ≡ sums))
+    ((begun ≡ 0) × (more ≡ sums ++ sum ∷ [])) → SumsUpTo shares (take (place + 1) shares) (drop (place + 1) shares) more begun
 sums_at shares place share sums more sum total begun sorted low far inside at who much next =
     let later = drop (place + 1) shares in
     let here : drop place shares ≡ share ∷ later = drop_more shares place share inside ∙ ap (λ (s : Share). s ∷ later) (sym at) in
@@ -192,7 +213,8 @@ sums_at shares place share sums more sum total begun sorted low far inside at wh
     (sums_further shares (take place shares) later share sums more sum total begun (sorted_pairs team_name shares sorted) few so_far who much next)
 
 -- what members add, in order
-pub shares_in_order : (members : List Member) (pilots : List Total) (unsorted sorted : List Share) → AreSharesOf members pilots unsorted → IsPermutation unsorted sorted → IsSorted share_cmp sorted → AreShares members pilots sorted
+pub shares_in_order : (members : List Member) (pilots : List Total) (unsorted sorted : List Share) → AreSharesOf members pilots unsorted → IsPermutation unsorted sorted → IsSorted share_cmp sorted
+    → AreShares members pilots sorted
 shares_in_order members pilots unsorted sorted are moved rising = record {
   members_are = subst (λ (l : List Member). IsPermutation l (map flyer_of sorted)) are.members_are (IsPermutation-map flyer_of unsorted sorted moved);
   points_are = All-permutation (λ share. share.points ≡ total_beside share.member.now.number pilots) unsorted sorted moved are.points_are;
@@ -208,12 +230,19 @@ pub sums_few : (shares : List Share) (sums : List TeamSum) → AreTeamSums share
 sums_few shares sums are few =
     omega (arith, few, last_fewer (map flyer_of shares), ap length are.members_are, length-map sums member_of, length-map shares flyer_of)
 
-shares_summed : (team : List ℕ) (pilots : List Total) (shares : List Share) → All (λ share. share.points ≡ total_beside share.member.now.number pilots) shares → sum_by (share_for team) shares ≡ sum_by (points_for team pilots) (map flyer_of shares)
+shares_summed : (team : List ℕ) (pilots : List Total) (shares : List Share) → All (λ share. share.points ≡ total_beside share.member.now.number pilots) shares
+    → sum_by (share_for team) shares ≡ sum_by (points_for team pilots) (map flyer_of shares)
 shares_summed team pilots [] are = refl
 shares_summed team pilots (share ∷ shares) are =
     let P : Share → Type 0 = λ one. one.points ≡ total_beside one.member.now.number pilots in
     let here : share_for team share ≡ points_for team pilots (flyer_of share) = ap (λ (n : ℕ). if is_text team (team_name share) then n else 0) (All-head P share shares are) in
-    omega (arith, here, sum_by-cons (share_for team) share shares, sum_by-cons (points_for team pilots) (flyer_of share) (map flyer_of shares), shares_summed team pilots shares (All-tail P share shares are))
+    omega (
+      arith,
+      here,
+      sum_by-cons (share_for team) share shares,
+      sum_by-cons (points_for team pilots) (flyer_of share) (map flyer_of shares),
+      shares_summed team pilots shares (All-tail P share shares are),
+    )
 
 totals_same : (totals : List ℕ) (sums : List TeamSum) → map total_of (map (team_of totals) sums) ≡ map total_of_sum sums
 totals_same totals [] = refl
@@ -223,7 +252,8 @@ named : (members : List Member) (member : Member) → Contains members member �
 named members member has =
     (has.0, omega (arith, has.1, length-map members (λ m. m.team)), get_or-map (λ (m : Member). m.team) members has.0 member member.team has.1 ∙ ap (λ (m : Member). m.team) has.2)
 
-pub teams_of : (members : List Member) (pilots : List Total) (shares : List Share) (sums : List TeamSum) (teams : List TeamTotal) → AreShares members pilots shares → AreTeamSums shares sums → AreRankedTeams sums teams → AreTeams members pilots teams
+pub teams_of : (members : List Member) (pilots : List Total) (shares : List Share) (sums : List TeamSum) (teams : List TeamTotal) → AreShares members pilots shares → AreTeamSums shares sums
+    → AreRankedTeams sums teams → AreTeams members pilots teams
 teams_of members pilots shares sums qs shared summed ranked =
     let ps = map (team_of ranked.totals) sums in
     let flyers = map flyer_of shares in
@@ -234,7 +264,8 @@ teams_of members pilots shares sums qs shared summed ranked =
           let there = Contains-permutation members flyers member shared.members_are has in
           let moved_count = sum_by-IsPermutation (λ other. cond (is_text team other.team) 1 0) ps qs ranked.teams_are in
           let made_count = counted_map (team_of ranked.totals) (λ other. is_text team other.team) sums in
-          let last_count : count_by (λ other. is_text team other.team) (last_members flyers) ≡ count_by (λ sum. is_text team sum.member.now.team) sums = ap (count_by (λ other. is_text team other.team)) (sym summed.members_are) ∙ counted_map member_of (λ other. is_text team other.team) sums in
+          let last_count : count_by (λ other. is_text team other.team) (last_members flyers) ≡ count_by (λ sum. is_text team sum.member.now.team) sums =
+          ap (count_by (λ other. is_text team other.team)) (sym summed.members_are) ∙ counted_map member_of (λ other. is_text team other.team) sums in
           let one = team_counted team flyers ∙ ap (λ (b : Bool). cond b 1 0) (team_found flyers member there) in
           moved_count ∙ made_count ∙ sym last_count ∙ one;
       in_order = ranked.in_order;
@@ -245,7 +276,8 @@ teams_of members pilots shares sums qs shared summed ranked =
 
     each_named : All (λ sum. Contains members sum.member.now) sums
     each_named = all_unmap member_of (Contains members) sums (subst (All (Contains members)) (sym summed.members_are)
-        (All-weaker (Contains (map flyer_of shares)) (Contains members) (λ member has. Contains-permutation (map flyer_of shares) members member back has) (last_members (map flyer_of shares)) (last_are_members (map flyer_of shares))))
+        (All-weaker (Contains (map flyer_of shares)) (Contains members) (λ member has. Contains-permutation (map flyer_of shares) members member back has) (last_members (map flyer_of shares))
+        (last_are_members (map flyer_of shares))))
 
     totals_moved : IsPermutation ranked.totals (map total_of qs)
     totals_moved =
@@ -258,6 +290,7 @@ teams_of members pilots shares sums qs shared summed ranked =
     each_one = all_both (λ sum. Contains members sum.member.now) (λ sum. sum.total ≡ sum_by (share_for sum.member.now.team) shares) (λ sum. IsTeam members pilots qs (team_of ranked.totals sum)) sums
         (λ sum has total. record {
           is_named = named members sum.member.now has;
-          total_is = total ∙ shares_summed sum.member.now.team pilots shares shared.points_are ∙ sum_by-IsPermutation (points_for sum.member.now.team pilots) members (map flyer_of shares) shared.members_are;
+          total_is = total ∙ shares_summed sum.member.now.team pilots shares shared.points_are
+              ∙ sum_by-IsPermutation (points_for sum.member.now.team pilots) members (map flyer_of shares) shared.members_are;
           rank_is = ranks_same ranked.totals (map total_of qs) sum.total totals_moved;
         }) each_named summed.each

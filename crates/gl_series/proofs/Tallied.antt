@@ -12,7 +12,7 @@ use Rattle.gl_series.specs.declared.ordered.Ordered.{Ordered}
 use Rattle.gl_series.specs.declared.pilots.Tally.{Tally}
 use Rattle.gl_series.specs.declared.standing.Total.{Total}
 use Rattle.gl_series.specs.Forms.{is_text}
-use Rattle.gl_series.specs.Tallies.{AreOrdered, AreRanked, AreTallies, AreTotals, IsTally, days_of, last_rows, pilot_of}
+use Rattle.gl_series.specs.Code.Tallies.{AreOrdered, AreRanked, AreTallies, AreTotals, IsTally, days_of, last_rows, pilot_of}
 use Rattle.gl_series.specs.Totals.{AreDays, ArePilots, IsLastName, IsPilot, rank_of}
 use Rattle.gl_series.proofs.LastRows.{last_few, last_named, map_more, number_counted, row_found}
 
@@ -64,7 +64,8 @@ pilots_of days drop tallies qs are tallied ranked =
           let number = row.number in
           let moved_count = sum_by-IsPermutation (λ pilot. cond (is_text number pilot.number) 1 0) ps qs moved in
           let made_count = counted_map (pilot_of ranked.totals) (λ pilot. is_text number pilot.number) tallies in
-          let rows_count : count_by (λ other. is_text number other.number) (last_rows days) ≡ count_by (λ tally. is_text number tally.row.now.number) tallies = ap (count_by (λ other. is_text number other.number)) (sym tallied.totals.rows_are) ∙ counted_map row_of (λ other. is_text number other.number) tallies in
+          let rows_count : count_by (λ other. is_text number other.number) (last_rows days) ≡ count_by (λ tally. is_text number tally.row.now.number) tallies =
+          ap (count_by (λ other. is_text number other.number)) (sym tallied.totals.rows_are) ∙ counted_map row_of (λ other. is_text number other.number) tallies in
           let one = number_counted number days are.each ∙ ap (λ (b : Bool). cond b 1 0) (row_found days day row has_day has_row) in
           moved_count ∙ made_count ∙ sym rows_count ∙ one;
       in_order = ranked.in_order;
@@ -105,7 +106,9 @@ abbrev now_of : Bor DayRow → DayRow
 now_of row = row.now
 
 -- one tally more
-pub totals_more : (days : List DaySheet) (rows : List (Bor DayRow)) (drop : ℕ) (tallies more : List Tally) (tally : Tally) (i : ℕ) → AreTotals days (map now_of (take i rows)) drop tallies → i < length rows → tally.row ≡ get_or rows i tally.row → IsTally days drop tally.row.now.number tally.total tally.dropped → tally.total ≤ 30_000 → more ≡ tallies ++ tally ∷ [] → AreTotals days (map now_of (take (i + 1) rows)) drop more
+pub totals_more : (days : List DaySheet) (rows : List (Bor DayRow)) (drop : ℕ) (tallies more : List Tally) (tally : Tally) (i : ℕ) → AreTotals days (map now_of (take i rows)) drop tallies
+    → i < length rows → tally.row ≡ get_or rows i tally.row → IsTally days drop tally.row.now.number tally.total tally.dropped → tally.total ≤ 30_000 → more ≡ tallies ++ tally ∷ []
+    → AreTotals days (map now_of (take (i + 1) rows)) drop more
 totals_more days rows drop tallies more tally i are inside at is low grown =
     let P : Tally → Type 0 = λ one. IsTally days drop one.row.now.number one.total one.dropped in
     let Q : Tally → Type 0 = λ one. one.total ≤ 30_000 in
@@ -116,7 +119,8 @@ totals_more days rows drop tallies more tally i are inside at is low grown =
     }
 
 -- the tallies of the rows of the last days are those of all pilots
-pub tallies_all : (days : List DaySheet) (ordered : List Ordered) (rows : List DayRow) (drop : ℕ) (tallies : List Tally) → AreDays days → AreOrdered days ordered → rows ≡ last_rows (days_of ordered) → AreTotals (days_of ordered) rows drop tallies → AreTallies days drop tallies
+pub tallies_all : (days : List DaySheet) (ordered : List Ordered) (rows : List DayRow) (drop : ℕ) (tallies : List Tally) → AreDays days → AreOrdered days ordered → rows ≡ last_rows (days_of ordered)
+    → AreTotals (days_of ordered) rows drop tallies → AreTallies days drop tallies
 tallies_all days ordered rows drop tallies are as_days rows_are totals =
     let last : rows ≡ last_rows days = rows_are ∙ ap last_rows as_days.days_are in
     let moved = subst (λ (ds : List DaySheet). AreTotals ds rows drop tallies) as_days.days_are totals in

@@ -30,7 +30,8 @@ module _ {Line Item : Type 0} (Is : Line → Item → Type 0) (one : (line : Lin
       λ i. head i ∷ tail i
 
   -- the items of a list of lines, cut where the lines are
-  cut_at : (front : List Line) (wrong : Line) (behind : List Line) (items : List Item) → AllZip Is (front ++ wrong ∷ behind) items → (a : List Item) × (x : Item) × (b : List Item) × (items ≡ a ++ x ∷ b) × AllZip Is front a × Is wrong x
+  cut_at : (front : List Line) (wrong : Line) (behind : List Line) (items : List Item) → AllZip Is (front ++ wrong ∷ behind) items
+      → (a : List Item) × (x : Item) × (b : List Item) × (items ≡ a ++ x ∷ b) × AllZip Is front a × Is wrong x
   cut_at [] wrong behind [] each = absurd each
   cut_at [] wrong behind (x ∷ xs) each = ([], x, xs, refl, tt, each.0)
   cut_at (l ∷ ls) wrong behind [] each = absurd each

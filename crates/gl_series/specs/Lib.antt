@@ -1,12 +1,9 @@
-pub mod Adding
-pub mod AddingRows
 pub mod Choices
+pub mod Code
 pub mod Forms
 pub mod Laws
-pub mod Numbers
 pub mod OneByOne
 pub mod SeriesList
 pub mod SheetText
 pub mod StandingText
-pub mod Tallies
 pub mod Totals

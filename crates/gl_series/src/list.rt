@@ -6,8 +6,8 @@ ghost use Rattle.gl_series.specs.declared.error.ListError.{ListError};
 ghost use Rattle.gl_series.specs.declared.error.ListError.TheVariants.{Memory};
 ghost use Rattle.gl_series.specs.declared.series.Member.{Member};
 ghost use Rattle.gl_series.specs.declared.series.Series.{Series};
-ghost use Rattle.gl_series.specs.Adding.{IsBehindHeading, IsFirstSpace, IsMember, IsNext, IsSpaced, IsStopped, Says, member_line, with_entry};
-ghost use Rattle.gl_series.specs.Numbers.{HasNumbers};
+ghost use Rattle.gl_series.specs.Code.Adding.{IsBehindHeading, IsFirstSpace, IsMember, IsNext, IsSpaced, IsStopped, Says, member_line, with_entry};
+ghost use Rattle.gl_series.specs.Code.AddingRows.{HasNumbers};
 ghost use Rattle.gl_series.specs.SeriesList.{HasNoHeading, IsEntry, IsLineOf, IsList, IsRefused, IsSeries, line_of};
 
 use crate::entry::Entry;

@@ -1,6 +1,6 @@
 ghost use Rattle.std.specs.Prelude.{◌≡◌, ◌≢◌, ◌≤◌, All, AllPairs, IfOk, map};
 ghost use Rattle.std.specs.List.Sorted.{IsPermutation, IsSorted};
-ghost use Rattle.gl_series.specs.Tallies.{IsNumbered, text_cmp};
+ghost use Rattle.gl_series.specs.Code.Tallies.{IsNumbered, text_cmp};
 ghost use Rattle.gl_series.specs.Totals.{total_beside};
 
 use crate::standing::Total;

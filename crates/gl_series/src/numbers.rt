@@ -1,5 +1,5 @@
 ghost use Rattle.std.specs.Prelude.{◌≢◌, ◌↔◌, ◌++◌, ◌∷◌, [], ℕ, List, All, IsTrue, OnOk};
-ghost use Rattle.gl_series.specs.Numbers.{HasNumbers};
+ghost use Rattle.gl_series.specs.Code.AddingRows.{HasNumbers};
 
 use gl_desk::Name;
 use std::alloc::{AllocError, Global};

@@ -1,7 +1,7 @@
 ghost use Rattle.std.specs.Prelude.{◌≡◌, ◌≢◌, ◌≤◌, All, Contains, IfOk, MatchOption, length, map};
 ghost use Rattle.std.specs.List.Sorted.{IsPermutation, IsSorted};
 ghost use Rattle.gl_series.specs.Choices.{points_on};
-ghost use Rattle.gl_series.specs.Tallies.{AreOrdered, IsOrdered, has_number, text_cmp};
+ghost use Rattle.gl_series.specs.Code.Tallies.{AreOrdered, IsOrdered, has_number, text_cmp};
 ghost use Rattle.gl_series.specs.Totals.{AreDays, IsDay};
 
 use crate::day::{DayRow, DaySheet};

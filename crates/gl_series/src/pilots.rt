@@ -1,6 +1,6 @@
 ghost use Rattle.std.specs.Prelude.{◌≡◌, ◌≤◌, ◌++◌, All, IfOk, OnOk, length, map, filter, not};
 ghost use Rattle.std.specs.List.Sorted.{IsNonDecreasing, IsPermutation, IsSorted};
-ghost use Rattle.gl_series.specs.Tallies.{AreRanked, AreTallies, AreTotals, IsOrdered, days_of, is_in_days, last_rows, pilot_of, total_of_tally};
+ghost use Rattle.gl_series.specs.Code.Tallies.{AreRanked, AreTallies, AreTotals, IsOrdered, days_of, is_in_days, last_rows, pilot_of, total_of_tally};
 ghost use Rattle.gl_series.specs.Totals.{AreDays, ArePilots, pilot_cmp};
 
 use crate::day::{DayRow, DaySheet};

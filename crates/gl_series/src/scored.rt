@@ -1,6 +1,6 @@
 ghost use Rattle.std.specs.Prelude.{◌≡◌, ◌≤◌, All, IfOk, length, sum_by};
 ghost use Rattle.std.specs.List.Sorted.{IsNonDecreasingBy, IsPermutation};
-ghost use Rattle.gl_series.specs.Tallies.{AreInOrder, AreScored, IsOrdered, IsTally, days_of};
+ghost use Rattle.gl_series.specs.Code.Tallies.{AreInOrder, AreScored, IsOrdered, IsTally, days_of};
 
 use crate::day::DaySheet;
 use crate::ordered::{Ordered, points_in};

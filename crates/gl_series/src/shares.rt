@@ -1,6 +1,6 @@
 ghost use Rattle.std.specs.Prelude.{◌≡◌, IfOk};
 ghost use Rattle.std.specs.List.Sorted.{IsPermutation, IsSorted};
-ghost use Rattle.gl_series.specs.Tallies.{AreShares, AreSharesOf, IsNumbered, share_cmp};
+ghost use Rattle.gl_series.specs.Code.Tallies.{AreShares, AreSharesOf, IsNumbered, share_cmp};
 
 use crate::numbered::{Numbered, total_in};
 use crate::series::Member;

@@ -5,9 +5,8 @@ ghost use Rattle.gl_series.specs.declared.day.DayRow.{DayRow};
 ghost use Rattle.gl_series.specs.declared.day.DaySheet.{DaySheet};
 ghost use Rattle.gl_series.specs.declared.error.SheetError.{SheetError};
 ghost use Rattle.gl_series.specs.declared.error.SheetError.TheVariants.{Memory};
-ghost use Rattle.gl_series.specs.AddingRows.{IsNextRow, row_written};
+ghost use Rattle.gl_series.specs.Code.AddingRows.{IsNextRow, row_written, HasNumbers};
 ghost use Rattle.gl_series.specs.Forms.{is_name, is_number};
-ghost use Rattle.gl_series.specs.Numbers.{HasNumbers};
 ghost use Rattle.gl_series.specs.SheetText.{IsRefusedSheet, IsRowOf, IsSheetOf, field_of, sheet_heading};
 ghost use Rattle.gl_series.specs.Totals.{IsDay};
 

@@ -1,6 +1,6 @@
 ghost use Rattle.std.specs.Prelude.{◌≡◌, ◌≢◌, ◌≤◌, ◌++◌, ◌∷◌, [], All, AllPairs, IfOk, MatchBool, length, map};
 ghost use Rattle.std.specs.List.Sorted.{IsNonDecreasing, IsPermutation, IsSorted};
-ghost use Rattle.gl_series.specs.Tallies.{AreRankedTeams, AreTeamSums, share_cmp, starts_with_team, team_of, total_of_sum};
+ghost use Rattle.gl_series.specs.Code.Tallies.{AreRankedTeams, AreTeamSums, share_cmp, starts_with_team, team_of, total_of_sum};
 ghost use Rattle.gl_series.specs.Totals.{AreTeams, team_cmp};
 
 use crate::numbered::by_number;

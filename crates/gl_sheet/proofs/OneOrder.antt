@@ -50,7 +50,8 @@ uncounted : (b : Bool) → one_if b ≡ 0 → b ≡ false
 uncounted true e = absurd (omega (arith, e))
 uncounted false e = refl
 
-first_low : {X : Type 0} (lt : X → X → Bool) → IsStrictWeakOrder lt → (x y : X) (xs ys : List X) → IsSortedBy lt (x ∷ xs) → sum_by (λ z. one_if (lt z x)) (x ∷ xs) ≡ sum_by (λ z. one_if (lt z x)) (y ∷ ys) → lt y x ≡ false
+first_low : {X : Type 0} (lt : X → X → Bool) → IsStrictWeakOrder lt → (x y : X) (xs ys : List X) → IsSortedBy lt (x ∷ xs)
+    → sum_by (λ z. one_if (lt z x)) (x ∷ xs) ≡ sum_by (λ z. one_if (lt z x)) (y ∷ ys) → lt y x ≡ false
 first_low lt order x y xs ys sorted same =
     let none : sum_by (λ z. one_if (lt z x)) (x ∷ xs) ≡ 0 = none_below lt order x xs sorted in
     uncounted (lt y x) (omega (arith, none, same, sum_by-cons (λ z. one_if (lt z x)) y ys))
@@ -61,12 +62,14 @@ rest_same x y xs ys first same f =
     omega (arith, e, same f, sum_by-cons f x xs, sum_by-cons f y ys)
 
 -- two sorted lists with the same elements, none of which tie, are one
-one_order : {X : Type 0} (lt : X → X → Bool) → IsStrictWeakOrder lt → (P : X → Type 0) → ((x y : X) → P x → P y → lt x y ≡ false → lt y x ≡ false → x ≡ y) → (xs ys : List X) → IsSortedBy lt xs → IsSortedBy lt ys → All P xs → All P ys → ((f : X → ℕ) → sum_by f xs ≡ sum_by f ys) → xs ≡ ys
+one_order : {X : Type 0} (lt : X → X → Bool) → IsStrictWeakOrder lt → (P : X → Type 0) → ((x y : X) → P x → P y → lt x y ≡ false → lt y x ≡ false → x ≡ y) → (xs ys : List X) → IsSortedBy lt xs
+    → IsSortedBy lt ys → All P xs → All P ys → ((f : X → ℕ) → sum_by f xs ≡ sum_by f ys) → xs ≡ ys
 one_order lt order P ties [] [] up over of_xs of_ys same = refl
 one_order lt order P ties [] (y ∷ ys) up over of_xs of_ys same = absurd (omega (arith, same (λ _. 1), sum_by-cons (λ _. 1) y ys))
 one_order lt order P ties (x ∷ xs) [] up over of_xs of_ys same = absurd (omega (arith, same (λ _. 1), sum_by-cons (λ _. 1) x xs))
 one_order lt order P ties (x ∷ xs) (y ∷ ys) up over of_xs of_ys same =
-    let first : x ≡ y = ties x y (All-head P x xs of_xs) (All-head P y ys of_ys) (first_low lt order y x ys xs over (sym (same (λ z. one_if (lt z y))))) (first_low lt order x y xs ys up (same (λ z. one_if (lt z x)))) in
+    let first : x ≡ y = ties x y (All-head P x xs of_xs) (All-head P y ys of_ys) (first_low lt order y x ys xs over (sym (same (λ z. one_if (lt z y)))))
+    (first_low lt order x y xs ys up (same (λ z. one_if (lt z x)))) in
     let rest : xs ≡ ys = one_order lt order P ties xs ys (rest_sorted lt x xs up) (rest_sorted lt y ys over) (All-tail P x xs of_xs) (All-tail P y ys of_ys) (rest_same x y xs ys first same) in
     ap (λ z. z ∷ xs) first ∙ ap (λ zs. y ∷ zs) rest
 
@@ -104,7 +107,8 @@ one_place texts i j d none first second same =
     omega (arith, low, high)
 
 -- two lines whose entrants have one number are one
-one_line : (entrants : List Entrant) (rows : List Row) (a b : Entrant × Row) → IsTrue (all_differ (map (λ entrant. entrant.number) entrants)) → Contains (zip entrants rows) a → Contains (zip entrants rows) b → a.0.number ≡ b.0.number → a ≡ b
+one_line : (entrants : List Entrant) (rows : List Row) (a b : Entrant × Row) → IsTrue (all_differ (map (λ entrant. entrant.number) entrants)) → Contains (zip entrants rows) a
+    → Contains (zip entrants rows) b → a.0.number ≡ b.0.number → a ≡ b
 one_line entrants rows a b none first second same =
     let number = λ (entrant : Entrant). entrant.number in
     let i = first.0 in
@@ -145,8 +149,11 @@ pub one_text : (task : Task) (rows : List Row) (one other : List ℕ) → IsShee
 one_text task rows one other first second =
     let pairs = zip task.entrants rows in
     let lt = λ (a b : Entrant × Row). is_lt (line_cmp a b) in
-    let same : (f : Entrant × Row → ℕ) → sum_by f first.lines ≡ sum_by f second.lines = λ f. sum_by-IsPermutation f pairs first.lines first.all ∙ sym (sum_by-IsPermutation f pairs second.lines second.all) in
+    let same : (f : Entrant × Row → ℕ) → sum_by f first.lines ≡ sum_by f second.lines = λ f. sum_by-IsPermutation f pairs first.lines first.all
+    ∙ sym (sum_by-IsPermutation f pairs second.lines second.all) in
     let whole = All-contains_itself pairs in
-    let ties : (a b : Entrant × Row) → Contains pairs a → Contains pairs b → lt a b ≡ false → lt b a ≡ false → a ≡ b = λ a b of_a of_b up down. one_line task.entrants rows a b task.numbers_differ of_a of_b (tie_number a b up down) in
-    let order : first.lines ≡ second.lines = one_order lt (ranks_by line_cmp_total (λ (line : Entrant × Row). line)) (Contains pairs) ties first.lines second.lines first.in_order second.in_order (All-permutation (Contains pairs) pairs first.lines first.all whole) (All-permutation (Contains pairs) pairs second.lines second.all whole) same in
+    let ties : (a b : Entrant × Row) → Contains pairs a → Contains pairs b → lt a b ≡ false → lt b a ≡ false → a ≡ b =
+    λ a b of_a of_b up down. one_line task.entrants rows a b task.numbers_differ of_a of_b (tie_number a b up down) in
+    let order : first.lines ≡ second.lines = one_order lt (ranks_by line_cmp_total (λ (line : Entrant × Row). line)) (Contains pairs) ties first.lines second.lines first.in_order second.in_order
+    (All-permutation (Contains pairs) pairs first.lines first.all whole) (All-permutation (Contains pairs) pairs second.lines second.all whole) same in
     first.written ∙ ap (λ (lines : List (Entrant × Row)). flat_map (row_text default_writer) (heading ∷ map (fields rows) lines)) order ∙ sym second.written

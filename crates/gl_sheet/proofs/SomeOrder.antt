@@ -34,7 +34,8 @@ record IsPutInto {X : Type 0} (lt : X → X → Bool) (x : X) (xs ys : List X) :
 exchanged : {X : Type 0} (x y : X) (ys : List X) → IsPermutation (x ∷ y ∷ ys) (y ∷ x ∷ ys)
 exchanged x y ys = IsPermutation-middle (x ∷ []) y ys
 
-put_tested : {X : Type 0} (lt : X → X → Bool) → IsStrictWeakOrder lt → (x y : X) (ys : List X) (test : Bool) → lt y x ≡ test → IsSortedBy lt (y ∷ ys) → (zs : List X) × IsPutInto lt x ys zs → (zs : List X) × IsPutInto lt x (y ∷ ys) zs
+put_tested : {X : Type 0} (lt : X → X → Bool) → IsStrictWeakOrder lt → (x y : X) (ys : List X) (test : Bool) → lt y x ≡ test → IsSortedBy lt (y ∷ ys) → (zs : List X) × IsPutInto lt x ys zs
+    → (zs : List X) × IsPutInto lt x (y ∷ ys) zs
 put_tested {X} lt order x y ys true is sorted rest =
     let P : X → Type 0 = λ z. lt z y ≡ false in
     let all = All-permutation P (x ∷ ys) rest.0 rest.1.moved (All-cons P x ys (order.one_way y x is) (none_below_first lt order y ys sorted)) in (

@@ -27,17 +27,21 @@ mapped_sorted f lt (x ∷ xs) sorted = λ k d low within.
     rw (first, second) (sorted k x low inside)
 
 -- one more pair of two lists
-pub gathered_more : {X Y : Type 0} (xs : List X) (ys : List Y) (i : ℕ) (x : X) (d : Y) → i < length xs → length ys ≡ length xs → x ≡ get_or xs i x → take (i + 1) (zip xs ys) ≡ take i (zip xs ys) ++ ((x, get_or ys i d) ∷ [])
+pub gathered_more : {X Y : Type 0} (xs : List X) (ys : List Y) (i : ℕ) (x : X) (d : Y) → i < length xs → length ys ≡ length xs → x ≡ get_or xs i x
+    → take (i + 1) (zip xs ys) ≡ take i (zip xs ys) ++ ((x, get_or ys i d) ∷ [])
 gathered_more xs ys i x d within same first =
     let inside : i < length (zip xs ys) = omega (arith, length-zip xs ys, same) in
     let at = get_or-zip xs ys i (x, d) within (omega (arith, same)) in
     take_more (zip xs ys) i (x, d) inside ∙ ap (λ p. take i (zip xs ys) ++ p ∷ []) (at ∙ ap (λ a. (a, get_or ys i d)) (sym first))
 
 -- the text of one more line
-pub text_more : {X Y : Type 0} (text : List (List ℕ) → List ℕ) (head : List (List ℕ)) (fields : Y → List (List ℕ)) (view : X → Y) (lines : List X) (i : ℕ) (line : X) → i < length lines → line ≡ get_or lines i line → flat_map text (head ∷ map fields (map view (take (i + 1) lines))) ≡ flat_map text (head ∷ map fields (map view (take i lines))) ++ text (fields (view line))
+pub text_more : {X Y : Type 0} (text : List (List ℕ) → List ℕ) (head : List (List ℕ)) (fields : Y → List (List ℕ)) (view : X → Y) (lines : List X) (i : ℕ) (line : X) → i < length lines
+    → line ≡ get_or lines i line → flat_map text (head ∷ map fields (map view (take (i + 1) lines))) ≡ flat_map text (head ∷ map fields (map view (take i lines))) ++ text (fields (view line))
 text_more text head fields view lines i line within at =
     let more : take (i + 1) lines ≡ take i lines ++ line ∷ [] = take_more lines i line within ∙ ap (λ l. take i lines ++ l ∷ []) (sym at) in
     let seen : map view (take (i + 1) lines) ≡ map view (take i lines) ++ (view line ∷ []) = ap (map view) more ∙ map-append view (take i lines) (line ∷ []) in
-    let shown : map fields (map view (take (i + 1) lines)) ≡ map fields (map view (take i lines)) ++ (fields (view line) ∷ []) = ap (map fields) seen ∙ map-append fields (map view (take i lines)) (view line ∷ []) in
+    let shown : map fields (map view (take (i + 1) lines)) ≡ map fields (map view (take i lines)) ++ (fields (view line) ∷ []) = ap (map fields) seen
+    ∙ map-append fields (map view (take i lines)) (view line ∷ []) in
     let front = map fields (map view (take i lines)) in
-    ap (λ rest. flat_map text (head ∷ rest)) shown ∙ flat_map-append text (head ∷ front) (fields (view line) ∷ []) ∙ ap (λ t. flat_map text (head ∷ front) ++ t) (append-nil (text (fields (view line))))
+    ap (λ rest. flat_map text (head ∷ rest)) shown ∙ flat_map-append text (head ∷ front) (fields (view line) ∷ [])
+    ∙ ap (λ t. flat_map text (head ∷ front) ++ t) (append-nil (text (fields (view line))))

@@ -1,4 +1,4 @@
+pub mod Code
 pub mod Columns
 pub mod Laws
-pub mod Line
 pub mod Sheet

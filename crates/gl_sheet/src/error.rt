@@ -14,7 +14,8 @@ pub enum SheetError {
     /// There was no memory.
     #[error("out of memory")]
     Memory,
-    /// The writer of csv gave another error. Its contract doesn't rule that out, and no run has shown
+    /// The writer of csv gave another error. Its contract doesn't rule that out, and no run has
+    /// shown
     /// it.
     #[error("the writer of the sheet failed")]
     Writer,

@@ -1,7 +1,7 @@
 ghost use Rattle.std.specs.Prelude.{◌≡◌, IfOk, length, map};
 ghost use Rattle.std.specs.List.{zip};
 ghost use Rattle.std.specs.List.Sorted.{IsPermutation, IsSorted};
-ghost use Rattle.gl_sheet.specs.Line.{line_of};
+ghost use Rattle.gl_sheet.specs.Code.Line.{line_of};
 ghost use Rattle.gl_sheet.specs.Sheet.{line_cmp};
 
 use crate::row::Row;

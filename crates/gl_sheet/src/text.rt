@@ -4,7 +4,7 @@ ghost use Rattle.csv.specs.Records.{fields_of};
 ghost use Rattle.csv.specs.Writing.{default_writer, row_text};
 ghost use Rattle.gl_task.specs.Limits.{most_entrants};
 ghost use Rattle.gl_sheet.specs.Columns.{fields, heading, rank_of};
-ghost use Rattle.gl_sheet.specs.Line.{line_of};
+ghost use Rattle.gl_sheet.specs.Code.Line.{line_of};
 ghost use Rattle.gl_sheet.specs.Sheet.{IsSheet};
 
 use crate::columns::{push_flight, push_lists, push_points, push_standing};

@@ -2,7 +2,7 @@ use Rattle.std.proofs.Common.{◌≡◌, ℕ, ◌+◌, ◌*◌, ◌/◌, ◌<◌
 use Rattle.std.proofs.lemmas.Bool.{cases_lt}
 use Rattle.std.proofs.Math.Nat.{mul-le-mul, mul-div-mul_left, div-div-eq-div-mul}
 use Rattle.gl_sphere.specs.Distance.{second_term_of, third_term_of, fourth_term_of, arc_over, written_distance, floor_root}
-use Rattle.gl_sphere.specs.Laws.Quotients.{div-mono}
+use Rattle.gl_sphere.specs.Lemmas.Quotients.{div-mono}
 use Rattle.gl_sphere.proofs.Roots.{IsRoot-floor_root, floor_root-mono}
 
 pub second_term_of-mono : (c e : ℕ) → c ≤ e → second_term_of c ≤ second_term_of e

@@ -1,7 +1,7 @@
 use Rattle.std.proofs.Common.{◌*◌, ◌≤◌, ℤ, arith}
 use Rattle.std.proofs.Math.Nat.{mul-le-mul}
 use Rattle.gl_sphere.specs.Distance.{squared_gap, squared_chord}
-use Rattle.gl_sphere.specs.Laws.Signs.{gap_at_most}
+use Rattle.gl_sphere.proofs.Signs.{gap_at_most}
 use Rattle.gl_sphere.specs.Range.{IsWithin}
 use Rattle.gl_sphere.specs.declared.place.Vec3.{Vec3}
 use Rattle.gl_sphere.specs.declared.sphere.TheConstants.{GREATEST_SQUARE, RADIUS}

@@ -5,4 +5,5 @@ pub mod LongDivision
 pub mod Negated
 pub mod Roots
 pub mod SamePlaces
+pub mod Signs
 pub mod Vectors

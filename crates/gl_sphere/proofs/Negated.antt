@@ -1,7 +1,7 @@
 use Rattle.std.proofs.Common.{◌≡◌, ◌<◌, ◌^◌, ℤ, pos, neg_ℤ, ◌-ℤ◌, to_z, of_z, w64, ap, ◌∙◌, arith}
 use Rattle.std.specs.Prelude.{unsigned_abs}
 use Rattle.std.proofs.lemmas.Int.{ints, to_z-of_z}
-use Rattle.gl_sphere.specs.Laws.Signs.{abs_at_most}
+use Rattle.gl_sphere.specs.Lemmas.Signs.{abs_at_most}
 use Rattle.gl_sphere.specs.Range.{IsWithin}
 use Rattle.gl_sphere.specs.Sphere.{unit}
 

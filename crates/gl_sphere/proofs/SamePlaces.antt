@@ -1,7 +1,7 @@
 -- Places are one where their angles are.
 use Rattle.std.proofs.Common.{◌≡◌, refl, ap, List, [], ◌∷◌, map, ℤ}
 use mathlib.Core.HLevel.{is_prop→PathP}
-use Rattle.gl_sphere.specs.Laws.Bounds.{within-prop}
+use Rattle.gl_sphere.specs.Lemmas.Bounds.{within-prop}
 use Rattle.gl_sphere.specs.PlaceText.{place_of}
 use Rattle.gl_sphere.specs.Range.{IsWithin}
 use Rattle.gl_sphere.specs.Sphere.{quarter_turn, half_turn}

@@ -1,7 +1,7 @@
 use Rattle.std.proofs.Common.{◌≡◌}
 use mathlib.Core.HLevel.{is_prop→PathP}
 use Rattle.gl_sphere.specs.Range.{IsWithin}
-use Rattle.gl_sphere.specs.Laws.Bounds.{within-prop}
+use Rattle.gl_sphere.specs.Lemmas.Bounds.{within-prop}
 use Rattle.gl_sphere.specs.declared.place.Vec3.{Vec3}
 use Rattle.gl_sphere.specs.Sphere.{radius}
 

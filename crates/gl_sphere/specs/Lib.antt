@@ -1,11 +1,11 @@
+pub mod Code
 pub mod Components
 pub mod Distance
-pub mod Laws
+pub mod Lemmas
 pub mod Place
 pub mod PlaceText
 pub mod Product
 pub mod Range
-pub mod Series
 pub mod Sine
 pub mod Sphere
 pub use Rattle.gl_text.specs.Digits

@@ -1,6 +1,6 @@
 use Rattle.std.specs.Prelude.{pos}
 use Rattle.gl_sphere.specs.Components.{written_x, written_y, written_z, north_x, north_y, north_z, east_x, east_y}
-use Rattle.gl_sphere.specs.Laws.Components.{written_x-within, written_y-within, written_z-within, north_x-within, north_y-within, north_z-within, east_x-within, east_y-within, zero-within}
+use Rattle.gl_sphere.specs.Lemmas.Components.{written_x-within, written_y-within, written_z-within, north_x-within, north_y-within, north_z-within, east_x-within, east_y-within, zero-within}
 use Rattle.gl_sphere.specs.declared.place.Grid.{Grid}
 use Rattle.gl_sphere.specs.declared.place.Vec3.{Vec3}
 

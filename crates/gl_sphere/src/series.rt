@@ -1,6 +1,7 @@
 ghost use Rattle.std.specs.Prelude.{◌≤◌};
 
-/// The series of the sine of an angle from 0 to 90 degrees, as far as it was added up: the square of
+/// The series of the sine of an angle from 0 to 90 degrees, as far as it was added up: the square
+/// of
 /// the angle, the last term and the sum.
 #[derive(Clone, Copy)]
 pub struct Series {

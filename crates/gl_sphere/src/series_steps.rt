@@ -1,6 +1,6 @@
 ghost use Rattle.std.specs.Prelude.{◌≡◌, ℤ, ◌+◌, ◌*◌, ◌/◌, ◌^◌, ◌<◌, ◌≤◌, pos, unsigned_abs};
 ghost use Rattle.gl_sphere.specs.Range.{IsWithin};
-ghost use Rattle.gl_sphere.specs.Series.{IsSummed};
+ghost use Rattle.gl_sphere.specs.Code.Series.{IsSummed};
 ghost use Rattle.gl_sphere.specs.Sine.{half_turn_sine, quarter_sine};
 
 use crate::quotient::{quotient, quotient_by_inverse};

@@ -20,7 +20,8 @@ left_alike {X} xs ys i within rest =
     let e : length (drop i ys) ≡ length (drop i xs) = ap length rest in
     omega (arith, e, length-drop i ys, length-drop i xs)
 
-pub charged_more : {X : Type 0} (R : X → X → Type 0) (xs ys : List X) (i : ℕ) (x y : X) → i < length ys → x ≡ get_or ys i x → drop i ys ≡ drop i xs → AllZip R (take i xs) (take i ys) → R x y → AllZip R (take (i + 1) xs) (take (i + 1) (set ys i y))
+pub charged_more : {X : Type 0} (R : X → X → Type 0) (xs ys : List X) (i : ℕ) (x y : X) → i < length ys → x ≡ get_or ys i x → drop i ys ≡ drop i xs → AllZip R (take i xs) (take i ys) → R x y
+    → AllZip R (take (i + 1) xs) (take (i + 1) (set ys i y))
 charged_more R xs ys i x y within at rest so_far here =
     let e : take (i + 1) (set ys i y) ≡ take i ys ++ (y ∷ []) = ap (λ n. take n (set ys i y)) (add-one i) ∙ take-suc-set ys i y within in
     subst (λ (l : List _). AllZip R (take (i + 1) xs) l) (sym e)
@@ -29,7 +30,8 @@ charged_more R xs ys i x y within at rest so_far here =
 pub rest_more : {X : Type 0} (xs ys : List X) (i : ℕ) (y : X) → drop i ys ≡ drop i xs → drop (i + 1) (set ys i y) ≡ drop (i + 1) xs
 rest_more xs ys i y rest = drop-set-lt (i + 1) ys i y (omega arith) ∙ sym (drop-drop 1 i ys) ∙ ap (λ l. drop 1 l) rest ∙ drop-drop 1 i xs
 
-pub total_more : {X : Type 0} (owes : X → ℕ) (xs ys : List X) (i : ℕ) (x : X) (total due : ℕ) → i < length ys → x ≡ get_or ys i x → drop i ys ≡ drop i xs → due ≡ owes x → total ≡ penalty (map owes (take i xs)) → total + min due (1_000 - total) ≡ penalty (map owes (take (i + 1) xs))
+pub total_more : {X : Type 0} (owes : X → ℕ) (xs ys : List X) (i : ℕ) (x : X) (total due : ℕ) → i < length ys → x ≡ get_or ys i x → drop i ys ≡ drop i xs → due ≡ owes x
+    → total ≡ penalty (map owes (take i xs)) → total + min due (1_000 - total) ≡ penalty (map owes (take (i + 1) xs))
 total_more owes xs ys i x total due within at rest is so_far =
     let more = sum_by_more owes xs i x (left_alike xs ys i within rest) in
     let last : owes x ≡ owes (get_or xs i x) = ap owes (begins_alike xs ys i x within at rest) in

@@ -56,7 +56,8 @@ greatest_owed ceiling fixes =
     let is = raises ceiling 0 fixes in
     record { none_higher = is.none_higher; reached = is.reached }
 
-ceiling_or_none : (ceiling : Option ℤ) (fixes : List Fix) → let owed = ceiling_owed (fold ceiling_fed (ceiling_list (option_map height ceiling) 0) fixes) in MatchOption ceiling (owed ≡ 0) (λ metres. IsGreatestAbove (height metres) fixes owed)
+ceiling_or_none : (ceiling : Option ℤ) (fixes : List Fix) → let owed = ceiling_owed (fold ceiling_fed (ceiling_list (option_map height ceiling) 0) fixes) in
+    MatchOption ceiling (owed ≡ 0) (λ metres. IsGreatestAbove (height metres) fixes owed)
 ceiling_or_none None fixes = unraised fixes
 ceiling_or_none (Some ceiling) fixes = greatest_owed (height ceiling) fixes
 
@@ -93,7 +94,8 @@ unheard : (points : ℕ) (fixes : List Fix) → noise_owed (fold noise_fed (nois
 unheard points [] = refl
 unheard points (fix ∷ fixes) = unheard points fixes
 
-level_or_none : (level : Option ℕ) (points : ℕ) (fixes : List Fix) → let owed = noise_owed (fold noise_fed (noise_list level points 0) fixes) in MatchOption level (owed ≡ 0) (λ least. owed ≡ if nat_le 3 (noisy_count least fixes) then points else 0)
+level_or_none : (level : Option ℕ) (points : ℕ) (fixes : List Fix) → let owed = noise_owed (fold noise_fed (noise_list level points 0) fixes) in
+    MatchOption level (owed ≡ 0) (λ least. owed ≡ if nat_le 3 (noisy_count least fixes) then points else 0)
 level_or_none None points fixes = unheard points fixes
 level_or_none (Some level) points fixes =
     ap noise_owed (counted level points 0 fixes (omega arith))

@@ -11,42 +11,37 @@ use Rattle.gl_goal.specs.AnyGoal.{any_rule}
 use Rattle.gl_proof.specs.declared.claim.ClaimKind.{ClaimKind}
 use Rattle.gl_proof.specs.Claim.{Statement, claim_text}
 use Rattle.gl_day.specs.declared.totals.Totals.{Totals}
-use Rattle.gl_day.specs.Expected.{Proves, expected_of}
+use Rattle.gl_day.specs.Expected.{Expected, Proves, expected_of}
 use Rattle.gl_judge.specs.Claimed.{rules_of_claims}
 use Rattle.gl_day.specs.Totals.{AreTotals}
-use Rattle.gl_day.proofs.Walked.{claims_for, claims_for-append, zip-push}
-use Rattle.gl_day.specs.Asked.{Expected}
+use Rattle.gl_day.proofs.Walked.{claims_for, claims_for-append}
 use Rattle.gl_answer.specs.Appending.{HasAppended, HasAppendedPart}
-use Rattle.gl_tally.specs.Scoring.{AreClaimed, AreClaimedPartly}
-use Rattle.gl_answer.proofs.Appended.{HasAppended-none, HasAppended-then, HasAppendedPart-memory, HasAppendedPart-then}
+use Rattle.gl_tally.specs.Code.Scoring.{AreClaimed, AreClaimedPartly}
+use Rattle.gl_answer.proofs.Appended.{HasAppended-then, HasAppendedPart-memory, HasAppendedPart-then}
+use Rattle.gl_text.proofs.Lists.{AllZip-push}
 
 -- the texts of claims and of one more
 pub texts-push : (statements : List Statement) (s : Statement) → flat_map claim_text (statements ++ s ∷ []) ≡ flat_map claim_text statements ++ claim_text s
 texts-push statements s =
     flat_map-append claim_text statements (s ∷ []) ∙ ap (λ (l : List ℕ). flat_map claim_text statements ++ l) (append-nil (claim_text s))
 
--- no claim is proved yet
-pub AreClaimed-none : (proof : List ℕ) (x : Told) → AreClaimed [] (record { distance = None; free = None; triangle = None }) proof x x
-AreClaimed-none proof x = record {
-  statements = [];
-  each = tt;
-  totals_are = record { distance = refl; free = refl; triangle = refl };
-  appended = HasAppended-none proof x;
-}
-
-pushed : (proof : List ℕ) (statements : List Statement) (s : Statement) (x y z : Told) → HasAppended proof (flat_map claim_text statements) x y → HasAppended proof (claim_text s) y z → HasAppended proof (flat_map claim_text (statements ++ s ∷ [])) x z
+pushed : (proof : List ℕ) (statements : List Statement) (s : Statement) (x y z : Told) → HasAppended proof (flat_map claim_text statements) x y → HasAppended proof (claim_text s) y z
+    → HasAppended proof (flat_map claim_text (statements ++ s ∷ [])) x z
 pushed proof statements s x y z one two =
     subst (λ (text : List ℕ). HasAppended proof text x z) (sym (texts-push statements s))
     (HasAppended-then proof (flat_map claim_text statements) (claim_text s) x y z one two)
 
 -- one claim more is proved, and its lines were appended
-pub AreClaimed-more : (number : List ℕ) (goals : List (ClaimKind × AnyGoal)) (i : ℕ) (g : ClaimKind × AnyGoal) (t u : Totals) (proof : List ℕ) (x y z : Told) (s : Statement) → i < length goals → g ≡ get_or goals i g → AreClaimed (expected_of number (rules_of_claims (take i goals))) t proof x y → Proves (number, g.0, any_rule g.1) s → HasAppended proof (claim_text s) y z → ((statements : List Statement) → AreTotals statements t → AreTotals (statements ++ s ∷ []) u) → AreClaimed (expected_of number (rules_of_claims (take (i + 1) goals))) u proof x z
+pub AreClaimed-more : (number : List ℕ) (goals : List (ClaimKind × AnyGoal)) (i : ℕ) (g : ClaimKind × AnyGoal) (t u : Totals) (proof : List ℕ) (x y z : Told) (s : Statement) → i < length goals
+    → g ≡ get_or goals i g → AreClaimed (expected_of number (rules_of_claims (take i goals))) t proof x y → Proves (record { number = number; kind = g.0; rule = any_rule g.1 }) s
+    → HasAppended proof (claim_text s) y z → ((statements : List Statement) → AreTotals statements t → AreTotals (statements ++ s ∷ []) u)
+    → AreClaimed (expected_of number (rules_of_claims (take (i + 1) goals))) u proof x z
 AreClaimed-more number goals i g t u proof x y z s below item so_far proves appended noted =
     let next = take_more goals i g below ∙ ap (λ (e : ClaimKind × AnyGoal). take i goals ++ e ∷ []) (sym item) in
     let claims = ap (claims_for number) next ∙ claims_for-append number (take i goals) (g ∷ []) in
     subst (λ (l : List Expected). AreClaimed l u proof x z) (sym claims) (record {
       statements = so_far.statements ++ s ∷ [];
-      each = zip-push Proves (claims_for number (take i goals)) so_far.statements (number, g.0, any_rule g.1) s so_far.each proves;
+      each = AllZip-push Proves (claims_for number (take i goals)) so_far.statements (record { number = number; kind = g.0; rule = any_rule g.1 }) s so_far.each proves;
       totals_are = noted so_far.statements so_far.totals_are;
       appended = pushed proof so_far.statements s x y z so_far.appended appended;
     })
@@ -56,7 +51,8 @@ parts_at number goals i =
     ap (claims_for number) (sym (take-append-drop i goals)) ∙ claims_for-append number (take i goals) (drop i goals)
 
 -- the next claim wasn't made
-pub claimed_memory : (number : List ℕ) (goals : List (ClaimKind × AnyGoal)) (i : ℕ) (t : Totals) (proof : List ℕ) (x y : Told) → AreClaimed (expected_of number (rules_of_claims (take i goals))) t proof x y → AreClaimedPartly (expected_of number (rules_of_claims goals)) proof x y Memory
+pub claimed_memory : (number : List ℕ) (goals : List (ClaimKind × AnyGoal)) (i : ℕ) (t : Totals) (proof : List ℕ) (x y : Told)
+    → AreClaimed (expected_of number (rules_of_claims (take i goals))) t proof x y → AreClaimedPartly (expected_of number (rules_of_claims goals)) proof x y Memory
 claimed_memory number goals i t proof x y so_far = record {
   statements = so_far.statements;
   partly = record {
@@ -69,11 +65,13 @@ claimed_memory number goals i t proof x y so_far = record {
 }
 
 -- the next claim was made, and not all of its lines were appended
-pub claimed_partly : (number : List ℕ) (goals : List (ClaimKind × AnyGoal)) (i : ℕ) (g : ClaimKind × AnyGoal) (t : Totals) (proof : List ℕ) (x y z : Told) (s : Statement) (stop : DeskError) → i < length goals → g ≡ get_or goals i g → AreClaimed (expected_of number (rules_of_claims (take i goals))) t proof x y → Proves (number, g.0, any_rule g.1) s → HasAppendedPart proof (claim_text s) y z stop → AreClaimedPartly (expected_of number (rules_of_claims goals)) proof x z stop
+pub claimed_partly : (number : List ℕ) (goals : List (ClaimKind × AnyGoal)) (i : ℕ) (g : ClaimKind × AnyGoal) (t : Totals) (proof : List ℕ) (x y z : Told) (s : Statement) (stop : DeskError)
+    → i < length goals → g ≡ get_or goals i g → AreClaimed (expected_of number (rules_of_claims (take i goals))) t proof x y → Proves (record { number = number; kind = g.0; rule = any_rule g.1 }) s
+    → HasAppendedPart proof (claim_text s) y z stop → AreClaimedPartly (expected_of number (rules_of_claims goals)) proof x z stop
 claimed_partly number goals i g t proof x y z s stop below item so_far proves appended =
     let next = take_more goals i g below ∙ ap (λ (e : ClaimKind × AnyGoal). take i goals ++ e ∷ []) (sym item) in
     let claims = ap (claims_for number) next ∙ claims_for-append number (take i goals) (g ∷ []) in
-    let each = zip-push Proves (claims_for number (take i goals)) so_far.statements (number, g.0, any_rule g.1) s so_far.each proves in
+    let each = AllZip-push Proves (claims_for number (take i goals)) so_far.statements (record { number = number; kind = g.0; rule = any_rule g.1 }) s so_far.each proves in
     record {
       statements = so_far.statements ++ s ∷ [];
       partly = record {

@@ -10,10 +10,9 @@ use Rattle.gl_day.specs.declared.fault.Checked.{Checked}
 use Rattle.gl_day.specs.declared.fault.Checked.TheVariants.{Refused}
 use Rattle.gl_day.specs.declared.fault.NotProved.{NotProved}
 use Rattle.gl_day.specs.Checked.{AreProved, Ends, GoesOn, IsNotProved}
-use Rattle.gl_day.specs.Expected.{expected_of}
+use Rattle.gl_day.specs.Expected.{Expected, expected_of}
 use Rattle.gl_judge.specs.Claimed.{rules_of_claims}
 use Rattle.gl_day.proofs.Walked.{length-claims_for}
-use Rattle.gl_day.specs.Asked.{Expected}
 use Rattle.gl_files.specs.declared.day_files.DayFiles.{DayFiles}
 use Rattle.gl_tally.specs.Asked.{AreAsked, AreAskedIn}
 use Rattle.gl_tally.specs.DayChecked.{IsDayChecked, IsSaidBehind}
@@ -26,15 +25,9 @@ pub record AreChecked (folder : Option FilesByName) (day : DayFiles) (entrants :
   pub counted : length expected ≡ count
   pub proved : AreProved expected statements
 
-pub AreChecked-none : (folder : Option FilesByName) (day : DayFiles) (statements : List Statement) → AreChecked folder day [] statements 0
-AreChecked-none folder day statements = record {
-  expected = [];
-  asked = refl;
-  counted = refl;
-  proved = record { proved = []; rest = statements; are = refl; each = tt };
-}
-
-asked_more : (folder : Option FilesByName) (day : DayFiles) (i : ℕ) (e : Entrant) (claims more : List Expected) → i < length day.task.entrants → e ≡ get_or day.task.entrants i e → AreAsked folder day.task day.airspace (take i day.task.entrants) claims → AreAskedIn folder day.task day.airspace e more → AreAsked folder day.task day.airspace (take (i + 1) day.task.entrants) (claims ++ more)
+asked_more : (folder : Option FilesByName) (day : DayFiles) (i : ℕ) (e : Entrant) (claims more : List Expected) → i < length day.task.entrants → e ≡ get_or day.task.entrants i e
+    → AreAsked folder day.task day.airspace (take i day.task.entrants) claims → AreAskedIn folder day.task day.airspace e more
+    → AreAsked folder day.task day.airspace (take (i + 1) day.task.entrants) (claims ++ more)
 asked_more folder day i e claims more below item asked last =
     let all = day.task.entrants in
     let next = take_more all i e below ∙ ap (λ (o : Entrant). take i all ++ o ∷ []) (sym item) in
@@ -42,7 +35,9 @@ asked_more folder day i e claims more below item asked last =
     (asked-push folder day.task day.airspace (take i all) e claims more asked last)
 
 -- those of one entrant more are proved
-pub AreChecked-more : (folder : Option FilesByName) (day : DayFiles) (i : ℕ) (e : Entrant) (goals : List (ClaimKind × AnyGoal)) (statements : List Statement) (count : ℕ) → i < length day.task.entrants → e ≡ get_or day.task.entrants i e → AreChecked folder day (take i day.task.entrants) statements count → AreAskedIn folder day.task day.airspace e (expected_of e.number (rules_of_claims goals)) → GoesOn count (expected_of e.number (rules_of_claims goals)) statements None → AreChecked folder day (take (i + 1) day.task.entrants) statements (count + length goals)
+pub AreChecked-more : (folder : Option FilesByName) (day : DayFiles) (i : ℕ) (e : Entrant) (goals : List (ClaimKind × AnyGoal)) (statements : List Statement) (count : ℕ) → i < length day.task.entrants
+    → e ≡ get_or day.task.entrants i e → AreChecked folder day (take i day.task.entrants) statements count → AreAskedIn folder day.task day.airspace e (expected_of e.number (rules_of_claims goals))
+    → GoesOn count (expected_of e.number (rules_of_claims goals)) statements None → AreChecked folder day (take (i + 1) day.task.entrants) statements (count + length goals)
 AreChecked-more folder day i e goals statements count below item so_far asked goes =
     let more = expected_of e.number (rules_of_claims goals) in
     record {
@@ -52,12 +47,16 @@ AreChecked-more folder day i e goals statements count below item so_far asked go
       proved = goes so_far.expected so_far.counted so_far.proved;
     }
 
-said_behind : (others : List Entrant) (expected : List Expected) (statements : List Statement) (wrong : NotProved) → IsNotProved expected statements wrong → IsSaidBehind others expected statements (Refused wrong)
+said_behind : (others : List Entrant) (expected : List Expected) (statements : List Statement) (wrong : NotProved) → IsNotProved expected statements wrong
+    → IsSaidBehind others expected statements (Refused wrong)
 said_behind [] expected statements wrong is = inl is
 said_behind (e ∷ others) expected statements wrong is = (wrong, refl, is)
 
 -- one of them is the first that is wrong
-pub checked_wrong : (folder : Option FilesByName) (day : DayFiles) (i : ℕ) (e : Entrant) (goals : List (ClaimKind × AnyGoal)) (statements : List Statement) (count : ℕ) (wrong : NotProved) → i < length day.task.entrants → e ≡ get_or day.task.entrants i e → AreChecked folder day (take i day.task.entrants) statements count → AreAskedIn folder day.task day.airspace e (expected_of e.number (rules_of_claims goals)) → GoesOn count (expected_of e.number (rules_of_claims goals)) statements (Some wrong) → IsDayChecked folder day statements (Refused wrong)
+pub checked_wrong : (folder : Option FilesByName) (day : DayFiles) (i : ℕ) (e : Entrant) (goals : List (ClaimKind × AnyGoal)) (statements : List Statement) (count : ℕ) (wrong : NotProved)
+    → i < length day.task.entrants → e ≡ get_or day.task.entrants i e → AreChecked folder day (take i day.task.entrants) statements count
+    → AreAskedIn folder day.task day.airspace e (expected_of e.number (rules_of_claims goals)) → GoesOn count (expected_of e.number (rules_of_claims goals)) statements (Some wrong)
+    → IsDayChecked folder day statements (Refused wrong)
 checked_wrong folder day i e goals statements count wrong below item so_far asked goes =
     let more = expected_of e.number (rules_of_claims goals) in
     record {
@@ -70,7 +69,8 @@ checked_wrong folder day i e goals statements count wrong below item so_far aske
     }
 
 -- none of all entrants is wrong
-pub checked_end : (folder : Option FilesByName) (day : DayFiles) (statements : List Statement) (count : ℕ) (said : Checked) → AreChecked folder day day.task.entrants statements count → Ends count statements said → IsDayChecked folder day statements said
+pub checked_end : (folder : Option FilesByName) (day : DayFiles) (statements : List Statement) (count : ℕ) (said : Checked) → AreChecked folder day day.task.entrants statements count
+    → Ends count statements said → IsDayChecked folder day statements said
 checked_end folder day statements count said so_far ends = record {
   entrants = day.task.entrants;
   others = [];

@@ -5,24 +5,23 @@ use Rattle.std.proofs.lemmas.List.Concat.{flat_map-append}
 use Rattle.std.proofs.lemmas.List.Elements.{All-append, All-nil}
 use Rattle.gl_airspace.specs.declared.volume.Airspace.{Airspace}
 use Rattle.gl_desk.specs.Desk.{FilesByName}
-use Rattle.gl_goal.specs.Rule.{IsGoal}
+use Rattle.gl_goal.specs.Goal.{IsGoal}
 use Rattle.gl_proof.specs.Claim.{Statement, claim_text}
 use Rattle.gl_proof.specs.Line.{EndLine, HeadingLine, ended}
 use Rattle.gl_proof.specs.Text.{proof_text}
 use Rattle.gl_proof.specs.declared.version.Version.TheVariants.{Two}
 use Rattle.gl_task.specs.declared.task.Entrant.{Entrant}
 use Rattle.gl_task.specs.declared.task.Task.{Task}
-use Rattle.gl_day.specs.Asked.{Expected}
-use Rattle.gl_day.specs.Expected.{Proves}
+use Rattle.gl_day.specs.Expected.{Expected, Proves}
 use Rattle.gl_day.specs.Flight.{StewardRules}
-use Rattle.gl_day.specs.Laws.Entrants.{AreGoals, asked_flight, asked_goals, some_flight}
-use Rattle.gl_day.specs.Laws.Flights.{completed}
-use Rattle.gl_day.specs.Laws.Texts.{claim_texts-append, proof_text-parts}
+use Rattle.gl_day.proofs.Entrants.{AreGoals, asked_flight, asked_goals, some_flight}
+use Rattle.gl_day.proofs.Flights.{completed}
+use Rattle.gl_day.proofs.Texts.{claim_texts-append, proof_text-parts}
 use Rattle.gl_files.specs.declared.day_files.DayFiles.{DayFiles}
 use Rattle.gl_files.proofs.DayTests.{seen_some}
 use Rattle.gl_tally.specs.Asked.{AreAsked}
 use Rattle.gl_tally.specs.Scored.{IsBegun, IsScored, Scored, statements_of_all, text_so_far}
-use Rattle.gl_tally.proofs.Flights.{zip-append}
+use Rattle.gl_text.proofs.Lists.{AllZip-append}
 
 -- what proves the claims of two parts is what proves those of the first, and what proves those of
 -- the second
@@ -56,7 +55,8 @@ record HaveFlights (folder : Option FilesByName) (day : DayFiles) (stewards : Li
   each : AllZip (IsScored folder day stewards) entrants scored
   are : statements_of_all scored ≡ statements
 
-flights_with : (folder : Option FilesByName) (day : DayFiles) (stewards : List StewardRules) (entrants : List Entrant) (expected : List Expected) (statements : List Statement) → AreAsked folder day.task day.airspace entrants expected → AllZip Proves expected statements → HaveFlights folder day stewards entrants statements
+flights_with : (folder : Option FilesByName) (day : DayFiles) (stewards : List StewardRules) (entrants : List Entrant) (expected : List Expected) (statements : List Statement)
+    → AreAsked folder day.task day.airspace entrants expected → AllZip Proves expected statements → HaveFlights folder day stewards entrants statements
 flights_with folder day stewards [] expected statements none each =
     record { scored = []; each = tt; are = sym (nothing statements (subst (λ (claims : List Expected). AllZip Proves claims statements) none each)) }
 flights_with folder day stewards (entrant ∷ entrants) expected statements (first, rest, (seen, there, asked), others, are) each =
@@ -82,9 +82,9 @@ some_flights folder day stewards (entrant ∷ entrants) =
 
 -- what is asked of entrants are claims of goals
 all_goals : (folder : Option FilesByName) (task : Task) (air : Airspace) (entrants : List Entrant) (expected : List Expected) → AreAsked folder task air entrants expected → AreGoals expected
-all_goals folder task air [] expected none = subst AreGoals (sym none) (All-nil (λ (claim : Expected). IsGoal claim.2))
+all_goals folder task air [] expected none = subst AreGoals (sym none) (All-nil (λ (claim : Expected). IsGoal claim.rule))
 all_goals folder task air (entrant ∷ entrants) expected (first, rest, (seen, there, asked), others, are) =
-    subst AreGoals (sym are) (All-append (λ (claim : Expected). IsGoal claim.2) first rest (asked_goals task air entrant seen first asked) (all_goals folder task air entrants rest others))
+    subst AreGoals (sym are) (All-append (λ (claim : Expected). IsGoal claim.rule) first rest (asked_goals task air entrant seen first asked) (all_goals folder task air entrants rest others))
 
 -- a first part of a text is one of the text with more behind it
 part_of_longer : (count : ℕ) (text more : List ℕ) → (n : ℕ) × (take count text ≡ take n (text ++ more))
@@ -110,7 +110,8 @@ pub record IsPartOfScored (folder : Option FilesByName) (day : DayFiles) (stewar
   pub is : text ≡ take count (proof_text Two (statements_of_all scored))
 
 -- where the claims of the first entrants are begun
-claims_begun : (folder : Option FilesByName) (day : DayFiles) (stewards : List StewardRules) (text : List ℕ) → (begun : IsBegun folder day text) → text ≡ take begun.count (text_so_far begun.statements) → IsPartOfScored folder day stewards text
+claims_begun : (folder : Option FilesByName) (day : DayFiles) (stewards : List StewardRules) (text : List ℕ) → (begun : IsBegun folder day text)
+    → text ≡ take begun.count (text_so_far begun.statements) → IsPartOfScored folder day stewards text
 claims_begun folder day stewards text begun is =
     let statements = begun.statements in
     let goals = all_goals folder day.task day.airspace begun.entrants begun.expected begun.asked in
@@ -118,9 +119,10 @@ claims_begun folder day stewards text begun is =
     let front = flights_with folder day stewards begun.entrants begun.expected (statements ++ more.0) begun.asked more.1 in
     let back = some_flights folder day stewards begun.others in
     let scored = front.scored ++ back.0 in
-    let each = zip-append (IsScored folder day stewards) begun.entrants begun.others front.scored back.0 front.each back.1 in
+    let each = AllZip-append (IsScored folder day stewards) begun.entrants begun.others front.scored back.0 front.each back.1 in
     let all : statements_of_all scored ≡ statements ++ (more.0 ++ statements_of_all back.0) =
-    flat_map-append (λ (s : Scored). s.statements) front.scored back.0 ∙ ap (λ (l : List Statement). l ++ statements_of_all back.0) front.are ∙ append_assoc statements more.0 (statements_of_all back.0) in
+    flat_map-append (λ (s : Scored). s.statements) front.scored back.0 ∙ ap (λ (l : List Statement). l ++ statements_of_all back.0) front.are
+    ∙ append_assoc statements more.0 (statements_of_all back.0) in
     let part = part_of_longer begun.count (text_so_far statements) (flat_map claim_text (more.0 ++ statements_of_all back.0) ++ ended EndLine) in
     record {
       scored = scored;
@@ -130,7 +132,8 @@ claims_begun folder day stewards text begun is =
     }
 
 -- where all claims are proved and the end is begun
-end_begun : (folder : Option FilesByName) (day : DayFiles) (stewards : List StewardRules) (text : List ℕ) → (begun : IsBegun folder day text) → begun.others ≡ [] → AllZip Proves begun.expected begun.statements → text ≡ take begun.count (proof_text Two begun.statements) → IsPartOfScored folder day stewards text
+end_begun : (folder : Option FilesByName) (day : DayFiles) (stewards : List StewardRules) (text : List ℕ) → (begun : IsBegun folder day text) → begun.others ≡ []
+    → AllZip Proves begun.expected begun.statements → text ≡ take begun.count (proof_text Two begun.statements) → IsPartOfScored folder day stewards text
 end_begun folder day stewards text begun none proved is =
     let front = flights_with folder day stewards begun.entrants begun.expected begun.statements begun.asked proved in
     let all : begun.entrants ≡ day.task.entrants = sym (begun.are ∙ ap (λ (l : List Entrant). begun.entrants ++ l) none ∙ append-nil begun.entrants) in
@@ -142,6 +145,8 @@ end_begun folder day stewards text begun none proved is =
     }
 
 -- each of the two
-pub begun_either : (folder : Option FilesByName) (day : DayFiles) (stewards : List StewardRules) (text : List ℕ) (begun : IsBegun folder day text) → (text ≡ take begun.count (text_so_far begun.statements)) ⊎ ((begun.others ≡ []) × AllZip Proves begun.expected begun.statements × (text ≡ take begun.count (proof_text Two begun.statements))) → IsPartOfScored folder day stewards text
+pub begun_either : (folder : Option FilesByName) (day : DayFiles) (stewards : List StewardRules) (text : List ℕ) (begun : IsBegun folder day text)
+    → (text ≡ take begun.count (text_so_far begun.statements)) ⊎ ((begun.others ≡ []) × AllZip Proves begun.expected begun.statements × (text ≡ take begun.count (proof_text Two begun.statements)))
+    → IsPartOfScored folder day stewards text
 begun_either folder day stewards text begun (inl is) = claims_begun folder day stewards text begun is
 begun_either folder day stewards text begun (inr (none, proved, is)) = end_begun folder day stewards text begun none proved is

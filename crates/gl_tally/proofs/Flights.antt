@@ -16,8 +16,6 @@ use Rattle.gl_igc.specs.declared.recording.Recording.{Recording}
 use Rattle.gl_igc.specs.Reading.{Reading, recording_of}
 use Rattle.gl_igc.specs.Recording.{reading_of}
 use Rattle.gl_judge.specs.Claims.{AreExpected}
-use Rattle.gl_goal.specs.Rule.{Rule}
-use Rattle.gl_proof.specs.declared.claim.ClaimKind.{ClaimKind}
 use Rattle.gl_proof.specs.Claim.{IsStatement, Statement, claim_text}
 use Rattle.gl_proof.specs.Line.{EndLine, HeadingLine, ended}
 use Rattle.gl_proof.specs.Text.{proof_text}
@@ -28,27 +26,24 @@ use Rattle.gl_day.specs.declared.flight.Flight.{Flight}
 use Rattle.gl_day.specs.declared.flight.Seen.{Seen}
 use Rattle.gl_day.specs.declared.flight.Seen.TheVariants.{Recorded, Refused}
 use Rattle.gl_day.specs.Day.{IsSheetOf}
-use Rattle.gl_day.specs.Expected.{Proves, expected_of}
+use Rattle.gl_day.specs.Expected.{Expected, Proves, expected_of}
 use Rattle.gl_day.specs.Flight.{IsFlight, IsReadFlight, IsRefusedFlight, IsSeen, StewardRules}
 use Rattle.gl_desk.specs.Limits.{most_bytes}
-use Rattle.gl_day.specs.Laws.Written.{expected_statements}
-use Rattle.gl_day.specs.Laws.Texts.{claim_texts-append, proof_text-parts}
-use Rattle.gl_day.proofs.Walked.{zip-length, zip-push}
-use Rattle.gl_day.specs.Asked.{AreAskedOf, AreAskedOfReading, Expected}
+use Rattle.gl_day.proofs.Written.{expected_statements}
+use Rattle.gl_day.proofs.Texts.{claim_texts-append, proof_text-parts}
+use Rattle.gl_day.specs.Asked.{AreAskedOf, AreAskedOfReading}
 use Rattle.gl_files.specs.declared.day_files.DayFiles.{DayFiles}
-use Rattle.gl_files.proofs.DayTests.{has_file, not_listed}
+use Rattle.gl_files.proofs.DayTests.{not_listed}
 use Rattle.gl_answer.specs.Appending.{HasAppended, HasAppendedPart}
-use Rattle.gl_tally.specs.Asked.{AreAsked, AreAskedIn, HaveFiles, IsEntrantSeen, IsSeenAmong}
+use Rattle.gl_tally.specs.Asked.{AreAsked, AreAskedIn}
+use Rattle.gl_tally.specs.Code.Asked.{HaveFiles, IsEntrantSeen, IsSeenAmong}
 use Rattle.gl_tally.specs.Scored.{ArePartlyProved, IsBegun, IsScored, Scored, flights_of_all, statements_of_all, text_so_far}
-use Rattle.gl_tally.specs.Scoring.{AreEntrantsScored, IsDayDone, IsDayStopped, IsEntrantBegun, IsEntrantScored}
-use Rattle.gl_answer.proofs.Appended.{HasAppended-none, HasAppended-reads, HasAppended-then, HasAppendedPart-memory, HasAppendedPart-then, reads-none, part_after}
-
--- the claims of a list of entrants, and of what was proved of them
-pub zip-append : {A B : Type 0} (R : A → B → Type 0) (a c : List A) (b d : List B) → AllZip R a b → AllZip R c d → AllZip R (a ++ c) (b ++ d)
-zip-append R [] c [] d one two = two
-zip-append R [] c (y ∷ b) d one two = absurd one
-zip-append R (x ∷ a) c [] d one two = absurd one
-zip-append R (x ∷ a) c (y ∷ b) d one two = (one.0, zip-append R a c b d one.1 two)
+use Rattle.gl_tally.specs.Code.Scoring.{AreEntrantsScored, IsEntrantBegun, IsEntrantScored}
+use Rattle.gl_tally.specs.Scoring.{IsDayDone, IsDayStopped}
+use Rattle.gl_answer.proofs.Appended.{HasAppended-then, HasAppendedPart-memory, HasAppendedPart-then, reads-none, part_after}
+use Rattle.gl_text.proofs.Lists.{AllZip-append, AllZip-push, AllZip-length}
+use Rattle.gl_desk.proofs.DeskLemmas.{HasFile-from_names}
+use Rattle.gl_judge.specs.Claimed.{FlightClaim}
 
 -- what a flight has is expected and proved
 record HasAsked (task : Task) (air : Airspace) (entrant : Entrant) (seen : Option (List ℕ)) (statements : List Statement) : Type 0 where
@@ -65,7 +60,8 @@ record HasAskedRead (task : Task) (air : Airspace) (entrant : Entrant) (read : R
   asked : AreAskedOfReading task air entrant read claims
   each : AllZip Proves claims statements
 
-read_asked : (task : Task) (air : Airspace) (stewards : List StewardRules) (entrant : Entrant) (read : Result Reading IgcError) (statements : List Statement) (flight : Flight) → IsReadFlight task air stewards entrant read statements flight → HasAskedRead task air entrant read statements
+read_asked : (task : Task) (air : Airspace) (stewards : List StewardRules) (entrant : Entrant) (read : Result Reading IgcError) (statements : List Statement) (flight : Flight)
+    → IsReadFlight task air stewards entrant read statements flight → HasAskedRead task air entrant read statements
 read_asked task air stewards entrant (Ok reading) statements flight (recording, same, is) = record {
   claims = expected_of entrant.number is.claims;
   asked = (recording, same, is.claims, is.expected, refl);
@@ -77,13 +73,16 @@ read_asked task air stewards entrant (Err error) statements flight (number, refu
   each = none_proved statements is.0;
 }
 
-bytes_asked : (large : Bool) (task : Task) (air : Airspace) (stewards : List StewardRules) (entrant : Entrant) (read : Result Reading IgcError) (statements : List Statement) (flight : Flight) → MatchBool large (IsRefusedFlight task entrant 7 statements flight) (IsReadFlight task air stewards entrant read statements flight) → (claims : List Expected) × MatchBool large (claims ≡ []) (AreAskedOfReading task air entrant read claims) × AllZip Proves claims statements
+bytes_asked : (large : Bool) (task : Task) (air : Airspace) (stewards : List StewardRules) (entrant : Entrant) (read : Result Reading IgcError) (statements : List Statement) (flight : Flight)
+    → MatchBool large (IsRefusedFlight task entrant 7 statements flight) (IsReadFlight task air stewards entrant read statements flight)
+    → (claims : List Expected) × MatchBool large (claims ≡ []) (AreAskedOfReading task air entrant read claims) × AllZip Proves claims statements
 bytes_asked true task air stewards entrant read statements flight is = ([], refl, none_proved statements is.0)
 bytes_asked false task air stewards entrant read statements flight is =
     let has = read_asked task air stewards entrant read statements flight is in
     (has.claims, has.asked, has.each)
 
-flight_asked : (task : Task) (air : Airspace) (stewards : List StewardRules) (entrant : Entrant) (seen : Option (List ℕ)) (statements : List Statement) (flight : Flight) → IsFlight task air stewards entrant seen statements flight → HasAsked task air entrant seen statements
+flight_asked : (task : Task) (air : Airspace) (stewards : List StewardRules) (entrant : Entrant) (seen : Option (List ℕ)) (statements : List Statement) (flight : Flight)
+    → IsFlight task air stewards entrant seen statements flight → HasAsked task air entrant seen statements
 flight_asked task air stewards entrant None statements flight is = record { claims = []; asked = refl; each = none_proved statements is.0 }
 flight_asked task air stewards entrant (Some bytes) statements flight is =
     let has = bytes_asked (nat_lt most_bytes (length bytes)) task air stewards entrant (recording_of bytes (Some task.date)) statements flight is in
@@ -95,7 +94,8 @@ pub record HaveAsked (folder : Option FilesByName) (day : DayFiles) (entrants : 
   pub asked : AreAsked folder day.task day.airspace entrants claims
   pub each : AllZip Proves claims statements
 
-pub all_asked : (folder : Option FilesByName) (day : DayFiles) (stewards : List StewardRules) (entrants : List Entrant) (scored : List Scored) → AllZip (IsScored folder day stewards) entrants scored → HaveAsked folder day entrants (statements_of_all scored)
+pub all_asked : (folder : Option FilesByName) (day : DayFiles) (stewards : List StewardRules) (entrants : List Entrant) (scored : List Scored) → AllZip (IsScored folder day stewards) entrants scored
+    → HaveAsked folder day entrants (statements_of_all scored)
 all_asked folder day stewards [] [] each = record { claims = []; asked = refl; each = tt }
 all_asked folder day stewards [] (s ∷ scored) each = absurd each
 all_asked folder day stewards (e ∷ entrants) [] each = absurd each
@@ -105,11 +105,12 @@ all_asked folder day stewards (e ∷ entrants) (s ∷ scored) ((seen, there, is)
     record {
       claims = first.claims ++ rest.claims;
       asked = (first.claims, rest.claims, (seen, there, first.asked), rest.asked, refl);
-      each = zip-append Proves first.claims rest.claims s.statements (statements_of_all scored) first.each rest.each;
+      each = AllZip-append Proves first.claims rest.claims s.statements (statements_of_all scored) first.each rest.each;
     }
 
 -- one entrant more is asked
-pub asked-push : (folder : Option FilesByName) (task : Task) (air : Airspace) (entrants : List Entrant) (e : Entrant) (claims more : List Expected) → AreAsked folder task air entrants claims → AreAskedIn folder task air e more → AreAsked folder task air (entrants ++ e ∷ []) (claims ++ more)
+pub asked-push : (folder : Option FilesByName) (task : Task) (air : Airspace) (entrants : List Entrant) (e : Entrant) (claims more : List Expected) → AreAsked folder task air entrants claims
+    → AreAskedIn folder task air e more → AreAsked folder task air (entrants ++ e ∷ []) (claims ++ more)
 asked-push folder task air [] e claims more none last =
     (more, [], last, refl, ap (λ (l : List Expected). l ++ more) none ∙ sym (append-nil more))
 asked-push folder task air (x ∷ entrants) e claims more (first, rest, is, others, are) last =
@@ -137,10 +138,11 @@ other_name names proof file new has same = new (subst (Contains names) same has)
 pub have_files : (names : List (List ℕ)) (proof text : List ℕ) (x y : Told) → ListsNames x.folder names → (Contains names proof → ⊥) → HasAppended proof text x y → HaveFiles y.folder names
 have_files names proof text x y lists new written name has =
     has_same x.folder y.folder name (written.appended.2 name (other_name names proof name new has)).1
-    (has_file x.folder names name lists has)
+    (HasFile-from_names x.folder names name lists has)
 
 -- what is seen of an entrant's file is what the folder had
-pub seen_before : (names : List (List ℕ)) (proof text file : List ℕ) (seen : Option (List ℕ)) (x y : Told) → ListsNames x.folder names → (Contains names proof → ⊥) → HasAppended proof text x y → IsSeenAmong names y.folder file seen → IsSeenIn x.folder file seen
+pub seen_before : (names : List (List ℕ)) (proof text file : List ℕ) (seen : Option (List ℕ)) (x y : Told) → ListsNames x.folder names → (Contains names proof → ⊥) → HasAppended proof text x y
+    → IsSeenAmong names y.folder file seen → IsSeenIn x.folder file seen
 seen_before names proof text file None x y lists new written none = not_listed x.folder names file lists none
 seen_before names proof text file (Some bytes) x y lists new written there =
     same_file x.folder y.folder file (Some bytes) (written.appended.2 file (other_name names proof file new there.0)).1 there.1
@@ -155,7 +157,8 @@ text-more front back =
     ap (λ (l : List ℕ). ended (HeadingLine Two) ++ l) (claim_texts-append front back) ∙ sym (append_assoc (ended (HeadingLine Two)) (flat_map claim_text front) (flat_map claim_text back))
 
 -- the heading was appended
-pub none_scored : (day : DayFiles) (stewards : List StewardRules) (proof heading : List ℕ) (x y : Told) → heading ≡ ended (HeadingLine Two) → HasAppended proof heading x y → AreEntrantsScored day stewards [] proof x y []
+pub none_scored : (day : DayFiles) (stewards : List StewardRules) (proof heading : List ℕ) (x y : Told) → heading ≡ ended (HeadingLine Two) → HasAppended proof heading x y
+    → AreEntrantsScored day stewards [] proof x y []
 none_scored day stewards proof heading x y is appended = record {
   scored = [];
   each = tt;
@@ -163,12 +166,14 @@ none_scored day stewards proof heading x y is appended = record {
   appended = subst (λ (text : List ℕ). HasAppended proof text x y) (is ∙ sym (append-nil (ended (HeadingLine Two)))) appended;
 }
 
-push_scored : (day : DayFiles) (stewards : List StewardRules) (entrants : List Entrant) (e : Entrant) (seen : Option (List ℕ)) (proof : List ℕ) (x y z : Told) (flights : List Flight) (flight : Flight) → AreEntrantsScored day stewards entrants proof x y flights → IsSeenIn x.folder e.file seen → IsEntrantScored day stewards e seen proof y z flight → AreEntrantsScored day stewards (entrants ++ e ∷ []) proof x z (flights ++ flight ∷ [])
+push_scored : (day : DayFiles) (stewards : List StewardRules) (entrants : List Entrant) (e : Entrant) (seen : Option (List ℕ)) (proof : List ℕ) (x y z : Told) (flights : List Flight) (flight : Flight)
+    → AreEntrantsScored day stewards entrants proof x y flights → IsSeenIn x.folder e.file seen → IsEntrantScored day stewards e seen proof y z flight
+    → AreEntrantsScored day stewards (entrants ++ e ∷ []) proof x z (flights ++ flight ∷ [])
 push_scored day stewards entrants e seen proof x y z flights flight so_far there is =
     let s : Scored = record { statements = is.statements; flight = flight } in
     record {
       scored = so_far.scored ++ s ∷ [];
-      each = zip-push (IsScored x.folder day stewards) entrants so_far.scored e s so_far.each (seen, there, is.is);
+      each = AllZip-push (IsScored x.folder day stewards) entrants so_far.scored e s so_far.each (seen, there, is.is);
       are = ap (λ (l : List Flight). l ++ flight ∷ []) so_far.are ∙ sym (map-append (λ (o : Scored). o.flight) so_far.scored (s ∷ []));
       appended = subst (λ (text : List ℕ). HasAppended proof text x z)
           (sym (text-more (statements_of_all so_far.scored) is.statements) ∙ ap text_so_far (sym (statements-push so_far.scored s)))
@@ -176,7 +181,10 @@ push_scored day stewards entrants e seen proof x y z flights flight so_far there
     }
 
 -- one entrant more is done
-pub entrants_more : (day : DayFiles) (stewards : List StewardRules) (names : List (List ℕ)) (i : ℕ) (e : Entrant) (seen : Option (List ℕ)) (proof : List ℕ) (x y z : Told) (flights : List Flight) (flight : Flight) → i < length day.task.entrants → e ≡ get_or day.task.entrants i e → ListsNames x.folder names → (Contains names proof → ⊥) → AreEntrantsScored day stewards (take i day.task.entrants) proof x y flights → IsSeenAmong names y.folder e.file seen → IsEntrantScored day stewards e seen proof y z flight → AreEntrantsScored day stewards (take (i + 1) day.task.entrants) proof x z (flights ++ flight ∷ [])
+pub entrants_more : (day : DayFiles) (stewards : List StewardRules) (names : List (List ℕ)) (i : ℕ) (e : Entrant) (seen : Option (List ℕ)) (proof : List ℕ) (x y z : Told) (flights : List Flight)
+    (flight : Flight) → i < length day.task.entrants → e ≡ get_or day.task.entrants i e → ListsNames x.folder names → (Contains names proof → ⊥)
+    → AreEntrantsScored day stewards (take i day.task.entrants) proof x y flights → IsSeenAmong names y.folder e.file seen → IsEntrantScored day stewards e seen proof y z flight
+    → AreEntrantsScored day stewards (take (i + 1) day.task.entrants) proof x z (flights ++ flight ∷ [])
 entrants_more day stewards names i e seen proof x y z flights flight below item lists new so_far there is =
     let all = day.task.entrants in
     let next = take_more all i e below ∙ ap (λ (o : Entrant). take i all ++ o ∷ []) (sym item) in
@@ -188,7 +196,8 @@ entrants_more day stewards names i e seen proof x y z flights flight below item 
 whole : (expected : List Expected) (statements : List Statement) → AllZip Proves expected statements → ArePartlyProved expected statements
 whole expected statements each = record { proved = expected; open_claims = []; parts = sym (append-nil expected); each = each }
 
-begun_at : (day : DayFiles) (stewards : List StewardRules) (entrants others : List Entrant) (proof : List ℕ) (x y : Told) (flights : List Flight) → day.task.entrants ≡ entrants ++ others → (so_far : AreEntrantsScored day stewards entrants proof x y flights) → IsBegun x.folder day (text_so_far (statements_of_all so_far.scored))
+begun_at : (day : DayFiles) (stewards : List StewardRules) (entrants others : List Entrant) (proof : List ℕ) (x y : Told) (flights : List Flight) → day.task.entrants ≡ entrants ++ others
+    → (so_far : AreEntrantsScored day stewards entrants proof x y flights) → IsBegun x.folder day (text_so_far (statements_of_all so_far.scored))
 begun_at day stewards entrants others proof x y flights are so_far =
     let have = all_asked x.folder day stewards entrants so_far.scored so_far.each in
     let text = text_so_far (statements_of_all so_far.scored) in
@@ -205,7 +214,8 @@ begun_at day stewards entrants others proof x y flights are so_far =
     }
 
 -- the heading wasn't appended whole
-pub heading_stopped : (day : DayFiles) (proof heading : List ℕ) (x y : Told) (stop : DeskError) → heading ≡ ended (HeadingLine Two) → HasAppendedPart proof heading x y stop → IsDayStopped day proof x y stop
+pub heading_stopped : (day : DayFiles) (proof heading : List ℕ) (x y : Told) (stop : DeskError) → heading ≡ ended (HeadingLine Two) → HasAppendedPart proof heading x y stop
+    → IsDayStopped day proof x y stop
 heading_stopped day proof heading x y stop is part = record {
   text = heading;
   begun = record {
@@ -223,7 +233,8 @@ heading_stopped day proof heading x y stop is part = record {
 }
 
 -- nothing more was appended
-pub entrants_stopped : (day : DayFiles) (stewards : List StewardRules) (i : ℕ) (proof : List ℕ) (x y z : Told) (flights : List Flight) (stop : DeskError) → AreEntrantsScored day stewards (take i day.task.entrants) proof x y flights → HasAppendedPart proof [] y z stop → IsDayStopped day proof x z stop
+pub entrants_stopped : (day : DayFiles) (stewards : List StewardRules) (i : ℕ) (proof : List ℕ) (x y z : Told) (flights : List Flight) (stop : DeskError)
+    → AreEntrantsScored day stewards (take i day.task.entrants) proof x y flights → HasAppendedPart proof [] y z stop → IsDayStopped day proof x z stop
 entrants_stopped day stewards i proof x y z flights stop so_far part =
     let text = text_so_far (statements_of_all so_far.scored) in
     record {
@@ -234,7 +245,8 @@ entrants_stopped day stewards i proof x y z flights stop so_far part =
     }
 
 -- memory was wanting
-pub entrants_memory : (day : DayFiles) (stewards : List StewardRules) (i : ℕ) (proof : List ℕ) (x y : Told) (flights : List Flight) → AreEntrantsScored day stewards (take i day.task.entrants) proof x y flights → IsDayStopped day proof x y Memory
+pub entrants_memory : (day : DayFiles) (stewards : List StewardRules) (i : ℕ) (proof : List ℕ) (x y : Told) (flights : List Flight)
+    → AreEntrantsScored day stewards (take i day.task.entrants) proof x y flights → IsDayStopped day proof x y Memory
 entrants_memory day stewards i proof x y flights so_far =
     let text = text_so_far (statements_of_all so_far.scored) in
     record {
@@ -248,11 +260,13 @@ partly-append claims more front back each partly = record {
   proved = claims ++ partly.proved;
   open_claims = partly.open_claims;
   parts = ap (λ (l : List Expected). claims ++ l) partly.parts ∙ sym (append_assoc claims partly.proved partly.open_claims);
-  each = zip-append Proves claims partly.proved front back each partly.each;
+  each = AllZip-append Proves claims partly.proved front back each partly.each;
 }
 
 -- the run was stopped at the claims of an entrant
-pub entrant_stopped : (day : DayFiles) (stewards : List StewardRules) (names : List (List ℕ)) (i : ℕ) (e : Entrant) (seen : Option (List ℕ)) (proof : List ℕ) (x y z : Told) (flights : List Flight) (stop : DeskError) → i < length day.task.entrants → e ≡ get_or day.task.entrants i e → ListsNames x.folder names → (Contains names proof → ⊥) → AreEntrantsScored day stewards (take i day.task.entrants) proof x y flights → IsSeenAmong names y.folder e.file seen → IsEntrantBegun day e seen proof y z stop → IsDayStopped day proof x z stop
+pub entrant_stopped : (day : DayFiles) (stewards : List StewardRules) (names : List (List ℕ)) (i : ℕ) (e : Entrant) (seen : Option (List ℕ)) (proof : List ℕ) (x y z : Told) (flights : List Flight)
+    (stop : DeskError) → i < length day.task.entrants → e ≡ get_or day.task.entrants i e → ListsNames x.folder names → (Contains names proof → ⊥)
+    → AreEntrantsScored day stewards (take i day.task.entrants) proof x y flights → IsSeenAmong names y.folder e.file seen → IsEntrantBegun day e seen proof y z stop → IsDayStopped day proof x z stop
 entrant_stopped day stewards names i e seen proof x y z flights stop below item lists new so_far there begun =
     let all = day.task.entrants in
     let next = take_more all i e below ∙ ap (λ (o : Entrant). take i all ++ o ∷ []) (sym item) in
@@ -285,7 +299,8 @@ text-ended statements =
     proof_text-parts Two statements ∙ sym (append_assoc (ended (HeadingLine Two)) (flat_map claim_text statements) (ended EndLine))
 
 -- the end wasn't appended whole
-pub end_stopped : (day : DayFiles) (stewards : List StewardRules) (proof end : List ℕ) (x y z : Told) (flights : List Flight) (stop : DeskError) → end ≡ ended EndLine → AreEntrantsScored day stewards day.task.entrants proof x y flights → HasAppendedPart proof end y z stop → IsDayStopped day proof x z stop
+pub end_stopped : (day : DayFiles) (stewards : List StewardRules) (proof end : List ℕ) (x y z : Told) (flights : List Flight) (stop : DeskError) → end ≡ ended EndLine
+    → AreEntrantsScored day stewards day.task.entrants proof x y flights → HasAppendedPart proof end y z stop → IsDayStopped day proof x z stop
 end_stopped day stewards proof end x y z flights stop is so_far part =
     let statements = statements_of_all so_far.scored in
     let have = all_asked x.folder day stewards day.task.entrants so_far.scored so_far.each in
@@ -308,7 +323,8 @@ end_stopped day stewards proof end x y z flights stop is so_far part =
     }
 
 -- the end was appended
-pub day_done : (day : DayFiles) (stewards : List StewardRules) (proof end sheet : List ℕ) (x y z : Told) (flights : List Flight) → end ≡ ended EndLine → AreEntrantsScored day stewards day.task.entrants proof x y flights → IsSheetOf day.task flights sheet → HasAppended proof end y z → IsDayDone day stewards proof x z sheet
+pub day_done : (day : DayFiles) (stewards : List StewardRules) (proof end sheet : List ℕ) (x y z : Told) (flights : List Flight) → end ≡ ended EndLine
+    → AreEntrantsScored day stewards day.task.entrants proof x y flights → IsSheetOf day.task flights sheet → HasAppended proof end y z → IsDayDone day stewards proof x z sheet
 day_done day stewards proof end sheet x y z flights is so_far said appended =
     let statements = statements_of_all so_far.scored in
     record {
@@ -325,21 +341,24 @@ entrant_seen task entrant bytes (Recorded recording) is = (bytes, refl, is)
 entrant_seen task entrant bytes (Refused flight) is = is
 
 -- what is expected of an entrant whose file is this recording
-pub recorded_asked : (task : Task) (air : Airspace) (entrant : Entrant) (recording : Recording) (bytes : List ℕ) (list : List (ClaimKind × Rule)) → IsSeen task entrant bytes (Recorded recording) → AreExpected task air recording list → AreAskedOf task air entrant (Some bytes) (expected_of entrant.number list)
+pub recorded_asked : (task : Task) (air : Airspace) (entrant : Entrant) (recording : Recording) (bytes : List ℕ) (list : List FlightClaim) → IsSeen task entrant bytes (Recorded recording)
+    → AreExpected task air recording list → AreAskedOf task air entrant (Some bytes) (expected_of entrant.number list)
 recorded_asked task air entrant recording bytes list seen expected =
     let claims = expected_of entrant.number list in
     let read : AreAskedOfReading task air entrant (Ok (reading_of recording)) claims = (recording, refl, list, expected, refl) in
     subst (λ (b : Bool). MatchBool b (claims ≡ []) (AreAskedOfReading task air entrant (recording_of bytes (Some task.date)) claims)) (sym seen.0)
     (subst (λ (r : Result Reading IgcError). AreAskedOfReading task air entrant r claims) (sym seen.1) read)
 
-pub scored_after : (day : DayFiles) (stewards : List StewardRules) (entrant : Entrant) (seen : Option (List ℕ)) (proof : List ℕ) (x y z : Told) (flight : Flight) → OnlyReads None x y → IsEntrantScored day stewards entrant seen proof y z flight → IsEntrantScored day stewards entrant seen proof x z flight
+pub scored_after : (day : DayFiles) (stewards : List StewardRules) (entrant : Entrant) (seen : Option (List ℕ)) (proof : List ℕ) (x y z : Told) (flight : Flight) → OnlyReads None x y
+    → IsEntrantScored day stewards entrant seen proof y z flight → IsEntrantScored day stewards entrant seen proof x z flight
 scored_after day stewards entrant seen proof x y z flight reads is = record {
   statements = is.statements;
   is = is.is;
   appended = HasAppended-then proof [] (flat_map claim_text is.statements) x y z (reads-none proof x y reads) is.appended;
 }
 
-pub begun_after : (day : DayFiles) (entrant : Entrant) (seen : Option (List ℕ)) (proof : List ℕ) (x y z : Told) (stop : DeskError) → OnlyReads None x y → IsEntrantBegun day entrant seen proof y z stop → IsEntrantBegun day entrant seen proof x z stop
+pub begun_after : (day : DayFiles) (entrant : Entrant) (seen : Option (List ℕ)) (proof : List ℕ) (x y z : Told) (stop : DeskError) → OnlyReads None x y → IsEntrantBegun day entrant seen proof y z stop
+    → IsEntrantBegun day entrant seen proof x z stop
 begun_after day entrant seen proof x y z stop reads is = record {
   expected = is.expected;
   asked = is.asked;
@@ -357,15 +376,20 @@ seen_in folder names file (Some bytes) lists there = there.1
 
 -- the names of a folder have their files
 pub lists_files : (folder : Option FilesByName) (names : List (List ℕ)) → ListsNames folder names → HaveFiles folder names
-lists_files folder names lists name has = has_file folder names name lists has
+lists_files folder names lists name has = HasFile-from_names folder names name lists has
 
 -- the claims that are asked for by a recording
-pub asked_recorded : (folder : Option FilesByName) (names : List (List ℕ)) (task : Task) (air : Airspace) (entrant : Entrant) (there : Option (List ℕ)) (seen : Seen) (recording : Recording) (list : List (ClaimKind × Rule)) → ListsNames folder names → IsSeenAmong names folder entrant.file there → IsEntrantSeen task entrant there seen → seen ≡ Recorded recording → AreExpected task air recording list → AreAskedIn folder task air entrant (expected_of entrant.number list)
+pub asked_recorded : (folder : Option FilesByName) (names : List (List ℕ)) (task : Task) (air : Airspace) (entrant : Entrant) (there : Option (List ℕ)) (seen : Seen) (recording : Recording)
+    (list : List FlightClaim) → ListsNames folder names → IsSeenAmong names folder entrant.file there → IsEntrantSeen task entrant there seen → seen ≡ Recorded recording
+    → AreExpected task air recording list → AreAskedIn folder task air entrant (expected_of entrant.number list)
 asked_recorded folder names task air entrant there (Refused flight) recording list lists among is same expected = absurd (cc)
 asked_recorded folder names task air entrant there (Recorded other) recording list lists among (bytes, some, is) same expected =
     let e : other ≡ recording = cc in
-    let seen_is : IsSeen task entrant bytes (Recorded recording) = subst (λ (r : Recording). IsSeen task entrant bytes (Recorded r)) e is in
-    (Some bytes, subst (λ (o : Option (List ℕ)). IsSeenIn folder entrant.file o) some (seen_in folder names entrant.file there lists among), recorded_asked task air entrant recording bytes list seen_is expected)
+    let seen_is : IsSeen task entrant bytes (Recorded recording) = subst (λ (r : Recording). IsSeen task entrant bytes (Recorded r)) e is in (
+      Some bytes,
+      subst (λ (o : Option (List ℕ)). IsSeenIn folder entrant.file o) some (seen_in folder names entrant.file there lists among),
+      recorded_asked task air entrant recording bytes list seen_is expected,
+    )
 
 no_claim : (claims : List Expected) → AllZip Proves claims [] → claims ≡ []
 no_claim [] each = refl
@@ -375,13 +399,18 @@ none_asked : (task : Task) (air : Airspace) (entrant : Entrant) (seen : Option (
 none_asked task air entrant seen has = subst (AreAskedOf task air entrant seen) (no_claim has.claims has.each) has.asked
 
 -- none is asked for where there is no recording
-pub asked_refused : (folder : Option FilesByName) (names : List (List ℕ)) (task : Task) (air : Airspace) (entrant : Entrant) (there : Option (List ℕ)) (seen : Seen) (flight : Flight) → ListsNames folder names → IsSeenAmong names folder entrant.file there → IsEntrantSeen task entrant there seen → seen ≡ Refused flight → AreAskedIn folder task air entrant []
+pub asked_refused : (folder : Option FilesByName) (names : List (List ℕ)) (task : Task) (air : Airspace) (entrant : Entrant) (there : Option (List ℕ)) (seen : Seen) (flight : Flight)
+    → ListsNames folder names → IsSeenAmong names folder entrant.file there → IsEntrantSeen task entrant there seen → seen ≡ Refused flight → AreAskedIn folder task air entrant []
 asked_refused folder names task air entrant there (Recorded recording) flight lists among is same = absurd (cc)
 asked_refused folder names task air entrant there (Refused other) flight lists among is same =
     (there, seen_in folder names entrant.file there lists among, none_asked task air entrant there (flight_asked task air [] entrant there [] other (is air [])))
 
 -- an entrant with a recording is done, by what was seen of the file
-pub scored_seen : (names : List (List ℕ)) (folder : Option FilesByName) (day : DayFiles) (stewards : List StewardRules) (entrant : Entrant) (there : Option (List ℕ)) (seen : Seen) (recording : Recording) (proof : List ℕ) (x y z : Told) (result : Result Flight DeskError) → IsSeenAmong names folder entrant.file there → IsEntrantSeen day.task entrant there seen → seen ≡ Recorded recording → OnlyReads None x y → IfOk result (λ flight. (bytes : List ℕ) → IsSeen day.task entrant bytes (Recorded recording) → IsEntrantScored day stewards entrant (Some bytes) proof y z flight) → IfOk result (λ flight. (o : Option (List ℕ)) × IsSeenAmong names folder entrant.file o × IsEntrantScored day stewards entrant o proof x z flight)
+pub scored_seen : (names : List (List ℕ)) (folder : Option FilesByName) (day : DayFiles) (stewards : List StewardRules) (entrant : Entrant) (there : Option (List ℕ)) (seen : Seen)
+    (recording : Recording) (proof : List ℕ) (x y z : Told) (result : Result Flight DeskError) → IsSeenAmong names folder entrant.file there → IsEntrantSeen day.task entrant there seen
+    → seen ≡ Recorded recording → OnlyReads None x y → IfOk result (λ flight. (bytes : List ℕ) → IsSeen day.task entrant bytes (Recorded recording)
+    → IsEntrantScored day stewards entrant (Some bytes) proof y z flight)
+    → IfOk result (λ flight. (o : Option (List ℕ)) × IsSeenAmong names folder entrant.file o × IsEntrantScored day stewards entrant o proof x z flight)
 scored_seen names folder day stewards entrant there (Refused flight) recording proof x y z result among is same reads scored = absurd (cc)
 scored_seen names folder day stewards entrant there (Recorded other) recording proof x y z (Err stop) among is same reads scored = scored
 scored_seen names folder day stewards entrant there (Recorded other) recording proof x y z (Ok flight) among (bytes, some, is) same reads scored =
@@ -390,7 +419,10 @@ scored_seen names folder day stewards entrant there (Recorded other) recording p
     (Some bytes, subst (λ (o : Option (List ℕ)). IsSeenAmong names folder entrant.file o) some among, scored_after day stewards entrant (Some bytes) proof x y z flight reads (scored bytes seen_is))
 
 -- the run was stopped at such an entrant
-pub begun_seen : (names : List (List ℕ)) (folder : Option FilesByName) (day : DayFiles) (entrant : Entrant) (there : Option (List ℕ)) (seen : Seen) (recording : Recording) (proof : List ℕ) (x y z : Told) (result : Result Flight DeskError) → IsSeenAmong names folder entrant.file there → IsEntrantSeen day.task entrant there seen → seen ≡ Recorded recording → OnlyReads None x y → IfErr result (λ stop. HasAppendedPart proof [] y z stop ⊎ ((bytes : List ℕ) → IsSeen day.task entrant bytes (Recorded recording) → IsEntrantBegun day entrant (Some bytes) proof y z stop)) → IfErr result (λ stop. HasAppendedPart proof [] x z stop ⊎ ((o : Option (List ℕ)) × IsSeenAmong names folder entrant.file o × IsEntrantBegun day entrant o proof x z stop))
+pub begun_seen : (names : List (List ℕ)) (folder : Option FilesByName) (day : DayFiles) (entrant : Entrant) (there : Option (List ℕ)) (seen : Seen) (recording : Recording) (proof : List ℕ)
+    (x y z : Told) (result : Result Flight DeskError) → IsSeenAmong names folder entrant.file there → IsEntrantSeen day.task entrant there seen → seen ≡ Recorded recording → OnlyReads None x y
+    → IfErr result (λ stop. HasAppendedPart proof [] y z stop ⊎ ((bytes : List ℕ) → IsSeen day.task entrant bytes (Recorded recording) → IsEntrantBegun day entrant (Some bytes) proof y z stop))
+    → IfErr result (λ stop. HasAppendedPart proof [] x z stop ⊎ ((o : Option (List ℕ)) × IsSeenAmong names folder entrant.file o × IsEntrantBegun day entrant o proof x z stop))
 begun_seen names folder day entrant there (Refused flight) recording proof x y z result among is same reads begun = absurd (cc)
 begun_seen names folder day entrant there (Recorded other) recording proof x y z (Ok flight) among is same reads begun = begun
 begun_seen names folder day entrant there (Recorded other) recording proof x y z (Err stop) among (bytes, some, is) same reads (inl none) = inl (part_after proof [] x y z stop reads none)
@@ -400,7 +432,9 @@ begun_seen names folder day entrant there (Recorded other) recording proof x y z
     inr (Some bytes, subst (λ (o : Option (List ℕ)). IsSeenAmong names folder entrant.file o) some among, begun_after day entrant (Some bytes) proof x y z stop reads (begun bytes seen_is))
 
 -- an entrant without a recording is done
-pub refused_seen : (names : List (List ℕ)) (folder : Option FilesByName) (day : DayFiles) (stewards : List StewardRules) (entrant : Entrant) (there : Option (List ℕ)) (seen : Seen) (flight : Flight) (proof : List ℕ) (x y : Told) → IsSeenAmong names folder entrant.file there → IsEntrantSeen day.task entrant there seen → seen ≡ Refused flight → OnlyReads None x y → (o : Option (List ℕ)) × IsSeenAmong names folder entrant.file o × IsEntrantScored day stewards entrant o proof x y flight
+pub refused_seen : (names : List (List ℕ)) (folder : Option FilesByName) (day : DayFiles) (stewards : List StewardRules) (entrant : Entrant) (there : Option (List ℕ)) (seen : Seen) (flight : Flight)
+    (proof : List ℕ) (x y : Told) → IsSeenAmong names folder entrant.file there → IsEntrantSeen day.task entrant there seen → seen ≡ Refused flight → OnlyReads None x y
+    → (o : Option (List ℕ)) × IsSeenAmong names folder entrant.file o × IsEntrantScored day stewards entrant o proof x y flight
 refused_seen names folder day stewards entrant there (Recorded recording) flight proof x y among is same reads = absurd (cc)
 refused_seen names folder day stewards entrant there (Refused other) flight proof x y among is same reads =
     let e : other ≡ flight = cc in (
@@ -414,12 +448,17 @@ refused_seen names folder day stewards entrant there (Refused other) flight proo
     )
 
 -- the run was stopped at an entrant, one way or the other
-pub stopped_either : (day : DayFiles) (stewards : List StewardRules) (names : List (List ℕ)) (i : ℕ) (e : Entrant) (proof : List ℕ) (x y z : Told) (flights : List Flight) (stop : DeskError) → i < length day.task.entrants → e ≡ get_or day.task.entrants i e → ListsNames x.folder names → (Contains names proof → ⊥) → AreEntrantsScored day stewards (take i day.task.entrants) proof x y flights → HasAppendedPart proof [] y z stop ⊎ ((seen : Option (List ℕ)) × IsSeenAmong names y.folder e.file seen × IsEntrantBegun day e seen proof y z stop) → IsDayStopped day proof x z stop
+pub stopped_either : (day : DayFiles) (stewards : List StewardRules) (names : List (List ℕ)) (i : ℕ) (e : Entrant) (proof : List ℕ) (x y z : Told) (flights : List Flight) (stop : DeskError)
+    → i < length day.task.entrants → e ≡ get_or day.task.entrants i e → ListsNames x.folder names → (Contains names proof → ⊥)
+    → AreEntrantsScored day stewards (take i day.task.entrants) proof x y flights
+    → HasAppendedPart proof [] y z stop ⊎ ((seen : Option (List ℕ)) × IsSeenAmong names y.folder e.file seen × IsEntrantBegun day e seen proof y z stop) → IsDayStopped day proof x z stop
 stopped_either day stewards names i e proof x y z flights stop below item lists new so_far (inl none) = entrants_stopped day stewards i proof x y z flights stop so_far none
-stopped_either day stewards names i e proof x y z flights stop below item lists new so_far (inr (seen, there, begun)) = entrant_stopped day stewards names i e seen proof x y z flights stop below item lists new so_far there begun
+stopped_either day stewards names i e proof x y z flights stop below item lists new so_far (inr (seen, there, begun)) =
+    entrant_stopped day stewards names i e seen proof x y z flights stop below item lists new so_far there begun
 
 -- memory was wanting behind all entrants
-pub day_memory : (day : DayFiles) (stewards : List StewardRules) (proof : List ℕ) (x y : Told) (flights : List Flight) → AreEntrantsScored day stewards day.task.entrants proof x y flights → IsDayStopped day proof x y Memory
+pub day_memory : (day : DayFiles) (stewards : List StewardRules) (proof : List ℕ) (x y : Told) (flights : List Flight) → AreEntrantsScored day stewards day.task.entrants proof x y flights
+    → IsDayStopped day proof x y Memory
 day_memory day stewards proof x y flights so_far =
     let text = text_so_far (statements_of_all so_far.scored) in
     record {
@@ -433,12 +472,14 @@ length-flights [] = refl
 length-flights (s ∷ scored) = ap suc (length-flights scored)
 
 -- there is a flight for each entrant
-pub flights_count : (day : DayFiles) (stewards : List StewardRules) (entrants : List Entrant) (proof : List ℕ) (x y : Told) (flights : List Flight) → AreEntrantsScored day stewards entrants proof x y flights → length flights ≡ length entrants
+pub flights_count : (day : DayFiles) (stewards : List StewardRules) (entrants : List Entrant) (proof : List ℕ) (x y : Told) (flights : List Flight)
+    → AreEntrantsScored day stewards entrants proof x y flights → length flights ≡ length entrants
 flights_count day stewards entrants proof x y flights so_far =
-    ap length so_far.are ∙ length-flights so_far.scored ∙ sym (zip-length (IsScored x.folder day stewards) entrants so_far.scored so_far.each)
+    ap length so_far.are ∙ length-flights so_far.scored ∙ sym (AllZip-length (IsScored x.folder day stewards) entrants so_far.scored so_far.each)
 
 -- no entrant is left
-pub entrants_all : (day : DayFiles) (stewards : List StewardRules) (i : ℕ) (proof : List ℕ) (x y : Told) (flights : List Flight) → length day.task.entrants ≤ i → AreEntrantsScored day stewards (take i day.task.entrants) proof x y flights → AreEntrantsScored day stewards day.task.entrants proof x y flights
+pub entrants_all : (day : DayFiles) (stewards : List StewardRules) (i : ℕ) (proof : List ℕ) (x y : Told) (flights : List Flight) → length day.task.entrants ≤ i
+    → AreEntrantsScored day stewards (take i day.task.entrants) proof x y flights → AreEntrantsScored day stewards day.task.entrants proof x y flights
 entrants_all day stewards i proof x y flights last so_far =
     subst (λ (l : List Entrant). AreEntrantsScored day stewards l proof x y flights) (take_all i day.task.entrants last) so_far
 
@@ -446,21 +487,25 @@ entrants_all day stewards i proof x y flights last so_far =
 no_texts : (statements : List Statement) → statements ≡ [] → All IsStatement statements
 no_texts statements none = All-same IsStatement statements [] none (All-nil IsStatement)
 
-read_texts : (task : Task) (air : Airspace) (stewards : List StewardRules) (entrant : Entrant) (read : Result Reading IgcError) (statements : List Statement) (flight : Flight) → IsReadFlight task air stewards entrant read statements flight → All IsStatement statements
+read_texts : (task : Task) (air : Airspace) (stewards : List StewardRules) (entrant : Entrant) (read : Result Reading IgcError) (statements : List Statement) (flight : Flight)
+    → IsReadFlight task air stewards entrant read statements flight → All IsStatement statements
 read_texts task air stewards entrant (Ok reading) statements flight (recording, same, is) =
     expected_statements task air recording entrant.number is.claims statements entrant.number_form is.expected is.proved
 read_texts task air stewards entrant (Err error) statements flight (number, refused, is) = no_texts statements is.0
 
-bytes_texts : (large : Bool) (task : Task) (air : Airspace) (stewards : List StewardRules) (entrant : Entrant) (read : Result Reading IgcError) (statements : List Statement) (flight : Flight) → MatchBool large (IsRefusedFlight task entrant 7 statements flight) (IsReadFlight task air stewards entrant read statements flight) → All IsStatement statements
+bytes_texts : (large : Bool) (task : Task) (air : Airspace) (stewards : List StewardRules) (entrant : Entrant) (read : Result Reading IgcError) (statements : List Statement) (flight : Flight)
+    → MatchBool large (IsRefusedFlight task entrant 7 statements flight) (IsReadFlight task air stewards entrant read statements flight) → All IsStatement statements
 bytes_texts true task air stewards entrant read statements flight is = no_texts statements is.0
 bytes_texts false task air stewards entrant read statements flight is = read_texts task air stewards entrant read statements flight is
 
-flight_texts : (task : Task) (air : Airspace) (stewards : List StewardRules) (entrant : Entrant) (seen : Option (List ℕ)) (statements : List Statement) (flight : Flight) → IsFlight task air stewards entrant seen statements flight → All IsStatement statements
+flight_texts : (task : Task) (air : Airspace) (stewards : List StewardRules) (entrant : Entrant) (seen : Option (List ℕ)) (statements : List Statement) (flight : Flight)
+    → IsFlight task air stewards entrant seen statements flight → All IsStatement statements
 flight_texts task air stewards entrant None statements flight is = no_texts statements is.0
 flight_texts task air stewards entrant (Some bytes) statements flight is =
     bytes_texts (nat_lt most_bytes (length bytes)) task air stewards entrant (recording_of bytes (Some task.date)) statements flight is
 
-pub all_texts : (folder : Option FilesByName) (day : DayFiles) (stewards : List StewardRules) (entrants : List Entrant) (scored : List Scored) → AllZip (IsScored folder day stewards) entrants scored → All IsStatement (statements_of_all scored)
+pub all_texts : (folder : Option FilesByName) (day : DayFiles) (stewards : List StewardRules) (entrants : List Entrant) (scored : List Scored) → AllZip (IsScored folder day stewards) entrants scored
+    → All IsStatement (statements_of_all scored)
 all_texts folder day stewards [] [] each = All-nil IsStatement
 all_texts folder day stewards [] (s ∷ scored) each = absurd each
 all_texts folder day stewards (e ∷ entrants) [] each = absurd each

@@ -18,17 +18,20 @@ whole_text : (n : ℕ) (boxes : List Closed) → boxes_text boxes ≡ boxes_text
 whole_text n boxes = ap boxes_text (sym (take-append-drop n boxes)) ∙ boxes_text-append (take n boxes) (drop n boxes)
 
 -- a piece more was appended
-pub piece_more : (proof : List ℕ) (boxes piece : List Closed) (at end : ℕ) (text : List ℕ) (x y z : Told) → take end boxes ≡ take at boxes ++ piece → text ≡ boxes_text piece → HasAppended proof (boxes_text (take at boxes)) x y → HasAppended proof text y z → HasAppended proof (boxes_text (take end boxes)) x z
+pub piece_more : (proof : List ℕ) (boxes piece : List Closed) (at end : ℕ) (text : List ℕ) (x y z : Told) → take end boxes ≡ take at boxes ++ piece → text ≡ boxes_text piece
+    → HasAppended proof (boxes_text (take at boxes)) x y → HasAppended proof text y z → HasAppended proof (boxes_text (take end boxes)) x z
 piece_more proof boxes piece at end text x y z next is one two =
     subst (λ (t : List ℕ). HasAppended proof t x z)
     (ap (λ (t : List ℕ). boxes_text (take at boxes) ++ t) is ∙ sym (boxes_text-append (take at boxes) piece) ∙ ap boxes_text (sym next))
     (HasAppended-then proof (boxes_text (take at boxes)) text x y z one two)
 
 -- a first part of a piece was
-pub piece_stopped : (proof : List ℕ) (boxes piece : List Closed) (at end : ℕ) (text : List ℕ) (x y z : Told) (stop : DeskError) → take end boxes ≡ take at boxes ++ piece → text ≡ boxes_text piece → HasAppended proof (boxes_text (take at boxes)) x y → HasAppendedPart proof text y z stop → HasAppendedPart proof (boxes_text boxes) x z stop
+pub piece_stopped : (proof : List ℕ) (boxes piece : List Closed) (at end : ℕ) (text : List ℕ) (x y z : Told) (stop : DeskError) → take end boxes ≡ take at boxes ++ piece → text ≡ boxes_text piece
+    → HasAppended proof (boxes_text (take at boxes)) x y → HasAppendedPart proof text y z stop → HasAppendedPart proof (boxes_text boxes) x z stop
 piece_stopped proof boxes piece at end text x y z stop next is one two =
     let part = HasAppendedPart-then proof (boxes_text (take at boxes)) text x y z stop one two in
-    let so_far = subst (λ (t : List ℕ). HasAppendedPart proof t x z stop) (ap (λ (t : List ℕ). boxes_text (take at boxes) ++ t) is ∙ sym (boxes_text-append (take at boxes) piece) ∙ ap boxes_text (sym next)) part in
+    let so_far = subst (λ (t : List ℕ). HasAppendedPart proof t x z stop) (ap (λ (t : List ℕ). boxes_text (take at boxes) ++ t) is ∙ sym (boxes_text-append (take at boxes) piece)
+    ∙ ap boxes_text (sym next)) part in
     subst (λ (t : List ℕ). HasAppendedPart proof t x z stop) (sym (whole_text end boxes))
     (HasAppendedPart-longer proof (boxes_text (take end boxes)) (boxes_text (drop end boxes)) x z stop so_far)
 
@@ -49,18 +52,21 @@ next_piece boxes at end order =
     ap (λ (n : ℕ). take n boxes) (sym same) ∙ take-add at (end - at) boxes
 
 -- the front of a claim wasn't appended whole
-pub claim_front_stopped : (proof : List ℕ) (statement : Statement) (x y : Told) (stop : DeskError) → HasAppendedPart proof (front_text statement) x y stop → HasAppendedPart proof (claim_text statement) x y stop
+pub claim_front_stopped : (proof : List ℕ) (statement : Statement) (x y : Told) (stop : DeskError) → HasAppendedPart proof (front_text statement) x y stop
+    → HasAppendedPart proof (claim_text statement) x y stop
 claim_front_stopped proof statement x y stop part =
     subst (λ (t : List ℕ). HasAppendedPart proof t x y stop) (sym (claim_text-parts statement))
     (HasAppendedPart-longer proof (front_text statement) (spelled (map box_line statement.boxes)) x y stop part)
 
 -- a list more was appended
-list_text : (lists : List (Vec Closed Global)) (i : ℕ) (list : Vec Closed Global) (boxes : List Closed) → i < length lists → list ≡ get_or lists i list → boxes ≡ list.items → boxes_text (in_lists (take i lists)) ++ boxes_text boxes ≡ boxes_text (in_lists (take (i + 1) lists))
+list_text : (lists : List (Vec Closed Global)) (i : ℕ) (list : Vec Closed Global) (boxes : List Closed) → i < length lists → list ≡ get_or lists i list → boxes ≡ list.items
+    → boxes_text (in_lists (take i lists)) ++ boxes_text boxes ≡ boxes_text (in_lists (take (i + 1) lists))
 list_text lists i list boxes below item is =
     let front = in_lists (take i lists) in
     ap (λ (l : List Closed). boxes_text front ++ boxes_text l) is ∙ sym (ap boxes_text (lists_more lists i list below item) ∙ boxes_text-append front list.items)
 
-pub list_more : (proof : List ℕ) (lists : List (Vec Closed Global)) (i : ℕ) (list : Vec Closed Global) (boxes : List Closed) (x y z : Told) → i < length lists → list ≡ get_or lists i list → boxes ≡ list.items → HasAppended proof (boxes_text (in_lists (take i lists))) x y → HasAppended proof (boxes_text boxes) y z → HasAppended proof (boxes_text (in_lists (take (i + 1) lists))) x z
+pub list_more : (proof : List ℕ) (lists : List (Vec Closed Global)) (i : ℕ) (list : Vec Closed Global) (boxes : List Closed) (x y z : Told) → i < length lists → list ≡ get_or lists i list
+    → boxes ≡ list.items → HasAppended proof (boxes_text (in_lists (take i lists))) x y → HasAppended proof (boxes_text boxes) y z → HasAppended proof (boxes_text (in_lists (take (i + 1) lists))) x z
 list_more proof lists i list boxes x y z below item is one two =
     subst (λ (t : List ℕ). HasAppended proof t x z) (list_text lists i list boxes below item is)
     (HasAppended-then proof (boxes_text (in_lists (take i lists))) (boxes_text boxes) x y z one two)
@@ -72,14 +78,18 @@ lists_text n lists =
     ∙ boxes_text-append (in_lists (take n lists)) (in_lists (drop n lists))
 
 -- a first part of a list was
-pub list_stopped : (proof : List ℕ) (lists : List (Vec Closed Global)) (i : ℕ) (list : Vec Closed Global) (boxes : List Closed) (x y z : Told) (stop : DeskError) → i < length lists → list ≡ get_or lists i list → boxes ≡ list.items → HasAppended proof (boxes_text (in_lists (take i lists))) x y → HasAppendedPart proof (boxes_text boxes) y z stop → HasAppendedPart proof (boxes_text (in_lists lists)) x z stop
+pub list_stopped : (proof : List ℕ) (lists : List (Vec Closed Global)) (i : ℕ) (list : Vec Closed Global) (boxes : List Closed) (x y z : Told) (stop : DeskError) → i < length lists
+    → list ≡ get_or lists i list → boxes ≡ list.items → HasAppended proof (boxes_text (in_lists (take i lists))) x y → HasAppendedPart proof (boxes_text boxes) y z stop
+    → HasAppendedPart proof (boxes_text (in_lists lists)) x z stop
 list_stopped proof lists i list boxes x y z stop below item is one two =
-    let so_far = subst (λ (t : List ℕ). HasAppendedPart proof t x z stop) (list_text lists i list boxes below item is) (HasAppendedPart-then proof (boxes_text (in_lists (take i lists))) (boxes_text boxes) x y z stop one two) in
+    let so_far = subst (λ (t : List ℕ). HasAppendedPart proof t x z stop) (list_text lists i list boxes below item is)
+    (HasAppendedPart-then proof (boxes_text (in_lists (take i lists))) (boxes_text boxes) x y z stop one two) in
     subst (λ (t : List ℕ). HasAppendedPart proof t x z stop) (sym (lists_text (i + 1) lists))
     (HasAppendedPart-longer proof (boxes_text (in_lists (take (i + 1) lists))) (boxes_text (in_lists (drop (i + 1) lists))) x z stop so_far)
 
 -- the text of a claim is its front, the boxes of its lists and those of the last one
-claim_parts : (claim : Claim) (lists : List (Vec Closed Global)) (last : List Closed) → lists ≡ claim.cells.lists.items → last ≡ claim.cells.last.items → front_text (statement_of claim) ++ (boxes_text (in_lists lists) ++ boxes_text last) ≡ claim_text (statement_of claim)
+claim_parts : (claim : Claim) (lists : List (Vec Closed Global)) (last : List Closed) → lists ≡ claim.cells.lists.items → last ≡ claim.cells.last.items
+    → front_text (statement_of claim) ++ (boxes_text (in_lists lists) ++ boxes_text last) ≡ claim_text (statement_of claim)
 claim_parts claim lists last same also =
     let front = front_text (statement_of claim) in
     ap (λ (t : List ℕ). front ++ t) (sym (boxes_text-append (in_lists lists) last))
@@ -88,7 +98,9 @@ claim_parts claim lists last same also =
     ∙ sym (claim_text-parts (statement_of claim))
 
 -- the boxes were appended behind its front
-pub claim_appended : (proof : List ℕ) (claim : Claim) (lists : List (Vec Closed Global)) (last : List Closed) (w x y z : Told) (result : Result (Unit {0}) DeskError) → lists ≡ claim.cells.lists.items → last ≡ claim.cells.last.items → HasAppended proof (front_text (statement_of claim)) w x → HasAppended proof (boxes_text (in_lists lists)) x y → OnOk result (HasAppended proof (boxes_text last) y z) → OnOk result (HasAppended proof (claim_text (statement_of claim)) w z)
+pub claim_appended : (proof : List ℕ) (claim : Claim) (lists : List (Vec Closed Global)) (last : List Closed) (w x y z : Told) (result : Result (Unit {0}) DeskError) → lists ≡ claim.cells.lists.items
+    → last ≡ claim.cells.last.items → HasAppended proof (front_text (statement_of claim)) w x → HasAppended proof (boxes_text (in_lists lists)) x y
+    → OnOk result (HasAppended proof (boxes_text last) y z) → OnOk result (HasAppended proof (claim_text (statement_of claim)) w z)
 claim_appended proof claim lists last w x y z (Err stop) same also front middle back = back
 claim_appended proof claim lists last w x y z (Ok done) same also front middle back =
     let boxes = boxes_text (in_lists lists) in
@@ -97,7 +109,8 @@ claim_appended proof claim lists last w x y z (Ok done) same also front middle b
     (HasAppended-then proof boxes (boxes_text last) x y z middle back))
 
 -- or not all of those of its lists
-pub claim_lists_stopped : (proof : List ℕ) (claim : Claim) (lists : List (Vec Closed Global)) (w x y : Told) (stop : DeskError) → lists ≡ claim.cells.lists.items → HasAppended proof (front_text (statement_of claim)) w x → HasAppendedPart proof (boxes_text (in_lists lists)) x y stop → HasAppendedPart proof (claim_text (statement_of claim)) w y stop
+pub claim_lists_stopped : (proof : List ℕ) (claim : Claim) (lists : List (Vec Closed Global)) (w x y : Told) (stop : DeskError) → lists ≡ claim.cells.lists.items
+    → HasAppended proof (front_text (statement_of claim)) w x → HasAppendedPart proof (boxes_text (in_lists lists)) x y stop → HasAppendedPart proof (claim_text (statement_of claim)) w y stop
 claim_lists_stopped proof claim lists w x y stop same front part =
     let boxes = boxes_text (in_lists lists) in
     let last = claim.cells.last.items in
@@ -106,7 +119,9 @@ claim_lists_stopped proof claim lists w x y stop same front part =
     (HasAppendedPart-longer proof boxes (boxes_text last) x y stop part))
 
 -- or not all of the last ones
-pub claim_stopped : (proof : List ℕ) (claim : Claim) (lists : List (Vec Closed Global)) (last : List Closed) (w x y z : Told) (result : Result (Unit {0}) DeskError) → lists ≡ claim.cells.lists.items → last ≡ claim.cells.last.items → HasAppended proof (front_text (statement_of claim)) w x → HasAppended proof (boxes_text (in_lists lists)) x y → IfErr result (HasAppendedPart proof (boxes_text last) y z) → IfErr result (HasAppendedPart proof (claim_text (statement_of claim)) w z)
+pub claim_stopped : (proof : List ℕ) (claim : Claim) (lists : List (Vec Closed Global)) (last : List Closed) (w x y z : Told) (result : Result (Unit {0}) DeskError) → lists ≡ claim.cells.lists.items
+    → last ≡ claim.cells.last.items → HasAppended proof (front_text (statement_of claim)) w x → HasAppended proof (boxes_text (in_lists lists)) x y
+    → IfErr result (HasAppendedPart proof (boxes_text last) y z) → IfErr result (HasAppendedPart proof (claim_text (statement_of claim)) w z)
 claim_stopped proof claim lists last w x y z (Ok done) same also front middle back = back
 claim_stopped proof claim lists last w x y z (Err stop) same also front middle back =
     let boxes = boxes_text (in_lists lists) in

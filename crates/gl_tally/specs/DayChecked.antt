@@ -7,9 +7,9 @@ use Rattle.gl_day.specs.declared.fault.Checked.{Checked}
 use Rattle.gl_day.specs.declared.fault.Checked.TheVariants.{Refused}
 use Rattle.gl_day.specs.declared.fault.NotProved.{NotProved}
 use Rattle.gl_day.specs.Checked.{IsChecked, IsNotProved}
-use Rattle.gl_day.specs.Asked.{Expected}
 use Rattle.gl_files.specs.declared.day_files.DayFiles.{DayFiles}
 use Rattle.gl_tally.specs.Asked.{AreAsked}
+use Rattle.gl_day.specs.Expected.{Expected}
 
 -- what is said of a proof by the claims that are expected of some entrants: where others follow, a
 -- claim is wrong; else the proof has exactly these claims, or doesn't

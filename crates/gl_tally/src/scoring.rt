@@ -9,8 +9,9 @@ ghost use Rattle.gl_day.specs.Expected.{expected_of};
 ghost use Rattle.gl_judge.specs.Claimed.{rules_of_claims};
 ghost use Rattle.gl_day.specs.Flight.{IsSeen, steward_rules};
 ghost use Rattle.gl_answer.specs.Appending.{HasAppended, HasAppendedPart};
-ghost use Rattle.gl_tally.specs.Asked.{HaveFiles, IsSeenAmong};
-ghost use Rattle.gl_tally.specs.Scoring.{AreClaimed, AreClaimedPartly, AreEntrantsScored, IsDayDone, IsDayStopped, IsEntrantBegun, IsEntrantScored};
+ghost use Rattle.gl_tally.specs.Code.Asked.{HaveFiles, IsSeenAmong};
+ghost use Rattle.gl_tally.specs.Code.Scoring.{AreClaimed, AreClaimedPartly, AreEntrantsScored, IsEntrantBegun, IsEntrantScored};
+ghost use Rattle.gl_tally.specs.Scoring.{IsDayDone, IsDayStopped};
 
 use crate::seeing::see_entrant;
 use gl_answer::append_piece;

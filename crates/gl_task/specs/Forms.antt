@@ -13,7 +13,8 @@ is_text a b = pointwise nat_eq a b
 abbrev pub is_in_file_name : ℕ → Bool
 is_in_file_name c = nat_le 32 c && not (c == byte "/")
 
--- the name of a file: 1 to 128 bytes, none of them below 32 or a slash, and not the folder itself or
+-- the name of a file: 1 to 128 bytes, none of them below 32 or a slash, and not the folder itself
+-- or
 -- the one above it
 abbrev pub is_file_name : List ℕ → Bool
 is_file_name text =

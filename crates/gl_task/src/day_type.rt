@@ -6,7 +6,8 @@ use gl_zone::Line;
 pub enum Kind {
     /// The zones are flown in their order, as fast as can be.
     Racing,
-    /// As far as can be through the zones; a flight below the minimum, in seconds, counts as long as
+    /// As far as can be through the zones; a flight below the minimum, in seconds, counts as long
+    /// as
     /// that.
     Area { minimum: u32 },
 }

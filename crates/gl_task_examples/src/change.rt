@@ -3,7 +3,8 @@ use anyhow::{Context, Result};
 use csv::{ReaderBuilder, StringRecord};
 use std::{fs, io};
 
-/// A change of a task: what it shows, the task's file, a part of its text, what stands in its place,
+/// A change of a task: what it shows, the task's file, a part of its text, what stands in its
+/// place,
 /// and the expected answer.
 #[derive(Drop)]
 struct Change<'a> {

@@ -1,4 +1,5 @@
-//! Worked examples of the task file, as a program: it says which changes of the tasks in `data/` are
+//! Worked examples of the task file, as a program: it says which changes of the tasks in `data/`
+//! are
 //! answered otherwise than `stdin` expects, and then what it reads from whole tasks. The gate
 //! compares what it says with `stdout`. The expected answers and values were computed by hand or by
 //! an independent program.

@@ -96,7 +96,13 @@ keyed_sector zone part table = (search keyed_optional, (search keyed_needed, (se
 
 keyed_part : (zone part : ℕ) (value : Data) → AreKeyed (part_tests zone part value)
 unfolding part_tests
-keyed_part zone part value = (search keyed_right, (search keyed_optional, keyed_if (has (codes "radius") (table_of value)) (sector_tests zone part (table_of value)) (keyed_sector zone part (table_of value))))
+keyed_part zone part value = (
+  search keyed_right,
+  (
+    search keyed_optional,
+    keyed_if (has (codes "radius") (table_of value)) (sector_tests zone part (table_of value)) (keyed_sector zone part (table_of value)),
+  ),
+)
 
 keyed_zone : (zone : ℕ) (value : Data) → AreKeyed (zone_tests zone value)
 unfolding zone_tests
@@ -111,7 +117,16 @@ keyed_gate finish = (search keyed_needed, (search keyed_needed, tt))
 
 keyed_finish : (file : Members) → AreKeyed (finish_tests file)
 unfolding finish_tests
-keyed_finish file = (search keyed_needed, (search keyed_needed, (search keyed_optional, keyed_if (has (codes "ring") (table_at (codes "finish") file)) (gate_tests (table_at (codes "finish") file)) (keyed_gate (table_at (codes "finish") file)))))
+keyed_finish file = (
+  search keyed_needed,
+  (
+    search keyed_needed,
+    (
+      search keyed_optional,
+      keyed_if (has (codes "ring") (table_at (codes "finish") file)) (gate_tests (table_at (codes "finish") file)) (keyed_gate (table_at (codes "finish") file)),
+    ),
+  ),
+)
 
 keyed_rules : (file : Members) → AreKeyed (rules_tests file)
 unfolding rules_tests

@@ -18,7 +18,8 @@ behind_last : day_count (pos 2100) 1 1 ≡ 4_419_435
 unfolding day_count days_of_years days_of_months
 behind_last = refl
 
-civil_range : (year month day : ℕ) → 2_000 ≤ year → year ≤ 2_099 → IsDate (pos year) (pos month) (pos day) → (pos first_day ≤ℤ days_from_civil (pos year) month day) × (days_from_civil (pos year) month day ≤ℤ pos last_day)
+civil_range : (year month day : ℕ) → 2_000 ≤ year → year ≤ 2_099 → IsDate (pos year) (pos month) (pos day)
+    → (pos first_day ≤ℤ days_from_civil (pos year) month day) × (days_from_civil (pos year) month day ≤ℤ pos last_day)
 civil_range year month day from to date =
     let count = days_from_civil-day_count (pos year) month day in
     let civil : IsCivilDate (pos year) month day = (date.0, (omega (arith, ints, date.1.0), omega (arith, ints, date.1.1)), (omega (arith, ints, date.2.0), omega (arith, ints, date.2.1))) in

@@ -8,7 +8,8 @@ use Rattle.gl_sphere.specs.Sphere.{quarter_turn, half_turn}
 use Rattle.gl_sphere.specs.declared.place.Grid.{Grid}
 use Rattle.gl_task_file.specs.Places.{grid_by_tests, grid_at}
 
-by_tests : (g : Grid) (south north west east : Bool) (a : le_z (neg_ℤ (pos quarter_turn)) g.lat ≡ south) (b : le_z g.lat (pos quarter_turn) ≡ north) (c : le_z (neg_ℤ (pos half_turn)) g.lon ≡ west) (d : le_z g.lon (pos half_turn) ≡ east) → grid_by_tests g.lat g.lon south north west east a b c d ≡ Some g
+by_tests : (g : Grid) (south north west east : Bool) (a : le_z (neg_ℤ (pos quarter_turn)) g.lat ≡ south) (b : le_z g.lat (pos quarter_turn) ≡ north) (c : le_z (neg_ℤ (pos half_turn)) g.lon ≡ west)
+    (d : le_z g.lon (pos half_turn) ≡ east) → grid_by_tests g.lat g.lon south north west east a b c d ≡ Some g
 by_tests g true true true true a b c d = ap Some (Grid-same _ g refl refl)
 by_tests g false north west east a b c d = absurd (subst T a g.lat_in_range.0.le)
 by_tests g true false west east a b c d = absurd (subst T b g.lat_in_range.1.le)

@@ -15,6 +15,7 @@ use Rattle.gl_zone.specs.declared.zone.Zone.{Zone}
 use Rattle.gl_task_file.specs.Meaning.{Each, IsPart, IsZone}
 use Rattle.gl_task.specs.SamePoint.{is_same_vector}
 use Rattle.gl_task.specs.Ranges.{is_round, is_round_its_centre}
+use Rattle.gl_text.proofs.Lists.{one_some}
 
 same_number : (a b : ℤ) → a ≡ b → int_eq a b ≡ true
 same_number a b is = (Decides-int_eq a b).1 is
@@ -24,14 +25,12 @@ unfolding is_same_vector
 same_vector a b is =
     and_from _ _ (and_from _ _ (same_number a.x b.x (ap (λ (v : Vec3). v.x) is)) (same_number a.y b.y (ap (λ (v : Vec3). v.y) is))) (same_number a.z b.z (ap (λ (v : Vec3). v.z) is))
 
-one : {X : Type 0} (o : Option X) (a b : X) → o ≡ Some a → o ≡ Some b → a ≡ b
-one o a b is_a is_b = cc
-
 part_is_round : (at : Option Grid) (centre : Vec3) (value : Data) (part : Part) → option_map written_vector at ≡ Some centre → IsPart at value part → is_round centre part ≡ true
-part_is_round at centre value (zone_part.Cylinder cylinder) is says = same_vector centre cylinder.centre (one _ _ _ is says.0)
-part_is_round at centre value (zone_part.Sector sector) is says = same_vector centre sector.centre (one _ _ _ is says.1.at)
+part_is_round at centre value (zone_part.Cylinder cylinder) is says = same_vector centre cylinder.centre (one_some _ _ _ is says.0)
+part_is_round at centre value (zone_part.Sector sector) is says = same_vector centre sector.centre (one_some _ _ _ is says.1.at)
 
-parts_are_round : (at : Option Grid) (centre : Vec3) (values : List Data) (parts : List Part) → option_map written_vector at ≡ Some centre → Each (IsPart at) values parts → list_all (is_round centre) parts ≡ true
+parts_are_round : (at : Option Grid) (centre : Vec3) (values : List Data) (parts : List Part) → option_map written_vector at ≡ Some centre → Each (IsPart at) values parts
+    → list_all (is_round centre) parts ≡ true
 parts_are_round at centre [] [] is each = refl
 parts_are_round at centre [] (part ∷ parts) is each = absurd each
 parts_are_round at centre (value ∷ values) [] is each = absurd each

@@ -11,10 +11,13 @@ abbrev pub number_of : Entrant → List ℕ
 number_of entrant = entrant.number
 
 -- whether the entrant at a place has the number of an earlier one
-pub one_more : (all : List Entrant) (n : ℕ) (rest others : List Entrant) (entrant : Entrant) (hit : Bool) (r : Option ℕ) → rest ≡ entrant ∷ others → hit ≡ list_any (λ e. is_text entrant.number e.number) (take n all) → r ≡ repeated_after (map number_of (take n all)) (n + 1) (map number_of rest) → r ≡ cond hit (Some (n + 1)) (repeated_after (map number_of (take n all) ++ number_of entrant ∷ []) (n + 1 + 1) (map number_of others))
+pub one_more : (all : List Entrant) (n : ℕ) (rest others : List Entrant) (entrant : Entrant) (hit : Bool) (r : Option ℕ) → rest ≡ entrant ∷ others
+    → hit ≡ list_any (λ e. is_text entrant.number e.number) (take n all) → r ≡ repeated_after (map number_of (take n all)) (n + 1) (map number_of rest)
+    → r ≡ cond hit (Some (n + 1)) (repeated_after (map number_of (take n all) ++ number_of entrant ∷ []) (n + 1 + 1) (map number_of others))
 one_more all n rest others entrant hit r cut hit_is decides =
     decides ∙ ap (λ (l : List Entrant). repeated_after (map number_of (take n all)) (n + 1) (map number_of l)) cut
-    ∙ ap (λ (b : Bool). cond b (Some (n + 1)) (repeated_after (map number_of (take n all) ++ number_of entrant ∷ []) (n + 1 + 1) (map number_of others))) (any_map (is_text entrant.number) number_of (take n all) ∙ sym hit_is)
+    ∙ ap (λ (b : Bool). cond b (Some (n + 1)) (repeated_after (map number_of (take n all) ++ number_of entrant ∷ []) (n + 1 + 1) (map number_of others)))
+    (any_map (is_text entrant.number) number_of (take n all) ∙ sym hit_is)
 
 -- the entrants before the next place
 pub taken_more : (all rest others : List Entrant) (n : ℕ) (entrant : Entrant) → n < length all → rest ≡ drop n all → rest ≡ entrant ∷ others → take (n + 1) all ≡ take n all ++ entrant ∷ []

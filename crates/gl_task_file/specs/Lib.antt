@@ -1,12 +1,11 @@
+pub mod Code
 pub mod Keys
 pub mod Meaning
 pub mod Places
 pub mod Reading
-pub mod Sections
 pub mod Tests
 pub mod Twice
 pub mod Values
-pub mod Words
 pub use Rattle.gl_igc.specs.Dates
 pub use Rattle.gl_sphere.specs.Place
 pub use Rattle.gl_sphere.specs.PlaceText

@@ -30,7 +30,9 @@ centimetres metres = 100 * metres
 -- a line by the keys of its table
 pub record IsLine (table : Members) (line : Line) : Type 0 where
   pub centre : option_map written_vector (said (codes "at") place table) ≡ Some line.centre
-  pub towards : option_map written_vector (said (codes "towards") (place_away_from (said (codes "at") place table)) table) ≡ Some line.towards
+  pub towards : option_map written_vector
+      (said (codes "towards") (place_away_from (said (codes "at") place table)) table)
+      ≡ Some line.towards
   pub half : option_map centimetres (said (codes "half") (whole 1 500_000) table) ≡ Some line.half
 
 -- the first and the last second of the start by the keys of its table
@@ -86,7 +88,8 @@ pub record IsSector (centre : Option Grid) (table : Members) (sector : Sector) :
   pub north : option_map written_north centre ≡ Some sector.north
   pub east : option_map written_east centre ≡ Some sector.east
   pub inner : sector.inner ≡ centimetres (inner_by table)
-  pub outer : option_map centimetres (said (codes "outer") (whole (max 1 (inner_by table)) 500_000) table) ≡ Some sector.outer
+  pub outer : option_map centimetres
+      (said (codes "outer") (whole (max 1 (inner_by table)) 500_000) table) ≡ Some sector.outer
   pub from : said (codes "from") (whole 0 359_999) table ≡ Some sector.from
   pub to : said (codes "to") (whole 0 359_999) table ≡ Some sector.to
 
@@ -94,7 +97,8 @@ pub record IsSector (centre : Option Grid) (table : Members) (sector : Sector) :
 abbrev pub IsPart : Option Grid → Data → Part → Type 0
 IsPart centre value (zone_part.Cylinder cylinder) =
     (option_map written_vector centre ≡ Some cylinder.centre)
-    × (option_map centimetres (said (codes "radius") (whole 1 500_000) (table_of value)) ≡ Some cylinder.radius)
+    × (option_map centimetres (said (codes "radius") (whole 1 500_000) (table_of value))
+    ≡ Some cylinder.radius)
 IsPart centre value (zone_part.Sector sector) =
     (has (codes "radius") (table_of value) ≡ false) × IsSector centre (table_of value) sector
 
@@ -107,8 +111,10 @@ Each Is (value ∷ values) (x ∷ xs) = Is value x × Each Is values xs
 
 -- a zone by the keys of its table
 pub record IsZone (value : Data) (zone : Zone) : Type 0 where
-  pub centre : option_map written_vector (said (codes "at") place (table_of value)) ≡ Some zone.centre
-  pub parts : Each (IsPart (said (codes "at") place (table_of value))) (list_at (codes "part") (table_of value)) zone.parts
+  pub centre : option_map written_vector (said (codes "at") place (table_of value))
+      ≡ Some zone.centre
+  pub parts : Each (IsPart (said (codes "at") place (table_of value)))
+      (list_at (codes "part") (table_of value)) zone.parts
 
 -- the kind of a task by its keys
 abbrev pub IsKind : Members → code_kind.Kind → Type 0

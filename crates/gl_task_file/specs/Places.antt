@@ -13,7 +13,9 @@ abbrev pub at_most_by : (a b : ℤ) → le_z a b ≡ true → a ≤ℤ b
 at_most_by a b is = le_z_yes (T_from_true (le_z a b) is)
 
 -- the place with these angles, where all four tests of its range hold
-abbrev pub grid_by_tests : (lat lon : ℤ) (south north west east : Bool) → le_z (neg_ℤ (pos quarter_turn)) lat ≡ south → le_z lat (pos quarter_turn) ≡ north → le_z (neg_ℤ (pos half_turn)) lon ≡ west → le_z lon (pos half_turn) ≡ east → Option Grid
+abbrev pub grid_by_tests : (lat lon : ℤ) (south north west east : Bool)
+    → le_z (neg_ℤ (pos quarter_turn)) lat ≡ south → le_z lat (pos quarter_turn) ≡ north
+    → le_z (neg_ℤ (pos half_turn)) lon ≡ west → le_z lon (pos half_turn) ≡ east → Option Grid
 grid_by_tests lat lon true true true true a b c d = Some
     (record {
       lat = lat;
@@ -26,7 +28,9 @@ grid_by_tests lat lon _ _ _ _ a b c d = None
 -- the place with a latitude and a longitude
 unfoldable pub grid_at : ℤ × ℤ → Option Grid
 grid_at angles =
-    grid_by_tests angles.0 angles.1 (le_z (neg_ℤ (pos quarter_turn)) angles.0) (le_z angles.0 (pos quarter_turn)) (le_z (neg_ℤ (pos half_turn)) angles.1) (le_z angles.1 (pos half_turn)) refl refl refl refl
+    grid_by_tests angles.0 angles.1 (le_z (neg_ℤ (pos quarter_turn)) angles.0)
+    (le_z angles.0 (pos quarter_turn)) (le_z (neg_ℤ (pos half_turn)) angles.1)
+    (le_z angles.1 (pos half_turn)) refl refl refl refl
 
 -- the place that a text of 17 bytes says
 unfoldable pub grid_of_text : List ℕ → Option Grid

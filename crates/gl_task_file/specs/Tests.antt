@@ -43,7 +43,8 @@ lists_tests file =
 unfoldable pub pilot_tests : Members → List Test
 pilot_tests start =
     optional (key_of 37 0 0) (codes "wait") (whole 0 3_600) start
-    ∷ (if has (codes "wait") start then needed (key_of 38 0 0) (codes "width") (whole 1 3_600) start ∷ [] else [])
+    ∷ (if has (codes "wait") start then needed (key_of 38 0 0) (codes "width") (whole 1 3_600) start
+    ∷ [] else [])
 
 -- the start: its line, its times and its announcement; lengths in metres
 unfoldable pub start_tests : Members → List Test
@@ -51,10 +52,12 @@ start_tests file =
     let start = table_at (codes "start") file in
     needed (key_of 7 0 0) (codes "start") as_table file
     ∷ needed (key_of 8 0 0) (codes "at") place start
-    ∷ needed (key_of 9 0 0) (codes "towards") (place_away_from (said (codes "at") place start)) start
+    ∷ needed (key_of 9 0 0) (codes "towards")
+    (place_away_from (said (codes "at") place start)) start
     ∷ needed (key_of 10 0 0) (codes "half") (whole 1 500_000) start
     ∷ needed (key_of 11 0 0) (codes "open") (whole 0 100_000) start
-    ∷ needed (key_of 12 0 0) (codes "close") (whole (unwrap_or (said (codes "open") (whole 0 100_000) start) 0) 100_000) start
+    ∷ needed (key_of 12 0 0) (codes "close")
+    (whole (unwrap_or (said (codes "open") (whole 0 100_000) start) 0) 100_000) start
     ∷ pilot_tests start
 
 -- a sector: its two lengths and its two radials, in thousandths of a degree
@@ -100,7 +103,8 @@ zones_tests file =
 abbrev pub gate_tests : Members → List Test
 gate_tests finish =
     needed (key_of 24 0 0) (codes "half") (whole 1 500_000) finish
-    ∷ needed (key_of 25 0 0) (codes "towards") (place_away_from (said (codes "at") place finish)) finish
+    ∷ needed (key_of 25 0 0) (codes "towards")
+    (place_away_from (said (codes "at") place finish)) finish
     ∷ []
 
 -- the finish: a ring, or a line
@@ -125,7 +129,8 @@ rule_tests rules =
 -- the local rules: their section, and its keys
 unfoldable pub rules_tests : Members → List Test
 rules_tests file =
-    optional (key_of 26 0 0) (codes "rules") as_table file ∷ rule_tests (table_at (codes "rules") file)
+    optional (key_of 26 0 0) (codes "rules") as_table file ∷ rule_tests
+    (table_at (codes "rules") file)
 
 -- one entrant: its number, its name, its handicap and its file
 unfoldable pub entrant_tests : ℕ → Data → List Test

@@ -48,7 +48,8 @@ impl ReadItem for EntrantReader {
 #[tactic(auto, unfolding(crate::specs::Tests::entrants_tests))]
 pub fn read_entrants(alloc: Global, file: &Table) -> Result<Vec<Entrant>, TaskError>
     ensures ok { IfOk result
-        (λ entrants. Each IsEntrant (list_at (codes "entrant") (table_view file.now)) entrants.items) }
+        (λ entrants.
+        Each IsEntrant (list_at (codes "entrant") (table_view file.now)) entrants.items) }
     ensures some { IfOk result (λ entrants. 1 ≤ vec_len entrants) }
     ensures few { IfOk result (λ entrants. vec_len entrants ≤ 200) }
     ensures passes { IfOk result

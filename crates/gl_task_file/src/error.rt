@@ -5,7 +5,8 @@ use std::alloc::{AllocError, AllocFailed};
 use std::fmt;
 use thiserror::Error;
 
-/// A key of the task file: its row in the table of keys (docs/task-file.md), the item of its list, and
+/// A key of the task file: its row in the table of keys (docs/task-file.md), the item of its list,
+/// and
 /// the part. Items and parts count from 1; where there is none the number is 0.
 #[derive(Clone, Copy, Debug, PartialEq, Eq)]
 pub struct Key {

@@ -36,7 +36,8 @@ fn has_file_name_bytes(text: &str) -> bool
     text.as_bytes().iter().all(|byte| is_in_file_name(*byte))
 }
 
-/// Whether a text is the name of a file: 1 to 128 bytes, none of them below 32 or a slash, and neither
+/// Whether a text is the name of a file: 1 to 128 bytes, none of them below 32 or a slash, and
+/// neither
 /// `.` nor `..`.
 pub fn is_file_name(text: &str) -> bool
     ensures { result ≡ is_file_name text.now }

@@ -8,7 +8,7 @@ ghost use Rattle.gl_task_file.specs.Meaning.{IsKind};
 ghost use Rattle.gl_task.specs.Ranges.{has_minimum};
 ghost use Rattle.gl_task_file.specs.Tests.{minimum_test};
 ghost use Rattle.gl_task_file.specs.Values.{file_name, kind};
-ghost use Rattle.gl_task_file.specs.Words.{kind_word};
+ghost use Rattle.gl_task_file.specs.Code.Sections.{kind_word};
 
 use crate::error::TaskError;
 use crate::key::{needed_whole, optional_file_name, row};
@@ -40,10 +40,12 @@ pub fn read_minimum(file: &Table, word: KindWord) -> Result<Kind, TaskError>
 
 /// The name of the airspace file, if there is one.
 pub fn read_airspace(alloc: Global, file: &Table) -> Result<Option<Name>, TaskError>
-    ensures ok { IfOk result (λ name. said (codes "airspace") file_name (table_view file.now) ≡ name) }
+    ensures ok { IfOk result (λ name. said (codes "airspace") file_name (table_view file.now)
+        ≡ name) }
     ensures form { IfOk result (λ name. ForSome name (λ text. IsTrue (is_file_name text))) }
     ensures passes { IfOk result
-        (λ name. optional (key_of 5 0 0) (codes "airspace") file_name (table_view file.now) ≡ None) }
+        (λ name.
+        optional (key_of 5 0 0) (codes "airspace") file_name (table_view file.now) ≡ None) }
     ensures refused { IfErr result (λ e. e ≢ Memory
         → optional (key_of 5 0 0) (codes "airspace") file_name (table_view file.now) ≡ Some e) }
 {

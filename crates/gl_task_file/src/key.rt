@@ -8,7 +8,7 @@ ghost use Rattle.gl_task_file.specs.Keys.{needed, optional, right_value, said, l
 ghost use Rattle.gl_task.specs.Limits.{first_day, last_day};
 ghost use Rattle.gl_task_file.specs.Places.{is_same_point, place, place_away_from};
 ghost use Rattle.gl_task_file.specs.Values.{day as date, file_name, kind, name as name_of, number, whole};
-ghost use Rattle.gl_task_file.specs.Words.{kind_word};
+ghost use Rattle.gl_task_file.specs.Code.Sections.{kind_word};
 
 use crate::day::day;
 use crate::error::{Key, TaskError};
@@ -37,15 +37,18 @@ pub fn row_of_item(row: u32, item: u32) -> Key
 
 /// The value under a key.
 pub fn value_at<'a>(table: &'a Table, name: &str) -> Option<&'a Value>
-    ensures { option_map (λ value. view value.now) result ≡ get_member name.now (table_view table.now) }
+    ensures { option_map (λ value. view value.now) result
+        ≡ get_member name.now (table_view table.now) }
 {
     table.get(name)
 }
 
 /// The value under a key that has to be there.
 pub fn needed<'a>(table: &'a Table, name: &str, key: Key) -> Result<&'a Value, TaskError>
-    ensures ok { IfOk result (λ value. get_member name.now (table_view table.now) ≡ Some (view value.now)) }
-    ensures missing { IfErr result (λ e. (get_member name.now (table_view table.now) ≡ None) × (e ≡ Missing key)) }
+    ensures ok { IfOk result (λ value. get_member name.now (table_view table.now)
+        ≡ Some (view value.now)) }
+    ensures missing { IfErr result
+        (λ e. (get_member name.now (table_view table.now) ≡ None) × (e ≡ Missing key)) }
 {
     value_at(table, name).ok_or(TaskError::Missing(key))
 }
@@ -112,7 +115,8 @@ pub fn needed_place_away_from(
     key: Key,
     from: Grid,
 ) -> Result<Grid, TaskError>
-    ensures ok { IfOk result (λ x. said name.now (place_away_from (Some from)) (table_view table.now) ≡ Some x) }
+    ensures ok { IfOk result (λ x. said name.now (place_away_from (Some from))
+        (table_view table.now) ≡ Some x) }
     ensures passes { IfOk result
         (λ x. needed key name.now (place_away_from (Some from)) (table_view table.now) ≡ None) }
     ensures refused { IfErr result
@@ -125,7 +129,8 @@ pub fn needed_place_away_from(
 
 /// The table under a key that has to be there.
 pub fn needed_table<'a>(table: &'a Table, name: &str, key: Key) -> Result<&'a Table, TaskError>
-    ensures ok { IfOk result (λ x. said name.now as_table (table_view table.now) ≡ Some (table_view x.now)) }
+    ensures ok { IfOk result (λ x. said name.now as_table (table_view table.now)
+        ≡ Some (table_view x.now)) }
     ensures passes { IfOk result
         (λ x. needed key name.now as_table (table_view table.now) ≡ None) }
     ensures refused { IfErr result
@@ -142,7 +147,8 @@ pub fn optional_table<'a>(
     key: Key,
 ) -> Result<Option<&'a Table>, TaskError>
     ensures ok { IfOk result
-        (λ found. said name.now as_table (table_view table.now) ≡ option_map (λ x. table_view x.now) found) }
+        (λ found. said name.now as_table (table_view table.now)
+        ≡ option_map (λ x. table_view x.now) found) }
     ensures there { IfOk result
         (λ found. is_some (get_member name.now (table_view table.now)) ≡ is_some found) }
     ensures passes { IfOk result
@@ -158,7 +164,8 @@ pub fn optional_table<'a>(
 
 /// The values of the list under a key that has to be there.
 pub fn needed_list<'a>(table: &'a Table, name: &str, key: Key) -> Result<&'a [Value], TaskError>
-    ensures ok { IfOk result (λ x. said name.now list_of (table_view table.now) ≡ Some (map view x.now)) }
+    ensures ok { IfOk result (λ x. said name.now list_of (table_view table.now)
+        ≡ Some (map view x.now)) }
     ensures passes { IfOk result
         (λ x. needed key name.now list_of (table_view table.now) ≡ None) }
     ensures refused { IfErr result
@@ -175,7 +182,8 @@ pub fn optional_list<'a>(
     key: Key,
 ) -> Result<Option<&'a [Value]>, TaskError>
     ensures ok { IfOk result
-        (λ found. said name.now list_of (table_view table.now) ≡ option_map (λ x. map view x.now) found) }
+        (λ found. said name.now list_of (table_view table.now)
+        ≡ option_map (λ x. map view x.now) found) }
     ensures there { IfOk result
         (λ found. is_some (get_member name.now (table_view table.now)) ≡ is_some found) }
     ensures passes { IfOk result

@@ -25,4 +25,5 @@ mod word;
 mod zones;
 
 pub use error::{Key, TaskError};
+pub use form::{is_file_name, is_name, is_number};
 pub use reader::read_task;

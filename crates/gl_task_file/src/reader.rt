@@ -40,8 +40,10 @@ fn read_table(alloc: Global, file: &Table) -> Result<Task, TaskError>
 
 /// Reads the task of a day from the bytes of its file.
 ///
-/// Every key, with its row, its unit and its range, is in docs/task-file.md. A text that isn't TOML in
-/// UTF-8 is `Toml`; else the keys are tested in the order of their rows, and the first test that fails
+/// Every key, with its row, its unit and its range, is in docs/task-file.md. A text that isn't TOML
+/// in
+/// UTF-8 is `Toml`; else the keys are tested in the order of their rows, and the first test that
+/// fails
 /// is the answer.
 pub fn read_task(alloc: Global, text: &[u8]) -> Result<Task, TaskError>
     ensures ok { IfOk result (IsReadFrom text.now) }

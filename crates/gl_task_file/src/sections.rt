@@ -6,7 +6,7 @@ ghost use Rattle.gl_task_file.specs.Keys.{first_failed, list_at};
 ghost use Rattle.gl_task_file.specs.Meaning.{Each, IsEntrant, IsFinish, IsRules, IsZone};
 ghost use Rattle.gl_task.specs.Numbers.{all_differ};
 ghost use Rattle.gl_task.specs.Ranges.{is_in_range, is_round_its_centre};
-ghost use Rattle.gl_task_file.specs.Sections.{IsCourse, IsDay, IsHead};
+ghost use Rattle.gl_task_file.specs.Code.Sections.{IsCourse, IsDay, IsHead};
 ghost use Rattle.gl_task_file.specs.Tests.{course_tests, day_tests, head_tests, numbered_tests, people_tests, plan_tests, way_tests};
 
 use crate::course::Course;

@@ -1,7 +1,7 @@
 ghost use Rattle.std.specs.Prelude.{◌≡◌, option_map};
 ghost use Rattle.toml.specs.View.{view};
 ghost use Rattle.gl_task_file.specs.Values.{kind, kind_of, list_word, list_word_of};
-ghost use Rattle.gl_task_file.specs.Words.{kind_word, asked_list};
+ghost use Rattle.gl_task_file.specs.Code.Sections.{kind_word, asked_list};
 
 use toml::Value;
 

@@ -12,11 +12,13 @@ use Rattle.std.proofs.lemmas.Int.Digits.{digits_value_more}
 use Rattle.gl_text.specs.Digits.{number_of}
 
 -- one digit more
-pub digits_so_far : (text : List ℕ) (i : ℕ) → i < length text → is_ascii_digit (get_or text i 0) ≡ true → list_all is_ascii_digit (take i text) ≡ true → list_all is_ascii_digit (take (i + 1) text) ≡ true
+pub digits_so_far : (text : List ℕ) (i : ℕ) → i < length text → is_ascii_digit (get_or text i 0) ≡ true → list_all is_ascii_digit (take i text) ≡ true
+    → list_all is_ascii_digit (take (i + 1) text) ≡ true
 digits_so_far text i within digit before =
     list_all_more is_ascii_digit text i 0 within ∙ ap (λ (b : Bool). b && is_ascii_digit (get_or text i 0)) before ∙ digit
 
-pub value_so_far : (text : List ℕ) (i n : ℕ) → i < length text → IsInRange 48 57 (get_or text i 0) → n ≡ digits_value 10 (take i text) → n * 10 + (get_or text i 0 - 48) ≡ digits_value 10 (take (i + 1) text)
+pub value_so_far : (text : List ℕ) (i n : ℕ) → i < length text → IsInRange 48 57 (get_or text i 0) → n ≡ digits_value 10 (take i text)
+    → n * 10 + (get_or text i 0 - 48) ≡ digits_value 10 (take (i + 1) text)
 value_so_far text i n within digit before =
     omega (arith, digits_value_more 10 text i within, digit_value_digit (get_or text i 0) digit)
 

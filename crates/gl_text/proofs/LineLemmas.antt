@@ -47,7 +47,8 @@ split_at_feed text at end h more feed =
     drop-drop (end - at) at text ∙ ap (λ (k : ℕ). drop k text) there ∙ drop_more text end 0 more ∙ ap (λ (b : ℕ). b ∷ drop (end + 1) text) feed in
     sym (take-append-drop (end - at) (drop at text)) ∙ ap (λ (r : List ℕ). slice_range text at end ++ r) rest
 
-pieces_of-drop_ended : (text : List ℕ) (at end : ℕ) → IsEnd text at end → end < length text → get_or text end 0 ≡ 10 → pieces_of (drop at text) ≡ slice_range text at end ∷ pieces_of (drop (end + 1) text)
+pieces_of-drop_ended : (text : List ℕ) (at end : ℕ) → IsEnd text at end → end < length text → get_or text end 0 ≡ 10
+    → pieces_of (drop at text) ≡ slice_range text at end ∷ pieces_of (drop (end + 1) text)
 pieces_of-drop_ended text at end h more feed =
     ap pieces_of (split_at_feed text at end h more feed) ∙ pieces_of-ended (slice_range text at end) (drop (end + 1) text) (no_feed_between text at end h)
 
@@ -111,20 +112,23 @@ strip_nothing text at end after within other =
     ])
 
 -- the line of a text, and those behind it
-pub next_of_lines : (text : List ℕ) (at end next to : ℕ) → IsEnd text at end → IsNext text end next → at < length text → strip_carriage_return (slice_range text at end) ≡ slice_range text at to → lines_of (drop at text) ≡ slice_range text at to ∷ lines_of (drop next text)
+pub next_of_lines : (text : List ℕ) (at end next to : ℕ) → IsEnd text at end → IsNext text end next → at < length text → strip_carriage_return (slice_range text at end) ≡ slice_range text at to
+    → lines_of (drop at text) ≡ slice_range text at to ∷ lines_of (drop next text)
 unfolding lines_of
 next_of_lines text at end next to h n more line =
     ap (map strip_carriage_return) (pieces_of-drop text at end next h n more) ∙ ap (λ (p : List ℕ). p ∷ lines_of (drop next text)) line
 
 -- a line that an LF ends is as it is, whatever follows the text
-pub ended_of_lines : (text more : List ℕ) (at end to : ℕ) → IsEnd text at end → end < length text → get_or text end 0 ≡ 10 → strip_carriage_return (slice_range text at end) ≡ slice_range text at to → lines_of (drop at text ++ more) ≡ slice_range text at to ∷ lines_of (drop (end + 1) text ++ more)
+pub ended_of_lines : (text more : List ℕ) (at end to : ℕ) → IsEnd text at end → end < length text → get_or text end 0 ≡ 10 → strip_carriage_return (slice_range text at end) ≡ slice_range text at to
+    → lines_of (drop at text ++ more) ≡ slice_range text at to ∷ lines_of (drop (end + 1) text ++ more)
 unfolding lines_of
 ended_of_lines text more at end to h inside feed is =
     let line = slice_range text at end in
     let rest = drop (end + 1) text in
     let split : drop at text ++ more ≡ line ++ 10 ∷ (rest ++ more) =
     ap (λ (t : List ℕ). t ++ more) (split_at_feed text at end h inside feed) ∙ append_assoc line (10 ∷ rest) more in
-    ap (λ (t : List ℕ). map strip_carriage_return (pieces_of t)) split ∙ ap (map strip_carriage_return) (pieces_of-ended line (rest ++ more) (no_feed_between text at end h)) ∙ ap (λ (p : List ℕ). p ∷ lines_of (rest ++ more)) is
+    ap (λ (t : List ℕ). map strip_carriage_return (pieces_of t)) split ∙ ap (map strip_carriage_return) (pieces_of-ended line (rest ++ more) (no_feed_between text at end h))
+    ∙ ap (λ (p : List ℕ). p ∷ lines_of (rest ++ more)) is
 
 -- no line is left at the end of a text
 pub lines_of-end : (text : List ℕ) (at : ℕ) → at ≡ length text → lines_of (drop at text) ≡ []

@@ -42,13 +42,15 @@ leading_zero_is_no_number text long leads n small e =
     ]
 
 -- one digit more is read
-pub read_more : (text : List ℕ) (i n : ℕ) → i < length text → IsInRange 48 57 (get_or text i 0) → AllDigits 10 (take i text) → n ≡ digits_value 10 (take i text) → AllDigits 10 (take (i + 1) text) × (n * 10 + (get_or text i 0 - 48) ≡ digits_value 10 (take (i + 1) text))
+pub read_more : (text : List ℕ) (i n : ℕ) → i < length text → IsInRange 48 57 (get_or text i 0) → AllDigits 10 (take i text) → n ≡ digits_value 10 (take i text)
+    → AllDigits 10 (take (i + 1) text) × (n * 10 + (get_or text i 0 - 48) ≡ digits_value 10 (take (i + 1) text))
 read_more text i n within digit digits value =
     let worth = digit_value_digit (get_or text i 0) digit in
     (digits_more 10 text i within digits (omega arith), omega (arith, digits_value_more 10 text i within))
 
 -- a digit that doesn't read, or that makes the number too large
-pub stop_is_no_number : (text : List ℕ) (i n : ℕ) → i < length text → AllDigits 10 (take i text) → n ≡ digits_value 10 (take i text) → (IsInRange 48 57 (get_or text i 0) × (n * 10 + (get_or text i 0 - 48) < 2 ^ 64) → ⊥) → IsNoNumber text
+pub stop_is_no_number : (text : List ℕ) (i n : ℕ) → i < length text → AllDigits 10 (take i text) → n ≡ digits_value 10 (take i text)
+    → (IsInRange 48 57 (get_or text i 0) × (n * 10 + (get_or text i 0 - 48) < 2 ^ 64) → ⊥) → IsNoNumber text
 stop_is_no_number text i n within digits value stops m small e =
     let all : AllDigits 10 text = subst (AllDigits 10) (sym e) (digits_decimal own m small) in
     let digit = digit_at text i all within in
@@ -130,7 +132,8 @@ fixed_parts places n small =
     rw (parts, point, take_at front back (length front) refl, drop_at front back (length front) refl)
 
 -- the next digit from the end, put before those that are there
-pub put_last_digit : (count n : ℕ) (buffer : List ℕ) → count < length buffer → drop (length buffer - count) buffer ≡ last_digits count n → drop (length buffer - suc count) (set buffer (length buffer - 1 - count) (48 + n / 10 ^ count % 10)) ≡ last_digits (suc count) n
+pub put_last_digit : (count n : ℕ) (buffer : List ℕ) → count < length buffer → drop (length buffer - count) buffer ≡ last_digits count n
+    → drop (length buffer - suc count) (set buffer (length buffer - 1 - count) (48 + n / 10 ^ count % 10)) ≡ last_digits (suc count) n
 put_last_digit count n buffer room there =
     let place : length buffer - suc count ≡ length buffer - 1 - count = omega arith in
     let inside : length buffer - 1 - count < length buffer = omega arith in
@@ -154,7 +157,8 @@ pub div_more : (n k : ℕ) → n / 10 ^ k / 10 ≡ n / 10 ^ (k + 1)
 div_more n k = rw (div-div-eq-div-mul, add-one, pow-suc)
 
 -- the whole part, the point and the last digits, as they stand in a buffer
-pub fixed_written : (places n start whole : ℕ) (front back : List ℕ) → places ≤ 9 → n < 2 ^ 64 → whole ≡ n / 10 ^ places → length front ≡ 21 → drop (21 - places) front ≡ last_digits places n → length back ≡ 21 → drop start back ≡ decimal whole ++ drop (20 - places) (set front (20 - places) 46) → take (21 - start) (drop start back) ≡ fixed places n
+pub fixed_written : (places n start whole : ℕ) (front back : List ℕ) → places ≤ 9 → n < 2 ^ 64 → whole ≡ n / 10 ^ places → length front ≡ 21 → drop (21 - places) front ≡ last_digits places n
+    → length back ≡ 21 → drop start back ≡ decimal whole ++ drop (20 - places) (set front (20 - places) 46) → take (21 - start) (drop start back) ≡ fixed places n
 fixed_written places n start whole front back most small is_whole front_long last back_long written =
     let inside : 20 - places < length front = omega arith in
     let next : 20 - places + 1 ≡ 21 - places = omega arith in

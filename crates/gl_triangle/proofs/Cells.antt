@@ -1,39 +1,39 @@
 -- What the spans of a cell say of the legal tuples in it.
-use Rattle.std.proofs.Common.{◌≡◌, ◌∙◌, sym, ap, refl, subst, ℕ, ◌+◌, ◌-◌, ◌<◌, ◌≤◌, Bool, true, false, List, [], ◌∷◌, length, get_or, map, slice_get, slice_set, arith}
+use Rattle.std.proofs.Common.{◌≡◌, ◌∙◌, sym, ap, subst, ℕ, ◌+◌, ◌-◌, ◌<◌, ◌≤◌, List, [], ◌∷◌, length, get_or, map, slice_get, slice_set, arith}
 use Rattle.std.specs.Prelude.{IfNone, IfSome, IsTrue, None, Option, Some, max, min}
 use Rattle.std.proofs.lemmas.Option.{get_or_from_slice_get}
-use Rattle.std.specs.Bool.{OnFalse}
 use Rattle.gl_box.specs.declared.span.Span.{Span}
-use Rattle.gl_box.specs.Cell.{Holds, ends, point}
+use Rattle.gl_box.specs.Cell.{Holds, ends}
 use Rattle.gl_box.specs.Halves.{IsSingle, span_at}
-use Rattle.gl_box.specs.Laws.Nodes.{single_is_point}
+use Rattle.gl_box.proofs.Nodes.{single_is_point}
 use Rattle.gl_igc.specs.declared.fix.Fix.{Fix}
-use Rattle.gl_box.specs.Laws.Held.{holds_at}
+use Rattle.gl_box.proofs.Held.{holds_at}
 use Rattle.gl_hull.specs.Box.{IsInside}
 use Rattle.gl_goal.specs.declared.triangle.TriangleGoal.{TriangleGoal}
 use Rattle.gl_goal.specs.Chain.{distance}
 use Rattle.gl_goal.specs.Free.{numbers_between}
-use Rattle.gl_goal.specs.Rule.{IsLegal, IsTuple, value, whole_cell}
+use Rattle.gl_goal.specs.Goal.{IsLegal, IsTuple, value, whole_cell}
 use Rattle.gl_goal.specs.Triangle.{closes, triangle_goal}
 use Rattle.gl_goal.specs.TriangleGoal.{triangle_rule}
-use Rattle.gl_goal.specs.Laws.Chain.{distance-at_least, distance-at_most, hull_of-holds}
-use Rattle.gl_goal.specs.Laws.Closing.{closes-wider}
-use Rattle.gl_goal.specs.Laws.Free.{length-numbers_between}
+use Rattle.gl_goal.specs.Lemmas.Chain.{distance-at_least, distance-at_most, hull_of-holds}
+use Rattle.gl_goal.specs.Lemmas.Closing.{closes-wider}
+use Rattle.gl_goal.specs.Lemmas.Free.{length-numbers_between}
 use Rattle.gl_triangle.specs.declared.legs.Legs.{Legs}
 use Rattle.gl_triangle.specs.declared.node.Node.{Node}
 use Rattle.gl_triangle.specs.declared.places.Places.{Places}
 use Rattle.gl_triangle.specs.declared.spans.Corner.{Corner}
 use Rattle.gl_triangle.specs.declared.spans.Corner.TheVariants.{First, Second, Third}
 use Rattle.gl_triangle.specs.declared.spans.Spans.{Spans}
-use Rattle.gl_triangle.specs.Legs.{AreAtMost, AreFair, AreLegs, hull_in}
+use Rattle.gl_triangle.specs.Code.Legs.{AreAtMost, AreFair, AreLegs, hull_in}
 use Rattle.gl_triangle.specs.declared.order.Order.{Order}
-use Rattle.gl_triangle.specs.Node.{AreNumbered, HoldsNoMore, IsNode, fixes_of}
-use Rattle.gl_triangle.specs.Order.{Counts, IsOrder, in_time, number_at, ordered_fixes, worth_at}
-use Rattle.gl_triangle.specs.Places.{AreAmong, places_in}
-use Rattle.gl_triangle.specs.Spans.{AreWithin, all_places, axis_of, cell_of}
+use Rattle.gl_triangle.specs.Code.Node.{AreNumbered, HoldsNoMore, IsNode, fixes_of}
+use Rattle.gl_triangle.specs.Code.Order.{Counts, IsOrder, in_time, number_at, ordered_fixes, worth_at}
+use Rattle.gl_triangle.specs.Code.Places.{AreAmong, places_in}
+use Rattle.gl_triangle.specs.Code.Spans.{AreWithin, all_places, axis_of, cell_of}
 use Rattle.gl_triangle.proofs.Fair.{legs_fair}
 use Rattle.gl_triangle.proofs.Orders.{counted_round, fix_at_place, length-ordered, number_below}
 use Rattle.gl_triangle.proofs.Rounds.{IsRound, length-fixes_of, legal_places}
+use Rattle.gl_box.proofs.Lows.{point_low}
 
 -- places with fixes are a tuple
 pub among_tuple : (goal : TriangleGoal) (places : Places) → AreAmong (fixes_of goal) places → IsTuple (triangle_rule goal).axes (places_in places)
@@ -52,12 +52,15 @@ pub record Measured (legs : Legs) (all : ℕ) : Type 0 where
   pub sum_is : all ≡ first + second + third
 
 -- the fix at a place of a span lies in the hull of the span
-in_hull : (fixes : List Fix) (span : Span) (place : ℕ) (fix : Fix) → span.hi < length fixes → span.lo ≤ place → place ≤ span.hi → slice_get fixes place ≡ Some fix → IsInside (hull_in fixes span) fix.at
+in_hull : (fixes : List Fix) (span : Span) (place : ℕ) (fix : Fix) → span.hi < length fixes → span.lo ≤ place → place ≤ span.hi → slice_get fixes place ≡ Some fix
+    → IsInside (hull_in fixes span) fix.at
 in_hull fixes span place fix within low high is =
     (hull_of-holds fixes (ends span) place fix low high within (get_or_from_slice_get fixes place fix fix is)).inside
 
 -- three places in spans whose fixes have fair legs
-pub legs_held : (fixes ordered : List Fix) (order : Order) (spans : Spans) (legs : Legs) (worth p q r : ℕ) → ((place : ℕ) (fix : Fix) → place < length ordered → slice_get fixes (number_at order place) ≡ Some fix → slice_get ordered place ≡ Some fix) → AreWithin ordered spans → AreLegs ordered spans legs → Holds (cell_of spans) (p ∷ q ∷ r ∷ []) → IsRound fixes worth (number_at order p) (number_at order q) (number_at order r) → Measured legs worth
+pub legs_held : (fixes ordered : List Fix) (order : Order) (spans : Spans) (legs : Legs) (worth p q r : ℕ)
+    → ((place : ℕ) (fix : Fix) → place < length ordered → slice_get fixes (number_at order place) ≡ Some fix → slice_get ordered place ≡ Some fix) → AreWithin ordered spans
+    → AreLegs ordered spans legs → Holds (cell_of spans) (p ∷ q ∷ r ∷ []) → IsRound fixes worth (number_at order p) (number_at order q) (number_at order r) → Measured legs worth
 legs_held fixes ordered order spans legs worth p q r at_place within are held round =
     let a = holds_at (cell_of spans) (p ∷ q ∷ r ∷ []) 0 held (omega arith) in
     let b = holds_at (cell_of spans) (p ∷ q ∷ r ∷ []) 1 held (omega arith) in
@@ -96,7 +99,8 @@ within_ordered fixes order spans is within =
     record { first = omega (arith, size, within.first); second = omega (arith, size, within.second); third = omega (arith, size, within.third) }
 
 -- so three places in spans are worth no more than fair legs between these
-pub at_most_held : (goal : TriangleGoal) (order : Order) (spans : Spans) (legs : Legs) (most : ℕ) → IsOrder (fixes_of goal) order → AreWithin (fixes_of goal) spans → AreLegs (ordered_fixes (fixes_of goal) order) spans legs → AreAtMost legs most → HoldsNoMore goal order (cell_of spans) most
+pub at_most_held : (goal : TriangleGoal) (order : Order) (spans : Spans) (legs : Legs) (most : ℕ) → IsOrder (fixes_of goal) order → AreWithin (fixes_of goal) spans
+    → AreLegs (ordered_fixes (fixes_of goal) order) spans legs → AreAtMost legs most → HoldsNoMore goal order (cell_of spans) most
 unfolding triangle_goal
 at_most_held goal order spans legs most is_order within are at_most [] counts held = absurd counts.is_tuple
 at_most_held goal order spans legs most is_order within are at_most (p ∷ []) counts held = absurd counts.is_tuple.1
@@ -118,7 +122,8 @@ pub record Possible (goal : TriangleGoal) (spans numbers : Spans) : Type 0 where
   pub third_after : spans.second.lo ≤ spans.third.hi
   pub closing : IsTrue (closes (fixes_of goal) goal.closing (min (min numbers.first.hi numbers.second.hi) numbers.third.hi) (max (max numbers.first.lo numbers.second.lo) numbers.third.lo))
 
-pub possible : (goal : TriangleGoal) (order : Order) (spans numbers : Spans) (tuple : List ℕ) → AreNumbered order spans numbers → Counts goal order tuple → Holds (cell_of spans) tuple → Possible goal spans numbers
+pub possible : (goal : TriangleGoal) (order : Order) (spans numbers : Spans) (tuple : List ℕ) → AreNumbered order spans numbers → Counts goal order tuple → Holds (cell_of spans) tuple
+    → Possible goal spans numbers
 unfolding triangle_goal
 possible goal order spans numbers [] numbered counts held = absurd counts.is_tuple
 possible goal order spans numbers (p ∷ []) numbered counts held = absurd counts.is_tuple.1
@@ -139,10 +144,6 @@ possible goal order spans numbers (p ∷ q ∷ r ∷ []) numbered counts held =
       third_after = omega (arith, b.0, c.1, counts.third_later);
       closing = closes-wider (fixes_of goal) goal.closing _ _ _ _ (omega (arith, one, two, three)) (omega (arith, one, two, three)) places.closing;
     }
-
-pub on_false : (b : Bool) (P : Type 0) → (b ≡ false → P) → OnFalse b P
-on_false true P holds = tt
-on_false false P holds = holds refl
 
 -- the whole cell has each place at each corner
 pub whole_cell-is : (goal : TriangleGoal) → whole_cell (triangle_rule goal).axes ≡ all_places (length (fixes_of goal))
@@ -168,13 +169,16 @@ whole_numbered fixes order spans is some_ cell =
     }
 
 -- what is left out for legs is left out for the cell between whose hulls they are
-pub none_held : (goal : TriangleGoal) (order : Order) (spans : Spans) (legs : Legs) (known : ℕ) (cell : List (ℕ × ℕ)) (node : Option Node) → IsOrder (fixes_of goal) order → AreWithin (fixes_of goal) spans → AreLegs (ordered_fixes (fixes_of goal) order) spans legs → cell_of spans ≡ cell → IfNone node (AreAtMost legs known) → IfNone node (HoldsNoMore goal order cell known)
+pub none_held : (goal : TriangleGoal) (order : Order) (spans : Spans) (legs : Legs) (known : ℕ) (cell : List (ℕ × ℕ)) (node : Option Node) → IsOrder (fixes_of goal) order
+    → AreWithin (fixes_of goal) spans → AreLegs (ordered_fixes (fixes_of goal) order) spans legs → cell_of spans ≡ cell → IfNone node (AreAtMost legs known)
+    → IfNone node (HoldsNoMore goal order cell known)
 none_held goal order spans legs known cell None is_order within are is at_most =
     subst (λ (c : List (ℕ × ℕ)). HoldsNoMore goal order c known) is (at_most_held goal order spans legs known is_order within are at_most)
 none_held goal order spans legs known cell (Some node) is_order within are is at_most = tt
 
 -- there are fixes in spans of which one was replaced
-pub within_with : (fixes : List Fix) (spans part : Spans) (corner : Corner) (span : Span) → cell_of part ≡ slice_set (cell_of spans) (axis_of corner) (ends span) → AreWithin fixes spans → span.hi < length fixes → AreWithin fixes part
+pub within_with : (fixes : List Fix) (spans part : Spans) (corner : Corner) (span : Span) → cell_of part ≡ slice_set (cell_of spans) (axis_of corner) (ends span) → AreWithin fixes spans
+    → span.hi < length fixes → AreWithin fixes part
 within_with fixes spans part First span is within inside =
     let a = ap (λ (cell : List (ℕ × ℕ)). (span_at cell 0).1) is in
     let b = ap (λ (cell : List (ℕ × ℕ)). (span_at cell 1).1) is in
@@ -199,19 +203,18 @@ lowest_among goal spans places within is = record {
   third = omega (arith, within.third, spans.third.ordered, ap (λ (ps : List ℕ). get_or ps 2 0) is);
 }
 
-lows-point : (tuple : List ℕ) → map (λ (span : ℕ × ℕ). span.0) (point tuple) ≡ tuple
-lows-point [] = refl
-lows-point (place ∷ places) = ap (λ (ps : List ℕ). place ∷ ps) (lows-point places)
-
 -- a cell of single places holds no more than its only tuple is worth
-pub single_held : (goal : TriangleGoal) (order : Order) (cell : List (ℕ × ℕ)) (places numbers : List ℕ) (most : ℕ) → IsSingle cell → places ≡ map (λ span. span.0) cell → numbers ≡ in_time order places → (IsLegal (triangle_rule goal) numbers → value (triangle_rule goal) numbers ≤ most) → HoldsNoMore goal order cell most
+pub single_held : (goal : TriangleGoal) (order : Order) (cell : List (ℕ × ℕ)) (places numbers : List ℕ) (most : ℕ) → IsSingle cell → places ≡ map (λ span. span.0) cell → numbers ≡ in_time order places
+    → (IsLegal (triangle_rule goal) numbers → value (triangle_rule goal) numbers ≤ most) → HoldsNoMore goal order cell most
 single_held goal order cell places numbers most single is named considered = λ tuple counts held.
-    let same : places ≡ tuple = is ∙ ap (λ (c : List (ℕ × ℕ)). map (λ (span : ℕ × ℕ). span.0) c) (single_is_point cell tuple single held) ∙ lows-point tuple in
+    let same : places ≡ tuple = is ∙ ap (λ (c : List (ℕ × ℕ)). map (λ (span : ℕ × ℕ). span.0) c) (single_is_point cell tuple single held) ∙ point_low tuple in
     let these : numbers ≡ in_time order tuple = named ∙ ap (in_time order) same in
     subst (λ (t : List ℕ). value (triangle_rule goal) t ≤ most) these (considered (subst (IsLegal (triangle_rule goal)) (sym these) counts.legal))
 
 -- a node that was made of spans, numbers and legs
-pub made_node : (fixes : List Fix) (order : Order) (spans numbers : Spans) (legs : Legs) (node : Option Node) → AreWithin fixes spans → AreWithin fixes numbers → AreNumbered order spans numbers → AreLegs (ordered_fixes fixes order) spans legs → IfSome node (λ made. made.spans ≡ spans) → IfSome node (λ made. made.numbers ≡ numbers) → IfSome node (λ made. made.legs ≡ legs) → IfSome node (λ made. AreAtMost legs made.bound) → IfSome node (IsNode fixes order)
+pub made_node : (fixes : List Fix) (order : Order) (spans numbers : Spans) (legs : Legs) (node : Option Node) → AreWithin fixes spans → AreWithin fixes numbers → AreNumbered order spans numbers
+    → AreLegs (ordered_fixes fixes order) spans legs → IfSome node (λ made. made.spans ≡ spans) → IfSome node (λ made. made.numbers ≡ numbers) → IfSome node (λ made. made.legs ≡ legs)
+    → IfSome node (λ made. AreAtMost legs made.bound) → IfSome node (IsNode fixes order)
 made_node fixes order spans numbers legs None within numbers_within numbered are same_spans same_numbers same_legs bound = tt
 made_node fixes order spans numbers legs (Some node) within numbers_within numbered are same_spans same_numbers same_legs bound = record {
   within = subst (AreWithin fixes) (sym same_spans) within;

@@ -2,11 +2,11 @@
 use Rattle.std.proofs.Common.{◌≡◌, refl, ℕ, ◌+◌, ◌*◌, ◌<◌, ◌≤◌, ◌⊎◌, inl, inr, ⊎_elim, [], ◌∷◌, arith}
 use Rattle.std.specs.Prelude.{IsTrue, nat_le, nat_lt}
 use Rattle.std.specs.List.{sum}
-use Rattle.std.proofs.lemmas.Bool.{le-leb, leb-true, lt-ltb, ltb-true}
+use Rattle.std.proofs.lemmas.Bool.{le-leb, leb-true, lt-ltb, ltb-true, and_parts}
 use Rattle.gl_goal.specs.Fair.{by_25_to_45_percent, by_28_percent, is_fair, large, none_above, none_below}
-use Rattle.gl_goal.specs.Laws.Fair.{and_both, and_parts, or_cases, or_first, or_second}
+use Rattle.gl_goal.specs.Lemmas.Fair.{and_both, or_cases, or_first, or_second}
 use Rattle.gl_triangle.specs.declared.legs.Legs.{Legs}
-use Rattle.gl_triangle.specs.Legs.{AreAtMost, AreAtMostBy}
+use Rattle.gl_triangle.specs.Code.Legs.{AreAtMost, AreAtMostBy}
 
 -- three legs, none of which is shorter than a share
 pub record AreFrom (share x y z : ℕ) : Type 0 where
@@ -169,6 +169,16 @@ at_most_by_either legs one other most small wide low high x y z fair =
     let lengths = x ∷ y ∷ z ∷ [] in
     let parts = and_parts (nat_lt 0 (sum lengths)) _ fair.allowed in
     ⊎_elim
-    (λ (is : IsTrue (by_28_percent lengths)). omega (arith, low, small x y z (record { first_between = fair.first_between; second_between = fair.second_between; third_between = fair.third_between; allowed = is })))
-    (λ (is : IsTrue (by_25_to_45_percent lengths)). omega (arith, high, wide x y z (record { first_between = fair.first_between; second_between = fair.second_between; third_between = fair.third_between; allowed = is })))
+    (λ (is : IsTrue (by_28_percent lengths)). omega (
+      arith,
+      low,
+      small x y z
+          (record { first_between = fair.first_between; second_between = fair.second_between; third_between = fair.third_between; allowed = is }),
+    ))
+    (λ (is : IsTrue (by_25_to_45_percent lengths)). omega (
+      arith,
+      high,
+      wide x y z
+          (record { first_between = fair.first_between; second_between = fair.second_between; third_between = fair.third_between; allowed = is }),
+    ))
     (or_cases (by_28_percent lengths) _ parts.1)

@@ -1,18 +1,18 @@
 -- What an order of the fixes says of places and numbers.
-use Rattle.std.proofs.Common.{◌≡◌, ◌∙◌, sym, ap, refl, subst, ℕ, zero, suc, ◌<◌, inl, inr, List, [], ◌∷◌, ◌++◌, length, get_or, take, Some, slice_get, arith}
+use Rattle.std.proofs.Common.{◌≡◌, ◌∙◌, sym, refl, subst, ℕ, ◌<◌, inl, inr, List, [], ◌∷◌, length, Some, slice_get, arith}
 use Rattle.std.specs.Prelude.{max, min}
 use Rattle.std.proofs.lemmas.Bool.{cases_lt}
 use Rattle.gl_igc.specs.declared.fix.Fix.{Fix}
 use Rattle.gl_goal.specs.declared.triangle.TriangleGoal.{TriangleGoal}
-use Rattle.gl_goal.specs.Rule.{IsLegal}
+use Rattle.gl_goal.specs.Goal.{IsLegal}
 use Rattle.gl_goal.specs.TriangleGoal.{triangle_rule}
 use Rattle.gl_goal.specs.Triangle.{triangle_goal}
-use Rattle.gl_goal.specs.Laws.Free.{length-numbers_between}
+use Rattle.gl_goal.specs.Lemmas.Free.{length-numbers_between}
 use Rattle.gl_places.proofs.Orders.{hulls_long, numbered_fix, numbers_below, numbers_long, placed}
 use Rattle.gl_triangle.specs.declared.order.Order.{Order}
 use Rattle.gl_triangle.specs.declared.order.Order.TheVariants as variants
-use Rattle.gl_triangle.specs.Node.{fixes_of}
-use Rattle.gl_triangle.specs.Order.{Counts, IsOrder, in_time, number_at, ordered_fixes, sorted, worth_at}
+use Rattle.gl_triangle.specs.Code.Node.{fixes_of}
+use Rattle.gl_triangle.specs.Code.Order.{Counts, IsOrder, in_time, number_at, ordered_fixes, sorted, worth_at}
 use Rattle.gl_triangle.proofs.Rounds.{IsRound, length-fixes_of, legal_places, legal_round, sorted-first, sorted-is, sorted-second, unsorted}
 
 -- an order has as many fixes as the flight
@@ -21,7 +21,8 @@ length-ordered fixes variants.InTime is = refl
 length-ordered fixes (variants.ByPlace by_place) is = hulls_long fixes by_place is
 
 -- the fix at a place is the one with the number there
-pub fix_at_place : (fixes : List Fix) (order : Order) → IsOrder fixes order → (place : ℕ) (fix : Fix) → place < length (ordered_fixes fixes order) → slice_get fixes (number_at order place) ≡ Some fix → slice_get (ordered_fixes fixes order) place ≡ Some fix
+pub fix_at_place : (fixes : List Fix) (order : Order) → IsOrder fixes order → (place : ℕ) (fix : Fix) → place < length (ordered_fixes fixes order) → slice_get fixes (number_at order place) ≡ Some fix
+    → slice_get (ordered_fixes fixes order) place ≡ Some fix
 fix_at_place fixes variants.InTime is place fix below named = named
 fix_at_place fixes (variants.ByPlace by_place) is place fix below named = numbered_fix fixes by_place is place fix below named
 
@@ -32,7 +33,8 @@ number_below fixes (variants.ByPlace by_place) is place below =
     numbers_below fixes by_place is place 0 (omega (arith, below, numbers_long fixes by_place is))
 
 -- three places that count are those of fixes with fair legs
-pub counted_round : (goal : TriangleGoal) (order : Order) (p q r : ℕ) → Counts goal order (p ∷ q ∷ r ∷ []) → IsRound (fixes_of goal) (worth_at goal order (p ∷ q ∷ r ∷ [])) (number_at order p) (number_at order q) (number_at order r)
+pub counted_round : (goal : TriangleGoal) (order : Order) (p q r : ℕ) → Counts goal order (p ∷ q ∷ r ∷ [])
+    → IsRound (fixes_of goal) (worth_at goal order (p ∷ q ∷ r ∷ [])) (number_at order p) (number_at order q) (number_at order r)
 counted_round goal order p q r counts =
     unsorted (fixes_of goal) _ (number_at order p) (number_at order q) (number_at order r) (legal_round goal _ _ _ counts.legal)
 

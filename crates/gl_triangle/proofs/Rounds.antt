@@ -2,7 +2,7 @@
 use Rattle.std.proofs.Common.{◌≡◌, ◌∙◌, sym, ap, subst, ℕ, suc, ◌+◌, ◌-◌, ◌*◌, ◌<◌, ◌≤◌, inl, inr, List, [], ◌∷◌, length, get_or, Some, slice_get, ℤ, ◌-ℤ◌, arith}
 use Rattle.std.specs.Prelude.{IsTrue, min, max, nat_lt, unsigned_abs}
 use Rattle.std.specs.List.{sum}
-use Rattle.std.proofs.lemmas.Bool.{cases_lt, ltb-true}
+use Rattle.std.proofs.lemmas.Bool.{cases_lt, ltb-true, and_parts}
 use Rattle.std.proofs.lemmas.Int.{ints}
 use Rattle.std.proofs.lemmas.Option.{slice_get-get_or}
 use Rattle.gl_sphere.specs.declared.place.Vec3.{Vec3}
@@ -12,16 +12,17 @@ use Rattle.gl_goal.specs.declared.triangle.TriangleGoal.{TriangleGoal}
 use Rattle.gl_goal.specs.Chain.{distance, fixes_at, points_of}
 use Rattle.gl_goal.specs.Fair.{is_fair}
 use Rattle.gl_goal.specs.Free.{numbers_between}
-use Rattle.gl_goal.specs.Rule.{IsLegal, chosen, value}
+use Rattle.gl_goal.specs.Goal.{IsLegal, chosen, value}
 use Rattle.gl_goal.specs.Triangle.{around, closes, three_axes, triangle_goal}
 use Rattle.gl_goal.specs.TriangleGoal.{triangle_rule}
-use Rattle.gl_goal.specs.Laws.Chain.{fixes_at-cons, length-fixes_at, named_at}
-use Rattle.gl_goal.specs.Laws.Order.{length-chosen, order_at}
-use Rattle.gl_goal.specs.Laws.Triangle.{three-place}
-use Rattle.gl_goal.specs.Laws.Fair.{and_parts, sum-three}
-use Rattle.gl_goal.specs.Laws.Free.{length-numbers_between, numbers_between-named}
-use Rattle.gl_triangle.specs.Node.{fixes_of}
-use Rattle.gl_triangle.specs.Order.{sorted}
+use Rattle.gl_goal.specs.Lemmas.Chain.{fixes_at-cons, length-fixes_at, named_at}
+use Rattle.gl_goal.specs.Lemmas.Points.{length-chosen}
+use Rattle.gl_goal.proofs.Order.{order_at}
+use Rattle.gl_goal.specs.Lemmas.Triangle.{three-place}
+use Rattle.gl_goal.specs.Lemmas.Fair.{sum-three}
+use Rattle.gl_goal.specs.Lemmas.Free.{length-numbers_between, numbers_between-named}
+use Rattle.gl_triangle.specs.Code.Node.{fixes_of}
+use Rattle.gl_triangle.specs.Code.Order.{sorted}
 use Rattle.gl_triangle.proofs.Fair.{FairLegs, fair_legs, fair_round, fair_turned}
 
 gap-turned : (a b : ℤ) → squared_gap a b ≡ squared_gap b a
@@ -193,7 +194,9 @@ legal_round goal a b c legal =
     let two = named_at fixes axis b every legal.is_tuple.1.0 in
     let three = named_at fixes axis c every legal.is_tuple.1.1.0 in
     let these : fixes_at fixes (chosen axes (a ∷ b ∷ c ∷ [])) ≡ one.0 ∷ two.0 ∷ three.0 ∷ [] =
-    fixes_at-cons fixes (get_or axis a 0) (get_or axis b 0 ∷ get_or axis c 0 ∷ []) one.0 one.1 ∙ ap (λ (fs : List Fix). one.0 ∷ fs) (fixes_at-cons fixes (get_or axis b 0) (get_or axis c 0 ∷ []) two.0 two.1 ∙ ap (λ (fs : List Fix). two.0 ∷ fs) (fixes_at-cons fixes (get_or axis c 0) [] three.0 three.1)) in
+    fixes_at-cons fixes (get_or axis a 0) (get_or axis b 0 ∷ get_or axis c 0 ∷ []) one.0 one.1
+    ∙ ap (λ (fs : List Fix). one.0 ∷ fs) (fixes_at-cons fixes (get_or axis b 0) (get_or axis c 0 ∷ []) two.0 two.1
+    ∙ ap (λ (fs : List Fix). two.0 ∷ fs) (fixes_at-cons fixes (get_or axis c 0) [] three.0 three.1)) in
     let round = ap (λ (fs : List Fix). around distance (points_of fs)) these in
     let allowed = and_parts (is_fair (around distance (points_of (fixes_at fixes (chosen axes (a ∷ b ∷ c ∷ [])))))) _ legal.allowed in
     record {

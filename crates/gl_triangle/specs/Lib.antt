@@ -1,6 +1,1 @@
-pub mod Legs
-pub mod Node
-pub mod Order
-pub mod Places
-pub mod Search
-pub mod Spans
+pub mod Code

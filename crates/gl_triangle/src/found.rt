@@ -1,9 +1,9 @@
 ghost use Rattle.std.specs.Prelude.{◌≡◌, ◌≤◌};
-ghost use Rattle.gl_goal.specs.Rule.{IsLegal, IsTuple, value};
+ghost use Rattle.gl_goal.specs.Goal.{IsLegal, IsTuple, value};
 ghost use Rattle.gl_goal.specs.TriangleGoal.{triangle_rule};
 ghost use Rattle.gl_plain.specs.Search.{IsSound};
-ghost use Rattle.gl_triangle.specs.Places.{places_in};
-ghost use Rattle.gl_triangle.specs.Search.{worth_of};
+ghost use Rattle.gl_triangle.specs.Code.Places.{places_in};
+ghost use Rattle.gl_triangle.specs.Code.Search.{worth_of};
 
 use crate::places::Places;
 use gl_goal::{Goal, TriangleGoal};

@@ -14,7 +14,7 @@ pub(crate) struct Leg {
 
 impl Leg {
     ghost use Rattle.gl_hull.specs.Hull.{box_of};
-    ghost use Rattle.gl_triangle.specs.Legs.{IsLeg};
+    ghost use Rattle.gl_triangle.specs.Code.Legs.{IsLeg};
 
     /// The leg between two points, one in each hull.
     #[inline]

@@ -29,8 +29,8 @@ pub(crate) struct Legs {
 impl Legs {
     ghost use Rattle.std.specs.Prelude.{◌≡◌, ◌+◌, ◌<◌, ◌≤◌, max, min, MatchOption};
     ghost use Rattle.gl_goal.specs.Fair.{by_25_to_45_percent, by_28_percent};
-    ghost use Rattle.gl_triangle.specs.Legs.{AreAtMost, AreAtMostBy, AreLegs, IsAcross};
-    ghost use Rattle.gl_triangle.specs.Spans.{AreWithin};
+    ghost use Rattle.gl_triangle.specs.Code.Legs.{AreAtMost, AreAtMostBy, AreLegs, IsAcross};
+    ghost use Rattle.gl_triangle.specs.Code.Spans.{AreWithin};
 
     /// The legs between fixes of three spans.
     pub fn between(hulls: &Hulls, spans: &Spans) -> Legs

@@ -1,12 +1,12 @@
 ghost use Rattle.std.specs.Prelude.{◌≡◌, ◌<◌, length, slice_set, IfNone, IfSome};
 ghost use Rattle.std.specs.Bool.{OnFalse};
 ghost use Rattle.gl_box.specs.Cell.{ends};
-ghost use Rattle.gl_goal.specs.Rule.{whole_cell};
+ghost use Rattle.gl_goal.specs.Goal.{whole_cell};
 ghost use Rattle.gl_goal.specs.TriangleGoal.{triangle_rule};
-ghost use Rattle.gl_triangle.specs.Legs.{AreAtMost, AreLegs};
-ghost use Rattle.gl_triangle.specs.Node.{AreNumbered, HoldsNone, HoldsNoMore, IsNode, fixes_of};
-ghost use Rattle.gl_triangle.specs.Order.{IsOrder};
-ghost use Rattle.gl_triangle.specs.Spans.{AreWithin, axis_of, cell_of};
+ghost use Rattle.gl_triangle.specs.Code.Legs.{AreAtMost, AreLegs};
+ghost use Rattle.gl_triangle.specs.Code.Node.{AreNumbered, HoldsNone, HoldsNoMore, IsNode, fixes_of};
+ghost use Rattle.gl_triangle.specs.Code.Order.{IsOrder};
+ghost use Rattle.gl_triangle.specs.Code.Spans.{AreWithin, axis_of, cell_of};
 
 use crate::legs::Legs;
 use crate::order::Order;

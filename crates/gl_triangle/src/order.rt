@@ -1,7 +1,7 @@
 ghost use Rattle.std.specs.Prelude.{◌≡◌, ◌<◌, length};
-ghost use Rattle.gl_triangle.specs.Node.{fixes_of};
-ghost use Rattle.gl_triangle.specs.Order.{AreNumbers, IsOrder, in_time, number_at, ordered_fixes};
-ghost use Rattle.gl_triangle.specs.Places.{AreAmong, places_in};
+ghost use Rattle.gl_triangle.specs.Code.Node.{fixes_of};
+ghost use Rattle.gl_triangle.specs.Code.Order.{AreNumbers, IsOrder, in_time, number_at, ordered_fixes};
+ghost use Rattle.gl_triangle.specs.Code.Places.{AreAmong, places_in};
 
 use crate::places::Places;
 use gl_box::Span;

@@ -11,7 +11,7 @@ pub(crate) struct Places {
 impl Places {
     ghost use Rattle.std.specs.Prelude.{◌≡◌};
     ghost use Rattle.gl_box.specs.Tuple.{places_of};
-    ghost use Rattle.gl_triangle.specs.Places.{places_in};
+    ghost use Rattle.gl_triangle.specs.Code.Places.{places_in};
 
     /// The tuple of these places.
     pub fn tuple(&self) -> Tuple

@@ -1,11 +1,11 @@
 ghost use Rattle.std.specs.Prelude.{◌≡◌, ◌≤◌, ◌++◌, ◌⊎◌, ◌↔◌, [], IfOk, IsNone, IsTrue, OnOk};
 ghost use Rattle.std.specs.Option.{option_to_list};
-ghost use Rattle.gl_goal.specs.Rule.{HasNoLegal, IsOptimum};
+ghost use Rattle.gl_goal.specs.Goal.{HasNoLegal, IsOptimum};
 ghost use Rattle.gl_goal.specs.TriangleGoal.{triangle_rule};
 ghost use Rattle.gl_plain.specs.Search.{IsSound, total_of};
-ghost use Rattle.gl_triangle.specs.Node.{IsNode, IsVisited, fixes_of};
-ghost use Rattle.gl_triangle.specs.Order.{IsOrder};
-ghost use Rattle.gl_triangle.specs.Search.{IsUnderWay, worth_of};
+ghost use Rattle.gl_triangle.specs.Code.Node.{IsNode, IsVisited, fixes_of};
+ghost use Rattle.gl_triangle.specs.Code.Order.{IsOrder};
+ghost use Rattle.gl_triangle.specs.Code.Search.{IsUnderWay, worth_of};
 
 use crate::found::{consider, worth};
 use crate::node::Node;

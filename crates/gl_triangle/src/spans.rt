@@ -24,8 +24,8 @@ impl Spans {
     ghost use Rattle.std.specs.Prelude.{◌≡◌, ◌<◌, ◌≤◌, length, MatchOption, map, max, min, slice_set};
     ghost use Rattle.gl_box.specs.Cell.{ends};
     ghost use Rattle.gl_box.specs.Halves.{IsSingle, span_at};
-    ghost use Rattle.gl_triangle.specs.Places.{places_in};
-    ghost use Rattle.gl_triangle.specs.Spans.{AreWithin, IsWide, all_places, axis_of, cell_of};
+    ghost use Rattle.gl_triangle.specs.Code.Places.{places_in};
+    ghost use Rattle.gl_triangle.specs.Code.Spans.{AreWithin, IsWide, all_places, axis_of, cell_of};
 
     /// The span of all places at each corner.
     pub fn whole(hulls: &Hulls) -> Spans

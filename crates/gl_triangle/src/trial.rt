@@ -1,6 +1,6 @@
 ghost use Rattle.std.specs.Prelude.{◌<◌, ◌^◌, All, IfSome, length};
-ghost use Rattle.gl_triangle.specs.Node.{fixes_of};
-ghost use Rattle.gl_triangle.specs.Places.{AreAmong, AreChoices};
+ghost use Rattle.gl_triangle.specs.Code.Node.{fixes_of};
+ghost use Rattle.gl_triangle.specs.Code.Places.{AreAmong, AreChoices};
 
 use crate::places::Places;
 use gl_goal::{TriangleGoal, fair};

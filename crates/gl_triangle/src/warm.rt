@@ -1,8 +1,8 @@
 ghost use Rattle.std.specs.Prelude.{◌≡◌, ◌<◌, ◌≤◌, All, IfOk, length};
 ghost use Rattle.gl_goal.specs.TriangleGoal.{triangle_rule};
 ghost use Rattle.gl_plain.specs.Search.{IsSound};
-ghost use Rattle.gl_triangle.specs.Node.{fixes_of};
-ghost use Rattle.gl_triangle.specs.Places.{AreAmong};
+ghost use Rattle.gl_triangle.specs.Code.Node.{fixes_of};
+ghost use Rattle.gl_triangle.specs.Code.Places.{AreAmong};
 
 use crate::found::consider;
 use crate::places::Places;

@@ -1,4 +1,5 @@
-//! The program by words that are no command, as a test: the gate runs it and wants the usage line and
+//! The program by words that are no command, as a test: the gate runs it and wants the usage line
+//! and
 //! its status.
 #![tactic(auto)]
 

@@ -79,7 +79,8 @@ all_right whole cells IsClosedAt said k below = record {
 }
 
 -- where that which is said stops
-stop_of : (whole : List (ℕ × ℕ)) (cells : List (List (ℕ × ℕ))) (IsClosedAt : ℕ → Type 0) (said : Said) → IsSaid whole cells IsClosedAt said → (p : ℕ) × Stops whole cells IsClosedAt p × WrongAt whole cells p said
+stop_of : (whole : List (ℕ × ℕ)) (cells : List (List (ℕ × ℕ))) (IsClosedAt : ℕ → Type 0) (said : Said) → IsSaid whole cells IsClosedAt said
+    → (p : ℕ) × Stops whole cells IsClosedAt p × WrongAt whole cells p said
 stop_of whole cells IsClosedAt NoneWrong is =
     (length cells, record { before = all_right whole cells IsClosedAt is; ends = inl refl }, (refl, all_cells whole cells is.0))
 stop_of whole cells IsClosedAt (ExtraBox number) is =

@@ -5,11 +5,10 @@ use Rattle.std.proofs.lemmas.Bool.{cases_order}
 use Rattle.std.proofs.lemmas.List.{append-nil, get_or_at, length-append, length-drop, length-map, length-reverse, map-append, reverse-append, take-append-drop, take_more}
 use Rattle.gl_box.specs.declared.cell.Cell.{Cell}
 use Rattle.gl_box.specs.Cell.{Covers, spans_of}
-use Rattle.gl_box.specs.Halves.{AreHalves, IsSingle, IsWidest, span_at}
+use Rattle.gl_box.specs.Halves.{AreHalves, IsWidest, span_at}
 use Rattle.gl_box.specs.Frontier.{IsFrontier, IsNode}
 use Rattle.gl_box.specs.Frontier.IsFrontier.{alone, parted}
-use Rattle.gl_box.specs.Laws.Nodes.{covers_node, member_node, spread, spread-lower}
-use Rattle.gl_box.specs.Laws.Spans.{single-narrow}
+use Rattle.gl_box.proofs.Nodes.{covers_node, member_node, spread, spread-lower}
 use Rattle.gl_walk.specs.Boxes.{Begins}
 use Rattle.gl_walk.specs.Walk.{AreFrontiers, IsWalked, open_cells}
 
@@ -92,7 +91,8 @@ pub record Parted (lower upper : List (ℕ × ℕ)) (cells : List (List (ℕ × 
   pub high : IsFrontier upper back
   pub is : cells ≡ front ++ back
 
-pub frontier_parted : (cell lower upper first : List (ℕ × ℕ)) (cells rest : List (List (ℕ × ℕ))) → IsFrontier cell cells → cells ≡ first ∷ rest → AreHalves cell lower upper → (cell ≡ first → ⊥) → Parted lower upper cells
+pub frontier_parted : (cell lower upper first : List (ℕ × ℕ)) (cells rest : List (List (ℕ × ℕ))) → IsFrontier cell cells → cells ≡ first ∷ rest → AreHalves cell lower upper → (cell ≡ first → ⊥)
+    → Parted lower upper cells
 frontier_parted _ lower upper first _ rest (alone cell cells is) at halves other =
     let both : first ∷ rest ≡ cell ∷ [] = sym at ∙ is in
     let same : cell ≡ first = cc in
@@ -104,14 +104,6 @@ frontier_parted _ lower upper first _ rest (parted cell l u front back cells own
   high = subst (λ (c : List (ℕ × ℕ)). IsFrontier c back) (upper_unique cell l u lower upper own halves) high;
   is = is;
 }
-
--- a single tuple is a frontier of its own alone
-pub frontier_single : (cell first : List (ℕ × ℕ)) (cells rest : List (List (ℕ × ℕ))) → IsFrontier cell cells → cells ≡ first ∷ rest → IsSingle cell → cell ≡ first
-frontier_single _ first _ rest (alone cell cells is) at single =
-    let both : first ∷ rest ≡ cell ∷ [] = sym at ∙ is in
-    cc
-frontier_single _ first _ rest (parted cell lower upper front back cells halves low high is) at single =
-    absurd (omega (arith, single-narrow cell halves.axis single halves.widest.inside, halves.wide))
 
 -- what begins frontiers of open cells begins that of the first one
 pub record FrontOf (opened first : List (ℕ × ℕ)) (others more : List (List (ℕ × ℕ))) : Type 0 where
@@ -148,7 +140,8 @@ passed_on cell others more = (
 )
 
 -- an open cell that isn't the next one gives way to its halves
-pub halved_on : (cell lower upper next : List (ℕ × ℕ)) (others more : List (List (ℕ × ℕ))) → AreHalves cell lower upper → (cell ≡ next → ⊥) → AreFrontiers (cell ∷ others) (next ∷ more) ↔ AreFrontiers (lower ∷ upper ∷ others) (next ∷ more)
+pub halved_on : (cell lower upper next : List (ℕ × ℕ)) (others more : List (List (ℕ × ℕ))) → AreHalves cell lower upper → (cell ≡ next → ⊥)
+    → AreFrontiers (cell ∷ others) (next ∷ more) ↔ AreFrontiers (lower ∷ upper ∷ others) (next ∷ more)
 halved_on cell lower upper next others more halves other = (
   λ fronts.
       let at = front_of cell next others more fronts in
@@ -169,12 +162,6 @@ pub first_covered : (cell next : List (ℕ × ℕ)) (others more : List (List (�
 first_covered cell next others more fronts =
     let at = front_of cell next others more fronts in
     covers_node cell next (member_node cell (next ∷ at.rest) 0 at.frontier (omega arith))
-
--- a single tuple that isn't the next one leaves no way
-pub single_out : (cell next : List (ℕ × ℕ)) (others more : List (List (ℕ × ℕ))) → IsSingle cell → (cell ≡ next → ⊥) → AreFrontiers (cell ∷ others) (next ∷ more) → ⊥
-single_out cell next others more single other fronts =
-    let at = front_of cell next others more fronts in
-    other (frontier_single cell next (next ∷ at.rest) at.rest at.frontier refl single)
 
 -- open cells are frontiers of themselves
 pub frontiers_self : (opened : List (List (ℕ × ℕ))) → AreFrontiers opened opened
@@ -199,7 +186,8 @@ walked_start whole more = (
 )
 
 -- one more cell is passed
-pub walked_on : (whole cell : List (ℕ × ℕ)) (passed opened after : List (List (ℕ × ℕ))) → IsWalked whole passed opened → ((more : List (List (ℕ × ℕ))) → AreFrontiers opened (cell ∷ more) ↔ AreFrontiers after more) → IsWalked whole (passed ++ cell ∷ []) after
+pub walked_on : (whole cell : List (ℕ × ℕ)) (passed opened after : List (List (ℕ × ℕ))) → IsWalked whole passed opened
+    → ((more : List (List (ℕ × ℕ))) → AreFrontiers opened (cell ∷ more) ↔ AreFrontiers after more) → IsWalked whole (passed ++ cell ∷ []) after
 walked_on whole cell passed opened after walked step more =
     let regroup = append_assoc passed (cell ∷ []) more in (
       λ frontier. (step more).0 ((walked (cell ∷ more)).0 (subst (IsFrontier whole) regroup frontier)),
@@ -217,7 +205,8 @@ pub walked_open : (whole : List (ℕ × ℕ)) (passed opened : List (List (ℕ �
 walked_open whole passed opened walked some frontier =
     some (frontiers_none opened ((walked []).0 (subst (IsFrontier whole) (sym (append-nil passed)) frontier)))
 
-pub walked_out : (whole cell : List (ℕ × ℕ)) (passed opened : List (List (ℕ × ℕ))) → IsWalked whole passed opened → ((more : List (List (ℕ × ℕ))) → AreFrontiers opened (cell ∷ more) → ⊥) → Begins whole (passed ++ cell ∷ []) → ⊥
+pub walked_out : (whole cell : List (ℕ × ℕ)) (passed opened : List (List (ℕ × ℕ))) → IsWalked whole passed opened → ((more : List (List (ℕ × ℕ))) → AreFrontiers opened (cell ∷ more) → ⊥)
+    → Begins whole (passed ++ cell ∷ []) → ⊥
 walked_out whole cell passed opened walked out begins =
     out begins.0 ((walked (cell ∷ begins.0)).0 (subst (IsFrontier whole) (append_assoc passed (cell ∷ []) begins.0) begins.1))
 
@@ -226,23 +215,30 @@ pub through : {A B C : Type 0} → A ↔ B → B ↔ C → A ↔ C
 through f g = (λ a. g.0 (f.0 a), λ c. f.1 (g.1 c))
 
 -- one cell more is passed on the way along some cells
-pub along_more : (start opened after cells : List (List (ℕ × ℕ))) (k : ℕ) (next : List (ℕ × ℕ)) → k < length cells → get_or cells k [] ≡ next → ((more : List (List (ℕ × ℕ))) → AreFrontiers start (take k cells ++ more) ↔ AreFrontiers opened more) → ((more : List (List (ℕ × ℕ))) → AreFrontiers opened (next ∷ more) ↔ AreFrontiers after more) → (more : List (List (ℕ × ℕ))) → AreFrontiers start (take (k + 1) cells ++ more) ↔ AreFrontiers after more
+pub along_more : (start opened after cells : List (List (ℕ × ℕ))) (k : ℕ) (next : List (ℕ × ℕ)) → k < length cells → get_or cells k [] ≡ next
+    → ((more : List (List (ℕ × ℕ))) → AreFrontiers start (take k cells ++ more) ↔ AreFrontiers opened more)
+    → ((more : List (List (ℕ × ℕ))) → AreFrontiers opened (next ∷ more) ↔ AreFrontiers after more) → (more : List (List (ℕ × ℕ)))
+    → AreFrontiers start (take (k + 1) cells ++ more) ↔ AreFrontiers after more
 along_more start opened after cells k next below is so_far step more =
     let one : take (k + 1) cells ≡ take k cells ++ next ∷ [] = take_more cells k [] below ∙ ap (λ (c : List (ℕ × ℕ)). take k cells ++ c ∷ []) is in
     let all : take (k + 1) cells ++ more ≡ take k cells ++ (next ∷ more) = ap (λ (l : List (List (ℕ × ℕ))). l ++ more) one ∙ append_assoc (take k cells) (next ∷ []) more in
     subst (λ (l : List (List (ℕ × ℕ))). AreFrontiers start l ↔ AreFrontiers after more) (sym all) (through (so_far (next ∷ more)) (step more))
 
 -- a cell on the way along some cells isn't there
-pub along_out : (start opened cells : List (List (ℕ × ℕ))) (k : ℕ) (next : List (ℕ × ℕ)) → k < length cells → get_or cells k [] ≡ next → ((more : List (List (ℕ × ℕ))) → AreFrontiers start (take k cells ++ more) ↔ AreFrontiers opened more) → ((more : List (List (ℕ × ℕ))) → AreFrontiers opened (next ∷ more) → ⊥) → (more : List (List (ℕ × ℕ))) → AreFrontiers start (cells ++ more) → ⊥
+pub along_out : (start opened cells : List (List (ℕ × ℕ))) (k : ℕ) (next : List (ℕ × ℕ)) → k < length cells → get_or cells k [] ≡ next
+    → ((more : List (List (ℕ × ℕ))) → AreFrontiers start (take k cells ++ more) ↔ AreFrontiers opened more) → ((more : List (List (ℕ × ℕ))) → AreFrontiers opened (next ∷ more) → ⊥)
+    → (more : List (List (ℕ × ℕ))) → AreFrontiers start (cells ++ more) → ⊥
 along_out start opened cells k next below is so_far out more fronts =
     let rest = drop (k + 1) cells ++ more in
     let one : take (k + 1) cells ≡ take k cells ++ next ∷ [] = take_more cells k [] below ∙ ap (λ (c : List (ℕ × ℕ)). take k cells ++ c ∷ []) is in
-    let parted_ : cells ++ more ≡ take (k + 1) cells ++ rest = ap (λ (l : List (List (ℕ × ℕ))). l ++ more) (sym (take-append-drop (k + 1) cells)) ∙ append_assoc (take (k + 1) cells) (drop (k + 1) cells) more in
+    let parted_ : cells ++ more ≡ take (k + 1) cells ++ rest = ap (λ (l : List (List (ℕ × ℕ))). l ++ more) (sym (take-append-drop (k + 1) cells))
+    ∙ append_assoc (take (k + 1) cells) (drop (k + 1) cells) more in
     let all : cells ++ more ≡ take k cells ++ (next ∷ rest) = parted_ ∙ ap (λ (l : List (List (ℕ × ℕ))). l ++ rest) one ∙ append_assoc (take k cells) (next ∷ []) rest in
     out rest ((so_far (next ∷ rest)).0 (subst (AreFrontiers start) all fronts))
 
 -- some cells more are passed
-pub walked_along : (whole : List (ℕ × ℕ)) (passed cells opened after : List (List (ℕ × ℕ))) → IsWalked whole passed opened → ((more : List (List (ℕ × ℕ))) → AreFrontiers opened (cells ++ more) ↔ AreFrontiers after more) → IsWalked whole (passed ++ cells) after
+pub walked_along : (whole : List (ℕ × ℕ)) (passed cells opened after : List (List (ℕ × ℕ))) → IsWalked whole passed opened
+    → ((more : List (List (ℕ × ℕ))) → AreFrontiers opened (cells ++ more) ↔ AreFrontiers after more) → IsWalked whole (passed ++ cells) after
 walked_along whole passed cells opened after walked step more =
     let regroup = append_assoc passed cells more in (
       λ frontier. (step more).0 ((walked (cells ++ more)).0 (subst (IsFrontier whole) regroup frontier)),
@@ -250,7 +246,8 @@ walked_along whole passed cells opened after walked step more =
     )
 
 -- with cells that aren't all there, whatever comes behind them, there is no frontier
-pub walked_astray : (whole : List (ℕ × ℕ)) (passed cells opened more : List (List (ℕ × ℕ))) → IsWalked whole passed opened → ((rest : List (List (ℕ × ℕ))) → AreFrontiers opened (cells ++ rest) → ⊥) → IsFrontier whole ((passed ++ cells) ++ more) → ⊥
+pub walked_astray : (whole : List (ℕ × ℕ)) (passed cells opened more : List (List (ℕ × ℕ))) → IsWalked whole passed opened → ((rest : List (List (ℕ × ℕ))) → AreFrontiers opened (cells ++ rest) → ⊥)
+    → IsFrontier whole ((passed ++ cells) ++ more) → ⊥
 walked_astray whole passed cells opened more walked out frontier =
     out more ((walked (cells ++ more)).0 (subst (IsFrontier whole) (append_assoc passed cells more) frontier))
 
@@ -271,7 +268,8 @@ frontier_unique _ _ b r q (parted cell lower upper front back a halves low high 
     let mine = frontier_some lower front low in
     let some = frontier_some cell b other in
     let both : mine.0 ∷ (mine.1 ++ (back ++ r)) ≡ some.0 ∷ (some.1 ++ q) =
-    sym (ap (λ (l : List (List (ℕ × ℕ))). l ++ (back ++ r)) mine.2) ∙ sym (append_assoc front back r) ∙ sym (ap (λ (l : List (List (ℕ × ℕ))). l ++ r) is) ∙ same ∙ ap (λ (l : List (List (ℕ × ℕ))). l ++ q) some.2 in
+    sym (ap (λ (l : List (List (ℕ × ℕ))). l ++ (back ++ r)) mine.2) ∙ sym (append_assoc front back r) ∙ sym (ap (λ (l : List (List (ℕ × ℕ))). l ++ r) is) ∙ same
+    ∙ ap (λ (l : List (List (ℕ × ℕ))). l ++ q) some.2 in
     let first : mine.0 ≡ some.0 = cc in
     let apart : cell ≡ some.0 → ⊥ = λ at. lower_first cell lower upper mine.0 front mine.1 halves low mine.2 (at ∙ sym first) in
     let parts = frontier_parted cell lower upper some.0 b some.1 other some.2 halves apart in

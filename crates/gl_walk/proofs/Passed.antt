@@ -20,7 +20,8 @@ pub some_cell : (cells : List Cell) → (length cells ≡ 0 → ⊥) → open_ce
 some_cell cells some none = some (sym (length-open_cells cells) ∙ ap length none)
 
 -- the cells of one box more
-pub cells_more : {B : Type 0} (cell : B → List (ℕ × ℕ)) (boxes : List B) (i : ℕ) (next : B) → i < length boxes → next ≡ get_or boxes i next → take (i + 1) (map cell boxes) ≡ take i (map cell boxes) ++ cell next ∷ []
+pub cells_more : {B : Type 0} (cell : B → List (ℕ × ℕ)) (boxes : List B) (i : ℕ) (next : B) → i < length boxes → next ≡ get_or boxes i next
+    → take (i + 1) (map cell boxes) ≡ take i (map cell boxes) ++ cell next ∷ []
 cells_more {B} cell boxes i next below item =
     let all = map cell boxes in
     let there : i < length all = omega (arith, below, length-map boxes cell) in
@@ -28,9 +29,12 @@ cells_more {B} cell boxes i next below item =
     take_more all i [] there ∙ ap (λ (c : List (ℕ × ℕ)). take i all ++ c ∷ []) read
 
 -- the walk goes on behind a box that was found
-pub walked_more : {B : Type 0} (whole : List (ℕ × ℕ)) (cell : B → List (ℕ × ℕ)) (boxes : List B) (i : ℕ) (next : B) (spans : List (ℕ × ℕ)) (opened after : List (List (ℕ × ℕ))) → i < length boxes → next ≡ get_or boxes i next → spans ≡ cell next → IsWalked whole (take i (map cell boxes)) opened → ((more : List (List (ℕ × ℕ))) → AreFrontiers opened (spans ∷ more) ↔ AreFrontiers after more) → IsWalked whole (take (i + 1) (map cell boxes)) after
+pub walked_more : {B : Type 0} (whole : List (ℕ × ℕ)) (cell : B → List (ℕ × ℕ)) (boxes : List B) (i : ℕ) (next : B) (spans : List (ℕ × ℕ)) (opened after : List (List (ℕ × ℕ))) → i < length boxes
+    → next ≡ get_or boxes i next → spans ≡ cell next → IsWalked whole (take i (map cell boxes)) opened → ((more : List (List (ℕ × ℕ))) → AreFrontiers opened (spans ∷ more) ↔ AreFrontiers after more)
+    → IsWalked whole (take (i + 1) (map cell boxes)) after
 walked_more whole cell boxes i next spans opened after below item is walked step =
-    subst (λ (l : List (List (ℕ × ℕ))). IsWalked whole l after) (ap (λ (c : List (ℕ × ℕ)). take i (map cell boxes) ++ c ∷ []) is ∙ sym (cells_more cell boxes i next below item)) (walked_on whole spans (take i (map cell boxes)) opened after walked step)
+    subst (λ (l : List (List (ℕ × ℕ))). IsWalked whole l after) (ap (λ (c : List (ℕ × ℕ)). take i (map cell boxes) ++ c ∷ []) is
+    ∙ sym (cells_more cell boxes i next below item)) (walked_on whole spans (take i (map cell boxes)) opened after walked step)
 
 -- a cell that stands where it must lies in the whole
 pub placed_covered : (whole : List (ℕ × ℕ)) (cells : List (List (ℕ × ℕ))) (place : ℕ) → place < length cells → BeginWhole whole cells (place + 1) → Covers whole (get_or cells place [])
@@ -38,7 +42,8 @@ placed_covered whole cells place below begins =
     covers_begun whole (get_or cells place []) (take place cells) (subst (Begins whole) (take_more cells place [] below) begins)
 
 -- the cells that a walk passed are right where they are closed
-pub rights : (whole : List (ℕ × ℕ)) (cells : List (List (ℕ × ℕ))) (IsClosedAt : ℕ → Type 0) (walked : Walked) → EndsAt whole cells walked → (count : ℕ) → count ≤ walked.count → ((place : ℕ) → place < count → IsClosedAt place) → AreRight whole cells IsClosedAt count
+pub rights : (whole : List (ℕ × ℕ)) (cells : List (List (ℕ × ℕ))) (IsClosedAt : ℕ → Type 0) (walked : Walked) → EndsAt whole cells walked → (count : ℕ) → count ≤ walked.count
+    → ((place : ℕ) → place < count → IsClosedAt place) → AreRight whole cells IsClosedAt count
 rights whole cells IsClosedAt walked ends count few closed place below =
     record { placed = ends.placed place (omega (arith, below, few)); closed = closed place below }
 
@@ -56,7 +61,8 @@ end_said Extra number = ExtraBox number
 end_said Place number = StrayBox number
 end_said Open number = Unfinished
 
-said_at : (whole : List (ℕ × ℕ)) (cells : List (List (ℕ × ℕ))) (IsClosedAt : ℕ → Type 0) (count number : ℕ) (end_ : WalkEnd) → IsEnd whole cells count end_ → AreRight whole cells IsClosedAt count → NumbersBox number count → IsSaid whole cells IsClosedAt (end_said end_ number)
+said_at : (whole : List (ℕ × ℕ)) (cells : List (List (ℕ × ℕ))) (IsClosedAt : ℕ → Type 0) (count number : ℕ) (end_ : WalkEnd) → IsEnd whole cells count end_ → AreRight whole cells IsClosedAt count
+    → NumbersBox number count → IsSaid whole cells IsClosedAt (end_said end_ number)
 said_at whole cells IsClosedAt count number Whole at right numbered = (
   subst (IsFrontier whole) (take_all count cells (omega (arith, at.0))) at.1,
   λ place below. (right place (omega (arith, below, at.0))).closed,
@@ -71,12 +77,14 @@ said_at whole cells IsClosedAt count number Open at right numbered = (
 )
 
 -- where each cell that the walk passed is closed
-pub passed_said : (whole : List (ℕ × ℕ)) (cells : List (List (ℕ × ℕ))) (IsClosedAt : ℕ → Type 0) (walked : Walked) (number : ℕ) → EndsAt whole cells walked → ((place : ℕ) → place < walked.count → IsClosedAt place) → NumbersBox number walked.count → IsSaid whole cells IsClosedAt (end_said walked.end number)
+pub passed_said : (whole : List (ℕ × ℕ)) (cells : List (List (ℕ × ℕ))) (IsClosedAt : ℕ → Type 0) (walked : Walked) (number : ℕ) → EndsAt whole cells walked
+    → ((place : ℕ) → place < walked.count → IsClosedAt place) → NumbersBox number walked.count → IsSaid whole cells IsClosedAt (end_said walked.end number)
 passed_said whole cells IsClosedAt walked number ends closed numbered =
     said_at whole cells IsClosedAt walked.count number walked.end ends.end_ (rights whole cells IsClosedAt walked ends walked.count (omega arith) closed) numbered
 
 -- and where one of them isn't
-pub unclosed_said : (whole : List (ℕ × ℕ)) (cells : List (List (ℕ × ℕ))) (IsClosedAt : ℕ → Type 0) (walked : Walked) (place number : ℕ) → EndsAt whole cells walked → place < walked.count → ((before : ℕ) → before < place → IsClosedAt before) → (IsClosedAt place → ⊥) → NumbersBox number place → IsSaid whole cells IsClosedAt (UnclosedBox number)
+pub unclosed_said : (whole : List (ℕ × ℕ)) (cells : List (List (ℕ × ℕ))) (IsClosedAt : ℕ → Type 0) (walked : Walked) (place number : ℕ) → EndsAt whole cells walked → place < walked.count
+    → ((before : ℕ) → before < place → IsClosedAt before) → (IsClosedAt place → ⊥) → NumbersBox number place → IsSaid whole cells IsClosedAt (UnclosedBox number)
 unclosed_said whole cells IsClosedAt walked place number ends below closed open_ numbered = record {
   place = place;
   numbered = numbered;
@@ -97,7 +105,8 @@ map_twice f g [] = refl
 map_twice {A} {B} {C} f g (x ∷ xs) = ap (λ (l : List C). g (f x) ∷ l) (map_twice f g xs)
 
 -- a box that a walk passed lies in the whole
-pub passed_covered : {W : Type 0} (whole : List (ℕ × ℕ)) (boxes : List (List (ℕ × ℕ) × W)) (walked : Walked) (place : ℕ) → EndsAt whole (map (λ box. box.0) boxes) walked → place < walked.count → place < length boxes → HoldsAt (λ box. Covers whole box.0) boxes place
+pub passed_covered : {W : Type 0} (whole : List (ℕ × ℕ)) (boxes : List (List (ℕ × ℕ) × W)) (walked : Walked) (place : ℕ) → EndsAt whole (map (λ box. box.0) boxes) walked → place < walked.count
+    → place < length boxes → HoldsAt (λ box. Covers whole box.0) boxes place
 passed_covered {W} whole boxes walked place ends passed below d =
     subst (Covers whole) (get_or-map (λ (box : List (ℕ × ℕ) × W). box.0) boxes place d [] below)
     (placed_covered whole (map (λ box. box.0) boxes) place (omega (arith, below, length-map boxes (λ (box : List (ℕ × ℕ) × W). box.0))) (ends.placed place passed).placed)

@@ -19,14 +19,16 @@ cells_in-append xs ys =
     ap (map cell) (flat_map-append items xs ys) ∙ map-append cell (flat_map items xs) (flat_map items ys)
 
 -- the cells of one list more
-pub lists_more : (lists : List (Vec Closed Global)) (k : ℕ) (list : Vec Closed Global) → k < length lists → list ≡ get_or lists k list → cells_in (take (k + 1) lists) ≡ cells_in (take k lists) ++ map (λ box. spans_of box.cell) list.items
+pub lists_more : (lists : List (Vec Closed Global)) (k : ℕ) (list : Vec Closed Global) → k < length lists → list ≡ get_or lists k list
+    → cells_in (take (k + 1) lists) ≡ cells_in (take k lists) ++ map (λ box. spans_of box.cell) list.items
 lists_more lists k list below is =
     let cell : Closed → List (ℕ × ℕ) = λ box. spans_of box.cell in
     let one : take (k + 1) lists ≡ take k lists ++ list ∷ [] = take_more lists k list below ∙ ap (λ (l : Vec Closed Global). take k lists ++ l ∷ []) (sym is) in
     ap cells_in one ∙ cells_in-append (take k lists) (list ∷ []) ∙ ap (λ (boxes : List Closed). cells_in (take k lists) ++ map cell boxes) (append-nil list.items)
 
 -- the cells of one list, between those of the lists before it and what comes behind them
-pub lists_around : (lists : List (Vec Closed Global)) (k : ℕ) (list : Vec Closed Global) (last : List (List (ℕ × ℕ))) → k < length lists → list ≡ get_or lists k list → cells_in lists ++ last ≡ (cells_in (take k lists) ++ map (λ box. spans_of box.cell) list.items) ++ (cells_in (drop (k + 1) lists) ++ last)
+pub lists_around : (lists : List (Vec Closed Global)) (k : ℕ) (list : Vec Closed Global) (last : List (List (ℕ × ℕ))) → k < length lists → list ≡ get_or lists k list
+    → cells_in lists ++ last ≡ (cells_in (take k lists) ++ map (λ box. spans_of box.cell) list.items) ++ (cells_in (drop (k + 1) lists) ++ last)
 lists_around lists k list last below is =
     let front = take (k + 1) lists in
     let back = drop (k + 1) lists in

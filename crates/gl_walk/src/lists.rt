@@ -88,7 +88,8 @@ impl Boxes {
         Ok(())
     }
 
-    /// Begins another list for what comes next, if that lies apart. The only error is want of memory.
+    /// Begins another list for what comes next, if that lies apart. The only error is want of
+    /// memory.
     pub fn begin_if(&mut self, apart: bool) -> Result<(), AllocError>
         ensures { OnOk result (boxes_in self.new ≡ boxes_in self.old) }
     {

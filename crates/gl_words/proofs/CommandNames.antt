@@ -105,7 +105,8 @@ replay_names [] = tt
 replay_names (word ∷ []) = tt
 replay_names (word ∷ flight ∷ []) = tt
 replay_names (word ∷ flight ∷ schedule ∷ []) = tt
-replay_names (word ∷ flight ∷ schedule ∷ workers ∷ []) = if_files (is_text word (codes "replay") && is_worker_count workers) (replay_words flight schedule (digits_value 10 workers)) (replay_files flight schedule (digits_value 10 workers))
+replay_names (word ∷ flight ∷ schedule ∷ workers ∷ []) = if_files (is_text word (codes "replay") && is_worker_count workers) (replay_words flight schedule (digits_value 10 workers))
+    (replay_files flight schedule (digits_value 10 workers))
 replay_names (word ∷ flight ∷ schedule ∷ workers ∷ more ∷ words) = tt
 
 as_replay : (words : Option ReplayWords) → HaveUnbrokenFiles words → HasUnbrokenNames (option_map Replay words)
@@ -151,7 +152,8 @@ as_near_check : (words : Option NearWords) → HaveUnbrokenNear words → HasUnb
 as_near_check None named = tt
 as_near_check (Some words) named = named
 
-some_point : (one other third : Bool) (flight place : List ℕ) → (other ≡ true → is_unbroken flight ≡ true) → HasUnbrokenNames (option_map Point (if one && other && third then Some (record { flight = flight; place = place }) else None))
+some_point : (one other third : Bool) (flight place : List ℕ) → (other ≡ true → is_unbroken flight ≡ true)
+    → HasUnbrokenNames (option_map Point (if one && other && third then Some (record { flight = flight; place = place }) else None))
 some_point true true true flight place named = named refl
 some_point true true false flight place named = tt
 some_point true false third flight place named = tt
@@ -170,7 +172,8 @@ abbrev HaveUnbrokenBadge : Option BadgeWords → Type 0
 HaveUnbrokenBadge None = Unit {0}
 HaveUnbrokenBadge (Some words) = HasUnbrokenBadge words
 
-some_badge : (one other third : Bool) (flight proof : List ℕ) → (other ≡ true → is_unbroken flight ≡ true) → (third ≡ true → is_unbroken proof ≡ true) → HaveUnbrokenBadge (if one && other && third then Some (record { flight = flight; proof = proof }) else None)
+some_badge : (one other third : Bool) (flight proof : List ℕ) → (other ≡ true → is_unbroken flight ≡ true) → (third ≡ true → is_unbroken proof ≡ true)
+    → HaveUnbrokenBadge (if one && other && third then Some (record { flight = flight; proof = proof }) else None)
 some_badge true true true flight proof named also = record { flight = named refl; proof = also refl }
 some_badge true true false flight proof named also = tt
 some_badge true false third flight proof named also = tt
@@ -259,5 +262,6 @@ command_names words =
     (or_names nearest badges
     (or_names near (option_or near_check point) (as_near (near_form (codes "near") words) (near_names (codes "near") words))
     (or_names near_check point (as_near_check (near_form (codes "nearcheck") words) (near_names (codes "nearcheck") words)) (point_names words)))
-    (or_names badge badge_check (as_badge (badge_form (codes "badge") words) (badge_names (codes "badge") words)) (as_badge_check (badge_form (codes "badgecheck") words) (badge_names (codes "badgecheck") words))))
+    (or_names badge badge_check (as_badge (badge_form (codes "badge") words) (badge_names (codes "badge") words))
+    (as_badge_check (badge_form (codes "badgecheck") words) (badge_names (codes "badgecheck") words))))
     (or_names series demo (series_names words) (as_demo (demo_form words)))))

@@ -88,7 +88,8 @@ fn read_free_command(words: &[Name]) -> Option<Command<'_>>
 
 /// `triangle FILE`.
 fn read_triangle_command(words: &[Name]) -> Option<Command<'_>>
-    ensures { option_map seen result ≡ option_map Triangle (file_form (codes "triangle") words.now) }
+    ensures { option_map seen result
+        ≡ option_map Triangle (file_form (codes "triangle") words.now) }
 {
     let file = read_file("triangle", words)?;
     Some(Command::Triangle(file))
@@ -144,7 +145,8 @@ fn read_near_command(words: &[Name]) -> Option<Command<'_>>
 
 /// `nearcheck FILE OTHER SECONDS PROOF`.
 fn read_near_check_command(words: &[Name]) -> Option<Command<'_>>
-    ensures { option_map seen result ≡ option_map NearCheck (near_form (codes "nearcheck") words.now) }
+    ensures { option_map seen result
+        ≡ option_map NearCheck (near_form (codes "nearcheck") words.now) }
 {
     let near = read_near_words("nearcheck", words)?;
     Some(Command::NearCheck(near))
@@ -177,7 +179,8 @@ fn read_badge_command(words: &[Name]) -> Option<Command<'_>>
 
 /// `badgecheck FILE PROOF`.
 fn read_badge_check_command(words: &[Name]) -> Option<Command<'_>>
-    ensures { option_map seen result ≡ option_map BadgeCheck (badge_form (codes "badgecheck") words.now) }
+    ensures { option_map seen result
+        ≡ option_map BadgeCheck (badge_form (codes "badgecheck") words.now) }
 {
     let badge = read_badge_words("badgecheck", words)?;
     Some(Command::BadgeCheck(badge))

@@ -4,7 +4,7 @@ use Rattle.std.proofs.lemmas.Int.{ints, to_z-of_z, unsigned_abs-mul, fits_signed
 use mir.Syntax.{Width}
 use mir.Val.{hbits}
 use Rattle.std.proofs.Math.Nat.{mul-le-mul}
-use Rattle.gl_sphere.specs.Laws.Signs.{abs_at_most, within_from_abs}
+use Rattle.gl_sphere.specs.Lemmas.Signs.{abs_at_most, within_from_abs}
 use Rattle.gl_sphere.specs.Range.{IsWithin}
 
 -- a product is within the product of the bounds
@@ -35,7 +35,8 @@ sum_kept w a b m n room h k =
     rw (e, f) (kept w (a +ℤ b) (m + n) room (sum_within a b m n h k))
 
 -- the machine's sum of three numbers
-pub three_kept : (w : Width) (a b c : ℤ) (m : ℕ) → m + m + m < 2 ^ hbits w → IsWithin m a → IsWithin m b → IsWithin m c → to_z w (of_z w (to_z w (of_z w (to_z w (of_z w a) +ℤ to_z w (of_z w b))) +ℤ to_z w (of_z w c))) ≡ a +ℤ b +ℤ c
+pub three_kept : (w : Width) (a b c : ℤ) (m : ℕ) → m + m + m < 2 ^ hbits w → IsWithin m a → IsWithin m b → IsWithin m c
+    → to_z w (of_z w (to_z w (of_z w (to_z w (of_z w a) +ℤ to_z w (of_z w b))) +ℤ to_z w (of_z w c))) ≡ a +ℤ b +ℤ c
 three_kept w a b c m room h k l =
     let e : to_z w (of_z w (to_z w (of_z w a) +ℤ to_z w (of_z w b))) ≡ a +ℤ b = sum_kept w a b m m (omega arith) h k in
     let f : to_z w (of_z w c) ≡ c = kept w c m (omega arith) l in
@@ -59,7 +60,8 @@ product_passed v w r a b m n room space h k e =
     e ∙ ap (λ z. z *ℤ to_z w (of_z w b)) f ∙ ap (λ z. a *ℤ z) g
 
 -- the machine's product, where the second factor comes from another width
-pub product_kept : (v w : Width) (a b : ℤ) (m n : ℕ) → m < 2 ^ hbits w → n < 2 ^ hbits v → n < 2 ^ hbits w → m * n < 2 ^ hbits w → IsWithin m a → IsWithin n b → to_z w (of_z w (to_z w (of_z w a) *ℤ to_z w (of_z w (to_z v (of_z v b))))) ≡ a *ℤ b
+pub product_kept : (v w : Width) (a b : ℤ) (m n : ℕ) → m < 2 ^ hbits w → n < 2 ^ hbits v → n < 2 ^ hbits w → m * n < 2 ^ hbits w → IsWithin m a → IsWithin n b
+    → to_z w (of_z w (to_z w (of_z w a) *ℤ to_z w (of_z w (to_z v (of_z v b))))) ≡ a *ℤ b
 product_kept v w a b m n ra rv rw_ room h k =
     let e : to_z w (of_z w a) ≡ a = kept w a m ra h in
     let g : to_z v (of_z v b) ≡ b = kept v b n rv k in
@@ -73,7 +75,8 @@ sum_fits w a b m n room h k =
     let f : to_z w (of_z w b) ≡ b = kept w b n (omega arith) k in
     rw (e, f) (fits_within w (a +ℤ b) (m + n) room (sum_within a b m n h k))
 
-pub three_fit : (w : Width) (a b c : ℤ) (m : ℕ) → m + m + m < 2 ^ hbits w → IsWithin m a → IsWithin m b → IsWithin m c → FitsSigned w (to_z w (of_z w (to_z w (of_z w a) +ℤ to_z w (of_z w b))) +ℤ to_z w (of_z w c))
+pub three_fit : (w : Width) (a b c : ℤ) (m : ℕ) → m + m + m < 2 ^ hbits w → IsWithin m a → IsWithin m b → IsWithin m c
+    → FitsSigned w (to_z w (of_z w (to_z w (of_z w a) +ℤ to_z w (of_z w b))) +ℤ to_z w (of_z w c))
 three_fit w a b c m room h k l =
     let e : to_z w (of_z w (to_z w (of_z w a) +ℤ to_z w (of_z w b))) ≡ a +ℤ b = sum_kept w a b m m (omega arith) h k in
     let f : to_z w (of_z w c) ≡ c = kept w c m (omega arith) l in

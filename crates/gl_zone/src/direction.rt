@@ -4,7 +4,7 @@ ghost use Rattle.gl_zone.specs.Product.{greatest_scalar_product};
 
 /// A direction at a point, by its parts towards north and towards east.
 #[derive(Clone, Copy)]
-pub(crate) struct Direction {
+pub struct Direction {
     pub north: i64,
     pub east: i64,
     pub ghost north_in_range: { IsWithin greatest_scalar_product north },
@@ -25,7 +25,7 @@ impl Direction {
     ghost use Rattle.gl_zone.specs.Zones.{is_clockwise};
 
     /// Whether another direction lies up to 180 degrees clockwise of this one.
-    pub(crate) fn is_clockwise(self, other: Direction) -> bool
+    pub fn is_clockwise(self, other: Direction) -> bool
         ensures { result ≡ is_clockwise (self.north, self.east) (other.north, other.east) }
     {
         crosswise(self.north, other.east) - crosswise(self.east, other.north) >= 0

@@ -13,6 +13,8 @@ mod zone;
 
 pub use containment::holds;
 pub use crossings::crossing;
+pub use direction::Direction;
 pub use line::Line;
+pub use product::scalar_product;
 pub use sides::side;
 pub use zone::{Cylinder, MOST_PARTS, Part, Sector, WHOLE_TURN, Zone};

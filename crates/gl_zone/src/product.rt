@@ -26,7 +26,7 @@ pub(crate) fn wide_product(a: i32, b: i64) -> i128
 }
 
 /// The scalar product of two vectors.
-pub(crate) fn scalar_product(a: Vec3, b: Vec3) -> i64
+pub fn scalar_product(a: Vec3, b: Vec3) -> i64
     ensures value { result ≡ scalar_product a b }
     ensures bound { IsWithin greatest_scalar_product result }
 {

@@ -1,6 +1,6 @@
 use super::{airspace, compare, recording, task};
 use gl_airspace::{Airspace, empty};
-use gl_judge::judged_range;
+use gl_judge::{Stretch, judged_range};
 use gl_task::Task;
 use std::alloc::Global;
 use std::test::Fail;
@@ -46,7 +46,7 @@ fn flights_round_a_race(rt: HostRuntime) -> Result<(), Fail> {
 }
 
 /// The judged fixes of a flight.
-fn judged(alloc: Global, task: &Task, air: &Airspace, flight: &str) -> Result<(u32, u32), Fail> {
+fn judged(alloc: Global, task: &Task, air: &Airspace, flight: &str) -> Result<Stretch, Fail> {
     let rec = recording(alloc, flight)?;
     Ok(judged_range(task, air, &rec))
 }
@@ -61,11 +61,11 @@ fn judged_fixes(rt: HostRuntime) -> Result<(), Fail> {
     let before = "300624 100000-W 100010-E";
     let late = "010724 195959-W 200000-E 200001-e";
     let flights = [
-        (&free, round, (0, 5)),
-        (&boxed, round, (0, 3)),
-        (&free, night, (1, 3)),
-        (&boxed, night, (1, 2)),
-        (&free, late, (0, 2)),
+        (&free, round, Stretch { from: 0, to: 5 }),
+        (&boxed, round, Stretch { from: 0, to: 3 }),
+        (&free, night, Stretch { from: 1, to: 3 }),
+        (&boxed, night, Stretch { from: 1, to: 2 }),
+        (&free, late, Stretch { from: 0, to: 2 }),
     ];
     for (air, flight, expected) in flights {
         assert_eq!(rt;
@@ -74,7 +74,7 @@ fn judged_fixes(rt: HostRuntime) -> Result<(), Fail> {
             "{flight}"
         );
     }
-    let (from, to) = judged(rt.alloc(), &race, &free, before)?;
-    assert_eq!(rt; from, to);
+    let none = judged(rt.alloc(), &race, &free, before)?;
+    assert_eq!(rt; none.from, none.to);
     Ok(())
 }

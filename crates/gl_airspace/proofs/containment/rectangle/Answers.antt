@@ -1,7 +1,7 @@
 use Rattle.std.proofs.Common.{◌≡◌, ◌-ℤ◌, ◌*ℤ◌, ℤ, FitsSigned, w64, to_z, of_z, arith, lit<}
 use Rattle.std.proofs.lemmas.Int.{fits_signed_mul, ints, to_z-of_z}
 use Rattle.gl_sphere.specs.Range.{IsWithin}
-use Rattle.gl_sphere.specs.Laws.Signs.{abs_at_most}
+use Rattle.gl_sphere.specs.Lemmas.Signs.{abs_at_most}
 use Rattle.gl_airspace.proofs.containment.rectangle.Goals as goal
 
 -- a difference of longitudes times one of latitudes has 64 bits
@@ -11,7 +11,8 @@ product_fits a b along up =
 
 pub overflow_mul-result : goal.overflow_mul-result
 overflow_mul-result c =
-    product_fits (to_z w64 (of_z w64 (to_z w64 (of_z w64 c.from.result) -ℤ to_z w64 (of_z w64 c.from-2.result)))) (to_z w64 (of_z w64 (to_z w64 (of_z w64 c.from-3.result) -ℤ to_z w64 (of_z w64 c.from-4.result)))) (omega (arith, ints), omega (arith, ints)) (omega (arith, ints), omega (arith, ints))
+    product_fits (to_z w64 (of_z w64 (to_z w64 (of_z w64 c.from.result) -ℤ to_z w64 (of_z w64 c.from-2.result))))
+    (to_z w64 (of_z w64 (to_z w64 (of_z w64 c.from-3.result) -ℤ to_z w64 (of_z w64 c.from-4.result)))) (omega (arith, ints), omega (arith, ints)) (omega (arith, ints), omega (arith, ints))
 
 pub returns : goal.returns
 returns c =

@@ -1,8 +1,8 @@
 use Rattle.std.proofs.Common.{◌≡◌, ◌∙◌, sym, ap, subst, ℕ, ◌+◌, ◌-◌, ◌++◌, ◌∷◌, [], ◌≤◌, vec_len, length, drop, List, Option, None, arith}
 use Rattle.std.proofs.lemmas.Grind.{common_steps}
 use Rattle.gl_airspace.specs.declared.volume.Volume.{Volume}
-use Rattle.gl_airspace.specs.Gathered.{IsGathered}
-use Rattle.gl_airspace.specs.Going.{Fits, volume_of}
+use Rattle.gl_airspace.specs.Code.Volumes.{IsGathered}
+use Rattle.gl_airspace.specs.Code.Going.{Fits, volume_of}
 use Rattle.gl_airspace.specs.Parts.{Tells}
 use Rattle.gl_airspace.specs.Volumes.{Reading, Refusal, corners_in, first_trouble, parted, readings_of, refusal_of, trouble}
 use Rattle.gl_airspace.proofs.Gathers.{all_fit, gathered_at, gathers, refusal_at, tells_first, trouble_behind}
@@ -16,7 +16,8 @@ returns-in-Err-clause-refused c =
     let on = readings_on text _ c.volumes.at c.in-Some.line.next c.in-Some.ensures.line in
     let refusal = refusal_at (refusal_of (readings_of text)) c.volumes.first (vec_len c.volumes.volumes) c.volumes.corners _ rest _ c.volumes.invariant.ahead on c.volumes.invariant.refusal in
     let judged = c.in-Err.ensures.judged text rest c.volumes.corners c.in_ok-part.ensures.goes in
-    let told : Tells (trouble c.volumes.first (vec_len c.volumes.volumes) c.volumes.corners (volume_of rest)) c.in-Err.error = subst (λ (n : ℕ). Tells (trouble c.volumes.first n c.volumes.corners (volume_of rest)) c.in-Err.error) c.len.ensures judged in
+    let told : Tells (trouble c.volumes.first (vec_len c.volumes.volumes) c.volumes.corners (volume_of rest)) c.in-Err.error =
+    subst (λ (n : ℕ). Tells (trouble c.volumes.first n c.volumes.corners (volume_of rest)) c.in-Err.error) c.len.ensures judged in
     subst (λ (r : Option Refusal). Tells r c.in-Err.error) (sym refusal) (tells_first _ _ c.in-Err.error told)
 
 pub volumes-preserved : goal.volumes-preserved

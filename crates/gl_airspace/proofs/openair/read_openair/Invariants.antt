@@ -1,5 +1,5 @@
 use Rattle.std.proofs.Common.{◌≡◌, ◌+◌, ◌-◌, ◌≤◌, [], vec_len, length, drop}
-use Rattle.gl_airspace.specs.Gathered.{IsGathered}
+use Rattle.gl_airspace.specs.Code.Volumes.{IsGathered}
 use Rattle.gl_airspace.specs.Volumes.{first_trouble, parted, readings_of, refusal_of}
 use Rattle.gl_airspace.proofs.openair.read_openair.Given as goal
 

@@ -3,10 +3,9 @@ use Rattle.std.proofs.lemmas.Grind.{common_steps}
 use Rattle.gl_airspace.specs.declared.step.Step.{Step}
 use Rattle.gl_airspace.specs.declared.step.Step.TheVariants.{Begins, Fits}
 use Rattle.gl_airspace.specs.declared.part.Part.{Part}
-use Rattle.gl_airspace.specs.Draft.{Says}
+use Rattle.gl_airspace.specs.Code.Parts.{Says, IsStep, SaysAfter}
 use Rattle.gl_airspace.specs.Line.{reading_of}
-use Rattle.gl_airspace.specs.Parts.{IsStep, SaysAfter}
-use Rattle.gl_airspace.specs.Going.{IsGoing}
+use Rattle.gl_airspace.specs.Code.Going.{IsGoing}
 use Rattle.gl_airspace.specs.Volumes.{Reading, begins, readings_of}
 use Rattle.gl_airspace.proofs.Goings.{corners_said, going_on, over_at_next, readings_on, same_going}
 use Rattle.gl_airspace.proofs.part.read_part.Goals as goal
@@ -38,5 +37,6 @@ lines-preserved c =
           (λ gone told. c.len-corners.ensures ∙ corners_said c.lines.part.draft gone told)
           (λ gone told. c.len-after.ensures ∙ corners_said c.take_step.new.draft gone told)
           refl refl c.surplus_after-part.ensures
-          (subst (λ (rest : List Reading). IsGoing (readings_of (drop c.args.at c.args.text.now)) rest c.args.room c.lines.part) (readings_on c.args.text.now _ c.lines.part.next c.in-Some.line.next c.in-Some.ensures.line) going);
+          (subst (λ (rest : List Reading). IsGoing (readings_of (drop c.args.at c.args.text.now)) rest c.args.room c.lines.part)
+          (readings_on c.args.text.now _ c.lines.part.next c.in-Some.line.next c.in-Some.ensures.line) going);
     }

@@ -1,5 +1,5 @@
 use Rattle.std.proofs.Common.{◌+◌, ◌-◌, ◌≤◌, length, drop}
-use Rattle.gl_airspace.specs.Going.{IsGoing}
+use Rattle.gl_airspace.specs.Code.Going.{IsGoing}
 use Rattle.gl_airspace.specs.Volumes.{readings_of}
 use Rattle.gl_airspace.proofs.part.read_part.Given as goal
 

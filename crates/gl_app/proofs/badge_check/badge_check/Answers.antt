@@ -9,5 +9,7 @@ use Rattle.gl_app.proofs.badge_check.badge_check.Goals as goal
 pub returns-in-Ok-clause-right : goal.returns-in-Ok-clause-right
 returns-in-Ok-clause-right g c =
     let words = badge_seen c.args.words in
-    let tested = subst (λ (f : Option FilesByName). HasTested (IsBadgeSeen words f) (badge_check_tests words) AreBadgeCheckRead (Ok (c.in-Ok.recording, c.in-Ok.proof))) c.in_ok-names.ensures.reads.folder c.in-Ok.ensures.tested in
-    badge_check_right (g.D.Desk.told c.args.desk.now).folder words c.in-Ok.recording c.in-Ok.proof c.as_slice.result.now c.in_ok-said-in-Ok.said _ tested c.as_slice.ensures.value c.in_ok-said-in-Ok.ensures c.in_ok-checked_answer-in-Ok.ensures
+    let tested = subst (λ (f : Option FilesByName). HasTested (IsBadgeSeen words f) (badge_check_tests words) AreBadgeCheckRead (Ok (c.in-Ok.recording, c.in-Ok.proof)))
+    c.in_ok-names.ensures.reads.folder c.in-Ok.ensures.tested in
+    badge_check_right (g.D.Desk.told c.args.desk.now).folder words c.in-Ok.recording c.in-Ok.proof c.as_slice.result.now c.in_ok-said-in-Ok.said _ tested c.as_slice.ensures.value
+    c.in_ok-said-in-Ok.ensures c.in_ok-checked_answer-in-Ok.ensures

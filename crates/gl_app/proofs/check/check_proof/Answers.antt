@@ -14,6 +14,8 @@ returns-clause-checked g c =
     let files = c.in_ok-files.files in
     let proof = c.in_ok-files.proof in
     let claims = c.as_slice.result.now in
-    let tested = subst (λ (f : Option FilesByName). HasTested (IsScoreSeen names f) (check_tests c.args.most names) IsCheckRead (Ok (files, proof))) c.in_ok-names.ensures.reads.folder c.in_ok-files.ensures.tested in
-    let said = subst (λ (f : Option FilesByName). IsDayChecked f files (map statement_of claims) c.in_ok-check_claims.field-0) (c.in_ok-files.ensures.reads.folder ∙ c.in_ok-names.ensures.reads.folder) c.in_ok-check_claims.ensures.checked in
+    let tested = subst (λ (f : Option FilesByName). HasTested (IsScoreSeen names f) (check_tests c.args.most names) IsCheckRead (Ok (files, proof))) c.in_ok-names.ensures.reads.folder
+    c.in_ok-files.ensures.tested in
+    let said = subst (λ (f : Option FilesByName). IsDayChecked f files (map statement_of claims) c.in_ok-check_claims.field-0) (c.in_ok-files.ensures.reads.folder
+    ∙ c.in_ok-names.ensures.reads.folder) c.in_ok-check_claims.ensures.checked in
     proof_checked c.args.most (g.D.Desk.told c.args.desk.now).folder names files proof claims c.in_ok-check_claims.field-0 tested c.as_slice.ensures.value said

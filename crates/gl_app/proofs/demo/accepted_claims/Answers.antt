@@ -7,7 +7,7 @@ use Rattle.gl_files.specs.DayFiles.{IsScoreSeen, check_tests}
 use Rattle.gl_files.specs.FileTests.{HasTested}
 use Rattle.gl_app.specs.Check.{IsProofChecked}
 use Rattle.gl_app.specs.Demo.{IsCountOf}
-use Rattle.gl_app.specs.Shelf.{folder_on}
+use Rattle.gl_app.specs.Code.Shelf.{folder_on}
 use Rattle.gl_app.proofs.Accepting.{FoundAccepted, scored_found, scored_passes}
 use Rattle.gl_app.proofs.demo.accepted_claims.Goals as goal
 use Rattle.gl_app.proofs.demo.accepted_claims.Goals.{in-Ok-Accepted, in-Err-Stopped}
@@ -38,6 +38,7 @@ counted said claims appended is found =
 pub returns-clause-counted : goal.returns-clause-counted
 returns-clause-counted c = elim c.match-check_proof.branch [
   | in-Ok-Accepted w ↦ (let is = w.in-Ok-Accepted.ensures.checked in
-      rw w.result-is (λ scored. counted w.in-Ok-Accepted.field-0 w.in-Ok-Accepted.claims scored.answer.appended w.in-Ok-Accepted.field-0-is (scored_found c.args.bytes (folder_on c.args.shelf.now) (names_seen c.args.day) scored is.0 w.in-Ok-Accepted.field-0 is.1 is.3)))
+      rw w.result-is (λ scored. counted w.in-Ok-Accepted.field-0 w.in-Ok-Accepted.claims scored.answer.appended w.in-Ok-Accepted.field-0-is
+      (scored_found c.args.bytes (folder_on c.args.shelf.now) (names_seen c.args.day) scored is.0 w.in-Ok-Accepted.field-0 is.1 is.3)))
   | in-Err-Stopped w ↦ rw w.result-is tt
 ]

@@ -3,7 +3,7 @@ use Rattle.gl_words.specs.Words.{DayNames}
 use Rattle.gl_answer.specs.declared.status.Status.TheVariants.{Done}
 use Rattle.gl_answer.specs.Answer.{answer_with}
 use Rattle.gl_app.specs.Demo.{HasJust, IsCountOf}
-use Rattle.gl_app.specs.Shelf.{folder_on, told_on}
+use Rattle.gl_app.specs.Code.Shelf.{folder_on, told_on}
 use Rattle.gl_app.proofs.Demos.{demo_announced, demo_done, just_files, scored_folder, small_of}
 use Rattle.gl_app.proofs.demo.demo.Goals as goal
 

@@ -32,6 +32,8 @@ returns-clause-ran c c' =
     with_rules _ _ _ _ _ _ _
     (two_rules _ _ _ _ _ _ c'.new-stewards.ensures.items c'.in_ok-push.ensures.items c'.in_ok-push-2.ensures.items
     (steward_rules ceiling_opening ceiling_fed ceiling_owed) (steward_rules noise_opening noise_fed noise_owed)
-    (at_place (λ v value. steward_rules ((own-1.entry v).1.opening value) ((own-1.entry v).1.fed value) ((own-1.entry v).1.owed value)) _ _ c'.into_dyn_box.result.value _ c'.into_dyn_box.ensures.0 (λ other. refl))
-    (at_place (λ v value. steward_rules ((own-1.entry v).1.opening value) ((own-1.entry v).1.fed value) ((own-1.entry v).1.owed value)) _ _ c'.into_dyn_box-in_ok-new-2.result.value _ c'.into_dyn_box-in_ok-new-2.ensures.0 (λ other. refl)))
+    (at_place (λ v value. steward_rules ((own-1.entry v).1.opening value) ((own-1.entry v).1.fed value) ((own-1.entry v).1.owed value)) _ _ c'.into_dyn_box.result.value _ c'.into_dyn_box.ensures.0
+    (λ other. refl))
+    (at_place (λ v value. steward_rules ((own-1.entry v).1.opening value) ((own-1.entry v).1.fed value) ((own-1.entry v).1.owed value)) _ _ c'.into_dyn_box-in_ok-new-2.result.value _
+    c'.into_dyn_box-in_ok-new-2.ensures.0 (λ other. refl)))
     c'.run.ensures

@@ -25,7 +25,8 @@ returns-in-Ok-say-clause-complete g c passes =
 pub returns-in-Ok-say-clause-words : goal.returns-in-Ok-say-clause-words
 returns-in-Ok-say-clause-words g c =
     let right = c.in-Ok.ensures.right in
-    if_none (stop_at c.in-Ok.answer.status) (right_words (g.D.Desk.told c.args.desk.now).folder _ (command_of c.args.words.now) (answer_with c.in-Ok.answer right.0) (command_names c.args.words.now) right.1)
+    if_none (stop_at c.in-Ok.answer.status) (right_words (g.D.Desk.told c.args.desk.now).folder _ (command_of c.args.words.now) (answer_with c.in-Ok.answer right.0)
+    (command_names c.args.words.now) right.1)
 
 pub returns-in-Ok-say-clause-line : goal.returns-in-Ok-say-clause-line
 returns-in-Ok-say-clause-line g c =
@@ -44,12 +45,14 @@ returns-clause-right g c =
     let part = c.in-Err-say.ensures.prefix in
     let said = subst (λ (l : List ℕ). z.said ≡ followed_by y.said (take part.0 l)) c.deref.ensures.value part.1 in
     stopped_ends (promise_of x.folder _ (command_of c.args.words.now)) c.in-Err-say.stop c.from-in-Err-say.result x z c.from-in-Err-say.ensures
-    (stops_saying (promise_of x.folder _ (command_of c.args.words.now)) (answer_with c.in-Ok.answer right.0) part.0 x y z right.1 right.2 said c.in-Err-say.ensures.same_folder c.in-Err-say.ensures.same_outputs)
+    (stops_saying (promise_of x.folder _ (command_of c.args.words.now)) (answer_with c.in-Ok.answer right.0) part.0 x y z right.1 right.2 said c.in-Err-say.ensures.same_folder
+    c.in-Err-say.ensures.same_outputs)
 
 pub returns-in-Ok-say-clause-accepted : goal.returns-in-Ok-say-clause-accepted
 returns-in-Ok-say-clause-accepted g c checks =
     let right = c.in-Ok.ensures.right in
-    if_none (stop_at c.in-Ok.answer.status) (right_accepted (g.D.Desk.told c.args.desk.now).folder _ (command_of c.args.words.now) (answer_with c.in-Ok.answer right.0) (command_names c.args.words.now) checks right.1)
+    if_none (stop_at c.in-Ok.answer.status) (right_accepted (g.D.Desk.told c.args.desk.now).folder _ (command_of c.args.words.now) (answer_with c.in-Ok.answer right.0)
+    (command_names c.args.words.now) checks right.1)
 
 pub returns-in-Err-clause-right : goal.returns-in-Err-clause-right
 returns-in-Err-clause-right g c =

@@ -18,4 +18,5 @@ returns c =
     let statements = map statement_of c.args.proof.now in
     let slice = c.as_slice.result.now in
     let proved = subst (λ (o : Option NotProved). MatchOption o (AreProved (expected_for slice) statements) (IsNotProved (expected_for slice) statements)) c.in-None.is c.in_ok-wrong.ensures.said in
-    end_said c.args.rec.now c.in_ok-claims.claims.items slice statements c.len.result c.check_end.result c.in_ok-claims.ensures c.as_slice.ensures.value (omega (arith, c.len.ensures, c.in_ok-claims.claims.ok.0)) proved c.check_end.ensures.ends
+    end_said c.args.rec.now c.in_ok-claims.claims.items slice statements c.len.result c.check_end.result c.in_ok-claims.ensures c.as_slice.ensures.value
+    (omega (arith, c.len.ensures, c.in_ok-claims.claims.ok.0)) proved c.check_end.ensures.ends

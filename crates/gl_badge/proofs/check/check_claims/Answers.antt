@@ -21,7 +21,8 @@ loop-claim-preserved c =
     let i = c.loop-claim.invariant in
     let statements = map statement_of c.args.proof.now in
     let goes = subst (GoesOn c.loop-claim.count (expected_for (c.claim-item.result ∷ [])) statements) c.in_default.is c.in_ok-wrong.ensures.goes_on in
-    let room : c.loop-claim.count + 1 ≤ length c.args.proof.now = subst (λ (o : Option NotProved). IfNone o (c.loop-claim.count + 1 ≤ length c.args.proof.now)) c.in_default.is c.in_ok-wrong.ensures.within in
+    let room : c.loop-claim.count + 1 ≤ length c.args.proof.now = subst (λ (o : Option NotProved). IfNone o (c.loop-claim.count + 1 ≤ length c.args.proof.now)) c.in_default.is
+    c.in_ok-wrong.ensures.within in
     record {
       counted = omega (arith, i.counted);
       within = room;

@@ -1,6 +1,6 @@
 use Rattle.std.proofs.Common.{◌≡◌, ◌∙◌, ap, sym, subst, map}
 use Rattle.std.specs.List.{AllZip}
-use Rattle.gl_goal.specs.Rule.{IsOptimum}
+use Rattle.gl_goal.specs.Goal.{IsOptimum}
 use Rattle.gl_proof.specs.declared.claim.Claim.{Claim}
 use Rattle.gl_proof.specs.Claim.{statement_of}
 use Rattle.gl_badge.specs.Claims.{rules_of_claims}

@@ -1,7 +1,8 @@
 use Rattle.std.proofs.Common.{◌≡◌, ◌∙◌, sym, ap, refl, subst, List, ℕ, ◌++◌, [], Option, None, Some, get_or, slice_get}
 use Rattle.std.specs.Prelude.{IsSome}
 use Rattle.std.proofs.lemmas.List.{append_assoc}
-use Rattle.gl_badge.specs.Text.{TellsFlown, distance_line, gain_line, is_total}
+use Rattle.gl_badge.specs.Text.{TellsFlown, distance_line, gain_line}
+use Rattle.gl_badge.specs.Code.Text.{is_total}
 use Rattle.gl_badge.proofs.Totals.{optima-totals}
 use Rattle.gl_badge.proofs.text.badge_text.Goals as goal
 
@@ -40,5 +41,6 @@ returns c =
       is = shown.1;
       flown = c.has_third.result;
       tells = subst (TellsFlown rec.fixes shown.0) (sym flown_is) (totals.tells shown.0 shown.1);
-      lines = lined c.new-text.result.items _ _ _ _ _ _ c.new-text.ensures.items (c.in_ok-push_distance.ensures ∙ ap (λ (n : ℕ). c.new-text.result.items ++ distance_line n) distance_is) (c.in_ok-push_gain.ensures ∙ ap (λ (n : ℕ). c.push_distance.new.text.items ++ gain_line n) gain_is) shown.2;
+      lines = lined c.new-text.result.items _ _ _ _ _ _ c.new-text.ensures.items (c.in_ok-push_distance.ensures
+          ∙ ap (λ (n : ℕ). c.new-text.result.items ++ distance_line n) distance_is) (c.in_ok-push_gain.ensures ∙ ap (λ (n : ℕ). c.push_distance.new.text.items ++ gain_line n) gain_is) shown.2;
     }

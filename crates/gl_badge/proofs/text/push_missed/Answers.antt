@@ -10,4 +10,5 @@ joined old head middle end one two three first second third =
 
 pub returns : goal.returns
 returns c =
-    joined c.args.text.now.items _ _ _ _ _ _ c.in_ok-extend_from_slice.ensures.items (c.in_ok-push_u64.ensures.ok ∙ ap (λ (n : ℕ). c.extend_from_slice.new.self.items ++ decimal n) c.from.ensures) c.in_ok-push.ensures.items
+    joined c.args.text.now.items _ _ _ _ _ _ c.in_ok-extend_from_slice.ensures.items (c.in_ok-push_u64.ensures.ok
+    ∙ ap (λ (n : ℕ). c.extend_from_slice.new.self.items ++ decimal n) c.from.ensures) c.in_ok-push.ensures.items

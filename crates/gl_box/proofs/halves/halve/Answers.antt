@@ -1,7 +1,7 @@
 use Rattle.std.proofs.Common.{◌≡◌, ◌∙◌, sym, ap, refl, ℕ, ◌<◌, ◌≤◌, get_or, arith}
 use Rattle.gl_box.specs.Cell.{spans_of}
 use Rattle.gl_box.specs.Halves.{width}
-use Rattle.gl_box.specs.Laws.Spans.{halves_made, length-spans, single-from_widest, single-narrow, span_at-read}
+use Rattle.gl_box.proofs.Spans.{halves_made, length-spans, single-from_widest, single-narrow, span_at-read}
 use Rattle.gl_box.proofs.halves.halve.Goals as goal
 
 no_width : (span : ℕ × ℕ) (lo hi : ℕ) → span ≡ (lo, hi) → lo ≡ hi → width span ≡ 0

@@ -1,7 +1,7 @@
 use Rattle.std.proofs.Common.{rules, ◌≡◌, List, [], ◌∷◌, ℕ, arith}
 use Rattle.gl_box.specs.Halves.{AreHalves}
 use Rattle.gl_box.specs.Frontier.{mult}
-use Rattle.gl_box.specs.Laws.Parts.{mult-append, mult-halves}
+use Rattle.gl_box.proofs.Parts.{mult-append, mult-halves}
 use Rattle.gl_box.proofs.halves.split.Goals as goal
 
 both : (cell lower upper : List (ℕ × ℕ)) (tuple : List ℕ) → AreHalves cell lower upper → mult (lower ∷ upper ∷ []) tuple ≡ mult (cell ∷ []) tuple

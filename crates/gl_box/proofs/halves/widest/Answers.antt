@@ -1,7 +1,7 @@
 use Rattle.std.proofs.Common.{◌≡◌, ◌∙◌, sym, ap, ℕ, ◌<◌, ◌≤◌, arith}
 use Rattle.gl_box.specs.Cell.{spans_of}
 use Rattle.gl_box.specs.Halves.{span_at, width}
-use Rattle.gl_box.specs.Laws.Spans.{span_at-read, widest-more, widest-next, widest-next_or_same}
+use Rattle.gl_box.proofs.Spans.{span_at-read, widest-more, widest-next, widest-next_or_same}
 use Rattle.gl_box.proofs.halves.widest.Goals as goal
 use Rattle.gl_box.proofs.halves.widest.Goals.{then-width, else-width}
 
@@ -17,7 +17,8 @@ loop-axis-preserved c =
     let all : cell.axes ≤ 10 = cell.ten_axes in
     let f = λ (axis : ℕ). width (span_at (spans_of cell) axis) in
     let here : f c.loop-axis.axis ≡ c.width.result = ap width (span_at-read cell.axes cell.spans c.loop-axis.axis c.index-cell-axis.result (omega arith) (omega arith)) ∙ sym c.width.ensures in
-    let best : f c.loop-axis.widest ≡ c.width-in-loop-axis.result = ap width (span_at-read cell.axes cell.spans c.loop-axis.widest c.index-cell-widest.result (omega arith) (omega arith)) ∙ sym c.width-in-loop-axis.ensures in
+    let best : f c.loop-axis.widest ≡ c.width-in-loop-axis.result = ap width (span_at-read cell.axes cell.spans c.loop-axis.widest c.index-cell-widest.result (omega arith) (omega arith))
+    ∙ sym c.width-in-loop-axis.ensures in
     elim c.if-width.branch [
       | then-width w ↦
           let wider : f c.loop-axis.widest < f c.loop-axis.axis = wider_along _ _ _ _ best here w.if-width.true in

@@ -1,7 +1,7 @@
 use Rattle.std.proofs.Common.{◌≡◌, ◌∙◌, sym, ap, refl, ℕ, arith, below_more}
 use Rattle.gl_box.specs.Cell.{spans_of}
-use Rattle.gl_box.specs.Laws.Spans.{against, length-spans_of, order_along, span_at-spans_of}
-use Rattle.gl_box.specs.Laws.Held.{covers_at, covers_from, length-covers}
+use Rattle.gl_box.proofs.Spans.{against, length-spans_of, order_along, span_at-spans_of}
+use Rattle.gl_box.proofs.Held.{covers_at, covers_from, length-covers}
 use Rattle.gl_box.proofs.holding.covers.Goals as goal
 use Rattle.gl_box.proofs.holding.covers.Goals.{then-span-around-via-then-span-around, then-span-around-via-else-span-around+then-around-span}
 
@@ -47,5 +47,7 @@ pub returns : goal.returns
 returns c =
     let outer = c.args.outer.now in
     let inner = c.args.inner.now in
-    let same : outer.axes ≡ inner.axes = omega arith in
-    (λ yes. covers_from _ _ (length-spans_of outer ∙ same ∙ sym (length-spans_of inner)) (λ k below. c.loop-axis.invariant k (omega (arith, length-spans_of outer, c.loop-axis-test.false))), λ covers. refl)
+    let same : outer.axes ≡ inner.axes = omega arith in (
+      λ yes. covers_from _ _ (length-spans_of outer ∙ same ∙ sym (length-spans_of inner)) (λ k below. c.loop-axis.invariant k (omega (arith, length-spans_of outer, c.loop-axis-test.false))),
+      λ covers. refl,
+    )

@@ -1,8 +1,8 @@
 use Rattle.std.proofs.Common.{◌≡◌, ◌∙◌, sym, ap, refl, ℕ, arith, below_more}
 use Rattle.gl_box.specs.Cell.{spans_of}
 use Rattle.gl_box.specs.Tuple.{places_of}
-use Rattle.gl_box.specs.Laws.Spans.{against, get_or-places_of, length-places_of, length-spans_of, order_along, span_at-spans_of}
-use Rattle.gl_box.specs.Laws.Held.{holds_at, holds_from, length-holds}
+use Rattle.gl_box.proofs.Spans.{against, get_or-places_of, length-places_of, length-spans_of, order_along, span_at-spans_of}
+use Rattle.gl_box.proofs.Held.{holds_at, holds_from, length-holds}
 use Rattle.gl_box.proofs.holding.has.Goals as goal
 use Rattle.gl_box.proofs.holding.has.Goals.{then-place-span-via-then-place-span, then-place-span-via-else-place-span+then-span-place}
 
@@ -48,5 +48,7 @@ pub returns : goal.returns
 returns c =
     let cell = c.args.cell.now in
     let tuple = c.args.tuple.now in
-    let same : cell.axes ≡ tuple.axes = omega arith in
-    (λ yes. holds_from _ _ (length-spans_of cell ∙ same ∙ sym (length-places_of tuple)) (λ k below. c.loop-axis.invariant k (omega (arith, length-spans_of cell, c.loop-axis-test.false))), λ held. refl)
+    let same : cell.axes ≡ tuple.axes = omega arith in (
+      λ yes. holds_from _ _ (length-spans_of cell ∙ same ∙ sym (length-places_of tuple)) (λ k below. c.loop-axis.invariant k (omega (arith, length-spans_of cell, c.loop-axis-test.false))),
+      λ held. refl,
+    )

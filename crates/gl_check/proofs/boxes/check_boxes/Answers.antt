@@ -2,7 +2,7 @@ use Rattle.std.proofs.Common.{◌≡◌, ◌∙◌, sym, ap, subst, ℕ, List, [
 use Rattle.gl_box.specs.declared.cell.Cell.{Cell}
 use Rattle.gl_walk.specs.Walk.{IsWalked, open_cells}
 use Rattle.gl_walk.proofs.Frontiers.{walked_start}
-use Rattle.gl_goal.specs.Rule.{whole_cell}
+use Rattle.gl_goal.specs.Goal.{whole_cell}
 use Rattle.gl_check.proofs.boxes.check_boxes.Goals as goal
 
 pub pass_boxes-requires-clause-opened : goal.pass_boxes-requires-clause-opened

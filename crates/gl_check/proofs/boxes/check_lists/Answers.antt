@@ -14,11 +14,14 @@ returns-then-is_empty g c =
     let cells = c.args.cells.now in
     let rule = g.G.Goal.rule c.args.goal.now in
     let none : length cells.lists.items ≡ 0 = omega (arith, eqb-true _ _ (sym c.is_empty.ensures ∙ c.if-is_empty.true), cells.lists.ok.0) in
-    let alone : c.as_slice.result.now ≡ boxes_in cells = c.as_slice.ensures.value ∙ ap (λ (l : List (Vec Closed Global)). flat_map (λ list. list.items) l ++ cells.last.items) (sym (nil_from_length cells.lists.items none)) in
-    IfOk-weaker c.check_boxes.result _ _ (λ verdict said fixes claimed. subst (λ (l : List Closed). IsVerdict rule c.args.total fixes (map box_of l) verdict) alone (said fixes claimed)) c.check_boxes.ensures
+    let alone : c.as_slice.result.now ≡ boxes_in cells = c.as_slice.ensures.value
+    ∙ ap (λ (l : List (Vec Closed Global)). flat_map (λ list. list.items) l ++ cells.last.items) (sym (nil_from_length cells.lists.items none)) in
+    IfOk-weaker c.check_boxes.result _ _ (λ verdict said fixes claimed. subst (λ (l : List Closed). IsVerdict rule c.args.total fixes (map box_of l) verdict) alone (said fixes claimed))
+    c.check_boxes.ensures
 
 pub returns : goal.returns
 returns g c =
     let rule = g.G.Goal.rule c.args.goal.now in
     let all : c.as_slice-2.result.now ≡ boxes_in c.args.cells.now = c.as_slice-2.ensures.value ∙ c.in_ok-joined.ensures in
-    IfOk-weaker c.check_boxes-2.result _ _ (λ verdict said fixes claimed. subst (λ (l : List Closed). IsVerdict rule c.args.total fixes (map box_of l) verdict) all (said fixes claimed)) c.check_boxes-2.ensures
+    IfOk-weaker c.check_boxes-2.result _ _ (λ verdict said fixes claimed. subst (λ (l : List Closed). IsVerdict rule c.args.total fixes (map box_of l) verdict) all (said fixes claimed))
+    c.check_boxes-2.ensures

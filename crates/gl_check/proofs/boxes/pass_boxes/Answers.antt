@@ -8,7 +8,7 @@ use Rattle.gl_walk.specs.Boxes.{AreRight, AreWhole, IsRight, NoneWrong}
 use Rattle.gl_walk.specs.Walk.{open_cells}
 use Rattle.gl_walk.proofs.Frontiers.{walked_open, walked_whole}
 use Rattle.gl_walk.proofs.Passed.{held_at, holds_at, no_cell, some_cell}
-use Rattle.gl_goal.specs.Rule.{whole_cell}
+use Rattle.gl_goal.specs.Goal.{whole_cell}
 use Rattle.gl_goal.specs.Certificate.{IsClosedFor}
 use Rattle.gl_check.specs.Verdict.{IsClosedAt, cells_of}
 use Rattle.gl_check.proofs.Passed.{length-cells, strays, walks_on}
@@ -54,7 +54,8 @@ pub is_closed-requires-clause-covers : goal.is_closed-requires-clause-covers
 is_closed-requires-clause-covers g c =
     let l = c.loop-place in
     let empty : open_cells l.opened.items ≡ [] → ⊥ = some_cell l.opened.items (λ none. eqb-false _ _ (sym c.is_empty.ensures ∙ c.if-is_empty.false) (omega (arith, none, l.opened.ok.0))) in
-    (walks_on (whole_cell (g.G.Goal.rule c.args.goal.now).axes) c.args.cells.now l.place c.index-cells-place.result (open_cells l.opened.items) (open_cells c.go_down.new.opened.items) c.loop-place-test.true c.index-cells-place.is l.invariant.walked empty (c.in_ok-go_down.ensures.there c.if-not-branch.false)).covers
+    (walks_on (whole_cell (g.G.Goal.rule c.args.goal.now).axes) c.args.cells.now l.place c.index-cells-place.result (open_cells l.opened.items)
+    (open_cells c.go_down.new.opened.items) c.loop-place-test.true c.index-cells-place.is l.invariant.walked empty (c.in_ok-go_down.ensures.there c.if-not-branch.false)).covers
 
 pub returns-then-not-is_closed : goal.returns-then-not-is_closed
 returns-then-not-is_closed g c = λ fixes claimed.
@@ -63,7 +64,8 @@ returns-then-not-is_closed g c = λ fixes claimed.
     let cells = c.args.cells.now in
     let next = c.index-cells-place.result in
     let empty : open_cells l.opened.items ≡ [] → ⊥ = some_cell l.opened.items (λ none. eqb-false _ _ (sym c.is_empty.ensures ∙ c.if-is_empty.false) (omega (arith, none, l.opened.ok.0))) in
-    let on = walks_on (whole_cell rule.axes) cells l.place next (open_cells l.opened.items) (open_cells c.go_down.new.opened.items) c.loop-place-test.true c.index-cells-place.is l.invariant.walked empty (c.in_ok-go_down.ensures.there c.if-not-branch.false) in (
+    let on = walks_on (whole_cell rule.axes) cells l.place next (open_cells l.opened.items)
+    (open_cells c.go_down.new.opened.items) c.loop-place-test.true c.index-cells-place.is l.invariant.walked empty (c.in_ok-go_down.ensures.there c.if-not-branch.false) in (
       claimed,
       record {
         place = l.place;
@@ -88,12 +90,14 @@ loop-place-preserved g c =
     let boxes = map box_of cells in
     let next = c.index-cells-place.result in
     let empty : open_cells l.opened.items ≡ [] → ⊥ = some_cell l.opened.items (λ none. eqb-false _ _ (sym c.is_empty.ensures ∙ c.if-is_empty.false) (omega (arith, none, l.opened.ok.0))) in
-    let on = walks_on whole cells l.place next (open_cells l.opened.items) (open_cells c.go_down.new.opened.items) c.loop-place-test.true c.index-cells-place.is l.invariant.walked empty (c.in_ok-go_down.ensures.there c.if-not-branch.false) in
+    let on = walks_on whole cells l.place next (open_cells l.opened.items) (open_cells c.go_down.new.opened.items) c.loop-place-test.true c.index-cells-place.is l.invariant.walked empty
+    (c.in_ok-go_down.ensures.there c.if-not-branch.false) in
     record {
       walked = on.walked;
       right = below_more (IsRight whole (cells_of boxes) (IsClosedAt rule c.args.total boxes)) l.place l.invariant.right (record {
         placed = on.placed;
-        closed = holds_at box_of (λ (box : List (ℕ × ℕ) × Why). IsClosedFor rule c.args.total box.0 box.1) cells l.place next c.loop-place-test.true c.index-cells-place.is (c.is_closed.ensures.closed.0 c.if-not-is_closed.false);
+        closed = holds_at box_of (λ (box : List (ℕ × ℕ) × Why). IsClosedFor rule c.args.total box.0 box.1) cells l.place next c.loop-place-test.true c.index-cells-place.is
+            (c.is_closed.ensures.closed.0 c.if-not-is_closed.false);
       });
       legs = c.is_closed.ensures.legs;
     }

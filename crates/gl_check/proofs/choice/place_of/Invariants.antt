@@ -1,5 +1,5 @@
 use Rattle.std.proofs.Common.{ℕ, ◌-◌, ◌<◌, ◌≤◌, [], length, get_or}
-use Rattle.gl_goal.specs.Rule.{fix_at}
+use Rattle.gl_goal.specs.Goal.{fix_at}
 use Rattle.gl_check.proofs.choice.place_of.Given as goal
 
 -- the fixes at lower places come earlier, and those at higher ones later

@@ -1,8 +1,8 @@
 use Rattle.std.proofs.Common.{◌∙◌, sym, ap, refl, ℕ, ◌<◌, List, length, get_or, arith}
 use Rattle.gl_box.specs.Tuple.{places_of}
-use Rattle.gl_box.specs.Laws.Spans.{length-places_of}
-use Rattle.gl_goal.specs.Laws.Order.{get_or-chosen, length-chosen, place_within}
-use Rattle.gl_goal.specs.Rule.{IsTuple}
+use Rattle.gl_box.proofs.Spans.{length-places_of}
+use Rattle.gl_goal.specs.Lemmas.Points.{get_or-chosen, length-chosen, place_within}
+use Rattle.gl_goal.specs.Goal.{IsTuple}
 use Rattle.gl_check.proofs.Choices.{chosen_from, tuple_from}
 use Rattle.gl_check.proofs.choice.tuple_of.Goals as goal
 

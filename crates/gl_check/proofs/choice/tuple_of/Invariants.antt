@@ -1,6 +1,6 @@
 use Rattle.std.proofs.Common.{◌≡◌, ℕ, ◌<◌, [], length, get_or}
 use Rattle.gl_box.specs.Tuple.{places_of}
-use Rattle.gl_goal.specs.Rule.{fix_at}
+use Rattle.gl_goal.specs.Goal.{fix_at}
 use Rattle.gl_check.proofs.choice.tuple_of.Given as goal
 
 -- the axes so far have the places of their fixes

@@ -1,7 +1,7 @@
 use Rattle.std.proofs.Common.{sym, arith}
 use Rattle.std.proofs.lemmas.List.{length-map}
 use Rattle.gl_proof.specs.Claim.{statement_of}
-use Rattle.gl_day.specs.Laws.Checks.{zip_long}
+use Rattle.gl_day.proofs.Checks.{zip_long}
 use Rattle.gl_day.proofs.Walked.{all_proved}
 use Rattle.gl_day.proofs.check.check_end.Goals as goal
 

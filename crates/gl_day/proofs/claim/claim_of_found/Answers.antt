@@ -6,7 +6,8 @@ use Rattle.gl_day.proofs.claim.claim_of_found.Goals as goal
 
 pub invariant_of-result : goal.invariant_of-result
 invariant_of-result g c = record {
-  named = named_found (g.G.Goal.rule c.args.goal.now) c.args.found.best c.total_of.result c.in_ok-fixes.fixes.items (g.met.G.Goal.laws c.args.goal.now) c.requires.sound c.total_of.ensures c.in_ok-fixes.ensures;
+  named = named_found (g.G.Goal.rule c.args.goal.now) c.args.found.best c.total_of.result c.in_ok-fixes.fixes.items
+      (g.met.G.Goal.laws c.args.goal.now) c.requires.sound c.total_of.ensures c.in_ok-fixes.ensures;
 }
 
 pub returns-clause-writable : goal.returns-clause-writable

@@ -1,6 +1,6 @@
 use Rattle.std.proofs.Common.{◌≡◌, ◌≤◌, length, map}
 use Rattle.gl_deal.specs.Tokens.{hand_deque}
-use Rattle.gl_deal.specs.Deal.{AreDealt, ArePiles}
+use Rattle.gl_deal.specs.Code.Deal.{AreDealt, ArePiles}
 use Rattle.gl_deal.proofs.dealing.all_passes.Given as goal
 
 abbrev pub invariant-loop-worker : goal.invariant-loop-worker

@@ -8,7 +8,8 @@ use Rattle.gl_deal.proofs.Turns.{places_dealt}
 use Rattle.gl_deal.proofs.dealing.deal.Goals as goal
 
 -- what follows from two facts of a result follows of the result
-if_both : (result : Result (Vec Place Global) AllocError) (P Q R : Vec Place Global → Type 0) → ((places : Vec Place Global) → P places → Q places → R places) → IfOk result P → IfOk result Q → IfOk result R
+if_both : (result : Result (Vec Place Global) AllocError) (P Q R : Vec Place Global → Type 0) → ((places : Vec Place Global) → P places → Q places → R places) → IfOk result P → IfOk result Q
+    → IfOk result R
 if_both (Ok places) P Q R both p q = both places p q
 if_both (Err error) P Q R both p q = tt
 

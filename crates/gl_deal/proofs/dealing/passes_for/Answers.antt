@@ -8,10 +8,12 @@ use Rattle.gl_deal.proofs.dealing.passes_for.Goals.{then-owner-worker+in_ok-serv
 use Rattle.gl_deal.proofs.dealing.passes_for.Goals as goal
 
 pub returns-in_err-serve-clause-deques : goal.returns-in_err-serve-clause-deques
-returns-in_err-serve-clause-deques c = map-set_same hand_deque c.loop-owner.hands c.loop-owner.owner c.serve.new.self c.index-hands-owner.result c.serve.ensures.deque ∙ c.loop-owner.invariant.deques_are
+returns-in_err-serve-clause-deques c = map-set_same hand_deque c.loop-owner.hands c.loop-owner.owner c.serve.new.self c.index-hands-owner.result c.serve.ensures.deque
+    ∙ c.loop-owner.invariant.deques_are
 
 pub returns-in_err-push-clause-deques : goal.returns-in_err-push-clause-deques
-returns-in_err-push-clause-deques c = map-set_same hand_deque c.loop-owner.hands c.loop-owner.owner c.serve.new.self c.index-hands-owner.result c.serve.ensures.deque ∙ c.loop-owner.invariant.deques_are
+returns-in_err-push-clause-deques c = map-set_same hand_deque c.loop-owner.hands c.loop-owner.owner c.serve.new.self c.index-hands-owner.result c.serve.ensures.deque
+    ∙ c.loop-owner.invariant.deques_are
 
 pub loop-owner-preserved : goal.loop-owner-preserved
 loop-owner-preserved c =

@@ -7,6 +7,7 @@ use Rattle.gl_desk.proofs.mem.store.Goals as goal
 
 pub returns : goal.returns
 returns c =
-    let ends = (YieldsList-end (YieldsList-from_vec c.args.files.items c.into_iter-name-iterator.ensures.into_iter_gives.0 (search rules)) c.loop-name.yielded c.loop-name.name-iterator c.loop-name.yielded_by c.next.result c.next.new.self c.in-None.is c.next.ensures.steps).0 in
+    let ends = (YieldsList-end (YieldsList-from_vec c.args.files.items c.into_iter-name-iterator.ensures.into_iter_gives.0 (search rules)) c.loop-name.yielded c.loop-name.name-iterator
+    c.loop-name.yielded_by c.next.result c.next.new.self c.in-None.is c.next.ensures.steps).0 in
     let all : c.loop-name.yielded ≡ c.args.files.items = sym (map_fixed (λ file. file) c.loop-name.yielded (λ _ _ _. refl)) ∙ ends in
     λ name. (rw all at c.loop-name.invariant name) ∙ lookup-given_files c.args.files.items name c.requires

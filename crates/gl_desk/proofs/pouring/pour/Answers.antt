@@ -15,7 +15,8 @@ pieces-preserved g c =
       bytes = inv.bytes ++ part;
       counted = grind (arith, common_steps);
       so_far = first_part_grows (g.D.Desk.told c.args.desk.now).folder c.args.name.now _ _ _ _ _ _ refl refl inv.so_far (rw inv.reads.folder at c.in_ok-read.ensures.bytes);
-      taken = λ text stands. subst (g.T.Taker.stands_for c.take.new.self) (append_assoc text inv.bytes part) (subst (λ (taken : List ℕ). g.T.Taker.stands_for c.take.new.self ((text ++ inv.bytes) ++ taken)) same (c.in_ok-take.ensures.takes (text ++ inv.bytes) (inv.taken text stands)));
+      taken = λ text stands. subst (g.T.Taker.stands_for c.take.new.self) (append_assoc text inv.bytes part)
+          (subst (λ (taken : List ℕ). g.T.Taker.stands_for c.take.new.self ((text ++ inv.bytes) ++ taken)) same (c.in_ok-take.ensures.takes (text ++ inv.bytes) (inv.taken text stands)));
       tag = c.take.ensures.tag ∙ inv.tag;
       reads = OnlyReads-then _ _ _ _ inv.reads c.in_ok-read.ensures.reads;
     }

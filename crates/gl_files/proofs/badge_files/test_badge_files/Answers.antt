@@ -1,8 +1,8 @@
 use Rattle.std.proofs.lemmas.Result.{err_from_is_err_and}
 use Rattle.gl_words.specs.BadgeWords.{badge_seen}
 use Rattle.gl_files.proofs.BadgeTests.{badge_tested, flight_missing, proof_listed}
-use Rattle.gl_files.proofs.DayTests.{has_file}
 use Rattle.gl_files.proofs.badge_files.test_badge_files.Goals as goal
+use Rattle.gl_desk.proofs.DeskLemmas.{HasFile-from_names}
 
 pub returns-in_err-need-clause-tested : goal.returns-in_err-need-clause-tested
 returns-in_err-need-clause-tested g c =
@@ -13,7 +13,7 @@ pub returns-in_err-need_unlisted-clause-tested : goal.returns-in_err-need_unlist
 returns-in_err-need_unlisted-clause-tested g c =
     let words = badge_seen c.args.words in
     let folder = (g.D.Desk.told c.args.desk.now).folder in
-    let flight = has_file folder c.args.names.now words.flight c.requires c.in_ok-need.ensures.needed in
+    let flight = HasFile-from_names folder c.args.names.now words.flight c.requires c.in_ok-need.ensures.needed in
     let p = err_from_is_err_and c.from_residual-in_err-need_unlisted.result c.from_residual-in_err-need_unlisted.ensures.1 in
     rw (p.1, p.2) (proof_listed folder c.args.names.now words c.in_err-need_unlisted.field-0.0 c.requires flight c.in_err-need_unlisted.ensures.unused)
 

@@ -16,7 +16,8 @@ pub returns-in_err-airspace-clause-tested : goal.returns-in_err-airspace-clause-
 returns-in_err-airspace-clause-tested g c =
     let task = c.in_ok-task.task in
     let halt = c.in_err-airspace.field-0.0 in
-    let refused = subst (λ (f : Option FilesByName). HasTested {X = Airspace} (IsAirspaceSeen f task.airspace) (airspace_tests task.airspace) IsAirspaceRead (Err halt)) c.in_ok-task.ensures.reads.folder c.in_err-airspace.ensures.tested in
+    let refused = subst (λ (f : Option FilesByName). HasTested {X = Airspace} (IsAirspaceSeen f task.airspace) (airspace_tests task.airspace) IsAirspaceRead (Err halt))
+    c.in_ok-task.ensures.reads.folder c.in_err-airspace.ensures.tested in
     let p = err_from_is_err_and c.from_residual-in_err-airspace.result c.from_residual-in_err-airspace.ensures.1 in
     rw (p.1, p.2) (day_refused (g.D.Desk.told c.args.desk.now).folder c.args.file.now task halt c.in_ok-task.ensures.read refused)
 
@@ -24,5 +25,6 @@ pub returns-clause-tested : goal.returns-clause-tested
 returns-clause-tested g c =
     let task = c.in_ok-task.task in
     let air = c.in_ok-airspace.airspace in
-    let read = subst (λ (f : Option FilesByName). HasTested (IsAirspaceSeen f task.airspace) (airspace_tests task.airspace) IsAirspaceRead (Ok air)) c.in_ok-task.ensures.reads.folder c.in_ok-airspace.ensures.tested in
+    let read = subst (λ (f : Option FilesByName). HasTested (IsAirspaceSeen f task.airspace) (airspace_tests task.airspace) IsAirspaceRead (Ok air)) c.in_ok-task.ensures.reads.folder
+    c.in_ok-airspace.ensures.tested in
     day_read (g.D.Desk.told c.args.desk.now).folder c.args.file.now task air c.in_ok-task.ensures.read read

@@ -1,7 +1,8 @@
 use Rattle.std.proofs.Common.{List, subst, ℕ}
 use Rattle.gl_desk.specs.Limits.{most_bytes}
 use Rattle.gl_task_file.specs.Reading.{IsReadFrom}
-use Rattle.gl_files.specs.FileTests.{HasRead, TaskText}
+use Rattle.gl_files.specs.Code.FileTests.{HasRead}
+use Rattle.gl_files.specs.FileTests.{TaskText}
 use Rattle.gl_files.proofs.FileTests.{bytes_read}
 use Rattle.gl_files.proofs.day_files.read_task_file.Goals as goal
 

@@ -4,8 +4,12 @@ use Rattle.gl_files.proofs.pouring.read_proof_pieces.Goals as goal
 
 pub returns-in-Ok-clause-read : goal.returns-in-Ok-clause-read
 returns-in-Ok-clause-read g c =
-    let poured = c.in-Ok.ensures.poured in
-    (poured.file, poured.seen, omega (arith, poured.counted, c.in-Ok.ensures.fits), proof_says poured.file c.pour.new.to.reader c.finish.result c.finish.ensures.ok c.finish.ensures.refused (poured.stands [] c.new.ensures))
+    let poured = c.in-Ok.ensures.poured in (
+      poured.file,
+      poured.seen,
+      omega (arith, poured.counted, c.in-Ok.ensures.fits),
+      proof_says poured.file c.pour.new.to.reader c.finish.result c.finish.ensures.ok c.finish.ensures.refused (poured.stands [] c.new.ensures),
+    )
 
 pub returns-in-Err-clause-read : goal.returns-in-Err-clause-read
 returns-in-Err-clause-read g c =

@@ -20,20 +20,26 @@ returns-in_err-sheets-clause-tested g c =
     let p = err_from_is_err_and c.from_residual-in_err-sheets.result c.from_residual-in_err-sheets.ensures.1 in
     let halt = c.in_err-sheets.field-0.0 in
     let folder = (g.D.Desk.told c.args.desk.now).folder in
-    let there = subst (λ (f : Option FilesByName). HasTested {X = Vec DaySheet Global} (AllZip (IsDaySeen f) c.as_slice.result.now) (flat_map day_tests) (λ days read. AllZip IsSheetRead days read.items) (Err halt)) c.in_ok-series.ensures.reads.folder c.in_err-sheets.ensures.tested in
-    let refused = subst (λ (l : List (List ℕ)). HasTested {X = Vec DaySheet Global} (AllZip (IsDaySeen folder) l) (flat_map day_tests) (λ days read. AllZip IsSheetRead days read.items) (Err halt)) c.as_slice.ensures there in
+    let there = subst (λ (f : Option FilesByName). HasTested {X = Vec DaySheet Global} (AllZip (IsDaySeen f) c.as_slice.result.now) (flat_map day_tests)
+    (λ days read. AllZip IsSheetRead days read.items) (Err halt)) c.in_ok-series.ensures.reads.folder c.in_err-sheets.ensures.tested in
+    let refused = subst (λ (l : List (List ℕ)). HasTested {X = Vec DaySheet Global} (AllZip (IsDaySeen folder) l) (flat_map day_tests) (λ days read. AllZip IsSheetRead days read.items) (Err halt))
+    c.as_slice.ensures there in
     rw (p.1, p.2) (series_day_refused folder (series_seen c.args.words) c.in_ok-series.series halt c.in_ok-series.ensures.tested refused)
 
 pub returns-clause-tested : goal.returns-clause-tested
 returns-clause-tested g c =
     let folder = (g.D.Desk.told c.args.desk.now).folder in
-    let there = subst (λ (f : Option FilesByName). HasTested {X = Vec DaySheet Global} (AllZip (IsDaySeen f) c.as_slice.result.now) (flat_map day_tests) (λ days read. AllZip IsSheetRead days read.items) (Ok c.in_ok-sheets.sheets)) c.in_ok-series.ensures.reads.folder c.in_ok-sheets.ensures.tested in
-    let reads = subst (λ (l : List (List ℕ)). HasTested {X = Vec DaySheet Global} (AllZip (IsDaySeen folder) l) (flat_map day_tests) (λ days read. AllZip IsSheetRead days read.items) (Ok c.in_ok-sheets.sheets)) c.as_slice.ensures there in
+    let there = subst (λ (f : Option FilesByName). HasTested {X = Vec DaySheet Global} (AllZip (IsDaySeen f) c.as_slice.result.now) (flat_map day_tests)
+    (λ days read. AllZip IsSheetRead days read.items) (Ok c.in_ok-sheets.sheets)) c.in_ok-series.ensures.reads.folder c.in_ok-sheets.ensures.tested in
+    let reads = subst (λ (l : List (List ℕ)). HasTested {X = Vec DaySheet Global} (AllZip (IsDaySeen folder) l) (flat_map day_tests) (λ days read. AllZip IsSheetRead days read.items)
+    (Ok c.in_ok-sheets.sheets)) c.as_slice.ensures there in
     series_read folder (series_seen c.args.words) c.in_ok-series.series c.in_ok-sheets.sheets c.in_ok-series.ensures.tested reads
 
 pub returns-clause-fit : goal.returns-clause-fit
 returns-clause-fit g c =
     let folder = (g.D.Desk.told c.args.desk.now).folder in
-    let there = subst (λ (f : Option FilesByName). HasTested {X = Vec DaySheet Global} (AllZip (IsDaySeen f) c.as_slice.result.now) (flat_map day_tests) (λ days read. AllZip IsSheetRead days read.items) (Ok c.in_ok-sheets.sheets)) c.in_ok-series.ensures.reads.folder c.in_ok-sheets.ensures.tested in
-    let reads = subst (λ (l : List (List ℕ)). HasTested {X = Vec DaySheet Global} (AllZip (IsDaySeen folder) l) (flat_map day_tests) (λ days read. AllZip IsSheetRead days read.items) (Ok c.in_ok-sheets.sheets)) c.as_slice.ensures there in
+    let there = subst (λ (f : Option FilesByName). HasTested {X = Vec DaySheet Global} (AllZip (IsDaySeen f) c.as_slice.result.now) (flat_map day_tests)
+    (λ days read. AllZip IsSheetRead days read.items) (Ok c.in_ok-sheets.sheets)) c.in_ok-series.ensures.reads.folder c.in_ok-sheets.ensures.tested in
+    let reads = subst (λ (l : List (List ℕ)). HasTested {X = Vec DaySheet Global} (AllZip (IsDaySeen folder) l) (flat_map day_tests) (λ days read. AllZip IsSheetRead days read.items)
+    (Ok c.in_ok-sheets.sheets)) c.as_slice.ensures there in
     series_fit folder (series_seen c.args.words) c.in_ok-series.series c.in_ok-sheets.sheets c.in_ok-series.ensures.tested reads

@@ -9,5 +9,7 @@ use Rattle.gl_flights.proofs.near_check.near_check.Goals as goal
 pub returns-in-Ok-clause-right : goal.returns-in-Ok-clause-right
 returns-in-Ok-clause-right g c =
     let words = near_seen c.args.words in
-    let tested = subst (λ (f : Option FilesByName). HasTested (IsNearSeen words f) (near_check_tests words) AreNearCheckRead (Ok (c.in-Ok.flights, c.in-Ok.claim))) c.in_ok-names.ensures.reads.folder c.in-Ok.ensures.tested in
-    near_check_right (g.D.Desk.told c.args.desk.now).folder words c.in-Ok.flights c.in-Ok.claim c.in_ok-verdict-in-Ok.verdict _ tested c.in_ok-verdict-in-Ok.ensures c.in_ok-verdict_answer-in-Ok.ensures
+    let tested = subst (λ (f : Option FilesByName). HasTested (IsNearSeen words f) (near_check_tests words) AreNearCheckRead (Ok (c.in-Ok.flights, c.in-Ok.claim))) c.in_ok-names.ensures.reads.folder
+    c.in-Ok.ensures.tested in
+    near_check_right (g.D.Desk.told c.args.desk.now).folder words c.in-Ok.flights c.in-Ok.claim c.in_ok-verdict-in-Ok.verdict _ tested c.in_ok-verdict-in-Ok.ensures
+    c.in_ok-verdict_answer-in-Ok.ensures

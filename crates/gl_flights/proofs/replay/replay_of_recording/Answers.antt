@@ -10,4 +10,5 @@ unreachable-requires c =
 
 pub returns : goal.returns
 returns c =
-    replay_text (rule_of c.in_ok-goal.goal) (whole_free_goal c.args.recording.now.fixes) c.args.workers.count c.args.steps.now c.in_ok-replayed.replayed c.in_ok-text.text.items _ c.in_ok-goal.ensures.rule c.in_ok-text.ensures c.in_ok-replayed.ensures.steps c.in_ok-push_closed.ensures
+    replay_text (rule_of c.in_ok-goal.goal) (whole_free_goal c.args.recording.now.fixes) c.args.workers.count c.args.steps.now c.in_ok-replayed.replayed c.in_ok-text.text.items _
+    c.in_ok-goal.ensures.rule c.in_ok-text.ensures c.in_ok-replayed.ensures.steps c.in_ok-push_closed.ensures

@@ -1,7 +1,7 @@
 use Rattle.std.proofs.Common.{◌≡◌, ◌∙◌, sym, subst, length, List, arith}
 use Rattle.gl_igc.specs.declared.fix.Fix.{Fix}
 use Rattle.gl_free.specs.declared.altitudes.Altitudes.{Altitudes}
-use Rattle.gl_free.specs.Ranges.{AreLeft, IsBetterChoice}
+use Rattle.gl_free.specs.Code.Ranges.{AreLeft, IsBetterChoice}
 use Rattle.gl_free.proofs.ChoiceLemmas.{count-bounds, optimum-found}
 use Rattle.gl_free.proofs.RangeLemmas.{left-none, left-whole}
 use Rattle.gl_free.proofs.best.best_free_after.Goals as goal

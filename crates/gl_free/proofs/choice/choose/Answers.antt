@@ -1,13 +1,14 @@
 use Rattle.std.proofs.Common.{ap, sym, refl, subst, arith}
 use Rattle.gl_goal.specs.FreeGoal.{rule_of}
-use Rattle.gl_goal.specs.Rule.{IsLegal, IsTuple, value}
+use Rattle.gl_goal.specs.Goal.{IsLegal, IsTuple, value}
 use Rattle.gl_free.proofs.ChoiceLemmas.{chosen-worth, illegal-low, order-tuple}
 use Rattle.gl_free.proofs.choice.choose.Goals as goal
 
 pub keep-requires-clause-fits : goal.keep-requires-clause-fits
 keep-requires-clause-fits c =
     let arms = c.args.arms in
-    subst (IsTuple (rule_of c.args.goal.now).axes) (sym c.tuple_of-tuple.ensures) (order-tuple c.args.goal.now arms.before.end arms.before.inner c.args.middle arms.after.inner arms.after.end c.requires.order)
+    subst (IsTuple (rule_of c.args.goal.now).axes) (sym c.tuple_of-tuple.ensures)
+    (order-tuple c.args.goal.now arms.before.end arms.before.inner c.args.middle arms.after.inner arms.after.end c.requires.order)
 
 pub returns-then-keep-clause-chosen : goal.returns-then-keep-clause-chosen
 returns-then-keep-clause-chosen c =

@@ -1,5 +1,5 @@
 use Rattle.std.proofs.Common.{◌≡◌, ◌<◌, length}
-use Rattle.gl_free.specs.Halves.{AreFarthest}
+use Rattle.gl_free.specs.Code.Halves.{AreFarthest}
 use Rattle.gl_free.proofs.half.farthest_ends.Given as goal
 
 abbrev pub invariant-loop-number : goal.invariant-loop-number

@@ -1,5 +1,5 @@
 use Rattle.std.proofs.Common.{◌≡◌, ◌∙◌, ℕ, List, [], ◌∷◌, ◌++◌, ap, sym, subst, length, length-append, Some, slice_get, arith}
-use Rattle.gl_free.specs.Halves.{AreEnds}
+use Rattle.gl_free.specs.Code.Halves.{AreEnds}
 use Rattle.gl_free.proofs.HalfLemmas.{ends-pushed}
 use Rattle.gl_free.proofs.half.ways_of_ends.Goals as goal
 
@@ -13,5 +13,6 @@ loop-number-preserved c =
     record {
       long = omega (arith, ap length all, length-append ways (c.way_of_end.result ∷ []), long);
       ends = subst (λ (list : List ℕ). AreEnds fixes c.args.allowed.now list) (sym all)
-          (ends-pushed fixes c.args.allowed.now ways c.fix.result.now c.way_of_end.result c.loop-number.invariant.ends at (omega (arith, long, c.loop-number-test.true, c.len-number-end.ensures)) c.way_of_end.ensures.at_most c.way_of_end.ensures.allowed c.way_of_end.ensures.all);
+          (ends-pushed fixes c.args.allowed.now ways c.fix.result.now c.way_of_end.result c.loop-number.invariant.ends at
+          (omega (arith, long, c.loop-number-test.true, c.len-number-end.ensures)) c.way_of_end.ensures.at_most c.way_of_end.ensures.allowed c.way_of_end.ensures.all);
     }

@@ -1,5 +1,5 @@
 use Rattle.std.proofs.Common.{◌≡◌, length}
-use Rattle.gl_free.specs.Halves.{AreEnds}
+use Rattle.gl_free.specs.Code.Halves.{AreEnds}
 use Rattle.gl_free.proofs.half.ways_of_ends.Given as goal
 
 abbrev pub invariant-loop-number : goal.invariant-loop-number

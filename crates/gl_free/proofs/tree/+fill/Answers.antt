@@ -1,7 +1,7 @@
 use Rattle.std.proofs.Common.{ap, arith, rules}
 use Rattle.std.proofs.lemmas.List.Elements.{All-set}
 use Rattle.gl_box.specs.declared.span.Span.{Span}
-use Rattle.gl_free.specs.Ways.{IsBranch}
+use Rattle.gl_free.specs.Code.Ways.{IsBranch}
 use Rattle.gl_free.proofs.WayLemmas.{branch-joined}
 use Rattle.gl_free.proofs.tree.+fill.Goals as goal
 
@@ -22,7 +22,8 @@ returns-clause-branch t c =
     (omega (arith, ap (λ (s : Span). s.lo) low, ap (λ (s : Span). s.lo) all, parts.first))
     (omega (arith, ap (λ (s : Span). s.lo) high, ap (λ (s : Span). s.hi) low, parts.next))
     (omega (arith, ap (λ (s : Span). s.hi) high, ap (λ (s : Span). s.hi) all, parts.last))
-    c.fill-low.ensures.branch c.fill-high.ensures.branch c.join-branch.ensures.lower_lo c.join-branch.ensures.upper_lo c.join-branch.ensures.lower_hi c.join-branch.ensures.upper_hi c.join-branch.ensures.lower_most c.join-branch.ensures.upper_most
+    c.fill-low.ensures.branch c.fill-high.ensures.branch c.join-branch.ensures.lower_lo c.join-branch.ensures.upper_lo c.join-branch.ensures.lower_hi c.join-branch.ensures.upper_hi
+    c.join-branch.ensures.lower_most c.join-branch.ensures.upper_most
 
 pub returns-clause-branches : goal.returns-clause-branches
 returns-clause-branches t c =

@@ -1,7 +1,7 @@
 use Rattle.std.proofs.Common.{◌≡◌, sym, subst, length, drop, List, arith}
 use Rattle.std.specs.Prelude.{All}
 use Rattle.gl_free.specs.declared.branch.Branch.{Branch}
-use Rattle.gl_free.specs.Ways.{IsBranch}
+use Rattle.gl_free.specs.Code.Ways.{IsBranch}
 use Rattle.gl_free.proofs.WayLemmas.{branches-back}
 use Rattle.gl_free.proofs.tree.filled.Goals as goal
 

@@ -1,6 +1,6 @@
 use Rattle.std.proofs.Common.{◌≡◌, ◌∙◌, ap, length, sym, subst, arith}
 use Rattle.gl_goal.specs.FreeGoal.{rule_of}
-use Rattle.gl_goal.specs.Rule.{IsTuple}
+use Rattle.gl_goal.specs.Goal.{IsTuple}
 use Rattle.gl_free.proofs.ChoiceLemmas.{within-tuple}
 use Rattle.gl_free.proofs.warm.consider.Goals as goal
 

@@ -1,8 +1,8 @@
 use Rattle.std.proofs.Common.{◌∙◌, sym, ap, ℕ, ◌<◌, ◌≤◌, length, arith}
 use Rattle.std.proofs.lemmas.List.{take_all}
 use Rattle.gl_box.specs.Tuple.{places_of}
-use Rattle.gl_box.specs.Laws.Spans.{get_or-places_of, length-places_of}
-use Rattle.gl_goal.specs.Rule.{chosen, fix_at}
+use Rattle.gl_box.proofs.Spans.{get_or-places_of, length-places_of}
+use Rattle.gl_goal.specs.Goal.{chosen, fix_at}
 use Rattle.gl_goal.proofs.Tuples.{place_at, chosen-nothing, numbers_more}
 use Rattle.gl_goal.proofs.numbers.fix_numbers.Goals as goal
 

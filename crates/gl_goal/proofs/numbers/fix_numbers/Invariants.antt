@@ -1,6 +1,6 @@
 use Rattle.std.proofs.Common.{◌≡◌, take}
 use Rattle.gl_box.specs.Tuple.{places_of}
-use Rattle.gl_goal.specs.Rule.{chosen}
+use Rattle.gl_goal.specs.Goal.{chosen}
 use Rattle.gl_goal.proofs.numbers.fix_numbers.Given as goal
 
 -- the numbers at the places so far

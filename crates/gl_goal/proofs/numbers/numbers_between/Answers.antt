@@ -3,7 +3,8 @@ use Rattle.gl_goal.specs.Free.{numbers_from}
 use Rattle.gl_goal.proofs.FreeLosses.{numbers_from-more}
 use Rattle.gl_goal.proofs.numbers.numbers_between.Goals as goal
 
-one_more : (first number : ℕ) (numbers pushed : List ℕ) → first ≤ number → pushed ≡ numbers ++ number ∷ [] → numbers ≡ numbers_from first (number - first) → pushed ≡ numbers_from first (number + 1 - first)
+one_more : (first number : ℕ) (numbers pushed : List ℕ) → first ≤ number → pushed ≡ numbers ++ number ∷ [] → numbers ≡ numbers_from first (number - first)
+    → pushed ≡ numbers_from first (number + 1 - first)
 one_more first number numbers pushed low is before =
     let last : first + (number - first) ≡ number = omega arith in
     let count : suc (number - first) ≡ number + 1 - first = omega arith in

@@ -2,9 +2,9 @@ use Rattle.std.proofs.Common.{◌≡◌, ◌≢◌, ◌∙◌, sym, ap, ℕ, ◌
 use Rattle.std.proofs.lemmas.List.{get_or-set_other, get_or-set_same, get_or_default, same_lists}
 use Rattle.gl_box.specs.Cell.{spans_of}
 use Rattle.gl_box.specs.Halves.{span_at}
-use Rattle.gl_box.specs.Laws.Spans.{length-spans_of}
-use Rattle.gl_goal.specs.Rule.{whole_cell}
-use Rattle.gl_goal.specs.Laws.Order.{length-whole, span_at-whole}
+use Rattle.gl_box.proofs.Spans.{length-spans_of}
+use Rattle.gl_goal.specs.Goal.{whole_cell}
+use Rattle.gl_goal.proofs.Order.{length-whole, span_at-whole}
 use Rattle.gl_goal.proofs.opening.whole.Goals as goal
 
 pub first-requires-clause-some : goal.first-requires-clause-some
@@ -22,7 +22,8 @@ loop-axis-init g c = record {
 pub set-requires : goal.set-requires
 set-requires g c = omega (arith, c.loop-axis.invariant.axes, c.axes-axes.ensures, c.loop-axis-test.true)
 
-set_more : (xs ys : List (ℕ × ℕ)) (f : ℕ → ℕ × ℕ) (axis : ℕ) → ys ≡ slice_set xs axis (f axis) → axis < length xs → ((k : ℕ) → k < axis → span_at xs k ≡ f k) → (k : ℕ) → k < axis + 1 → span_at ys k ≡ f k
+set_more : (xs ys : List (ℕ × ℕ)) (f : ℕ → ℕ × ℕ) (axis : ℕ) → ys ≡ slice_set xs axis (f axis) → axis < length xs → ((k : ℕ) → k < axis → span_at xs k ≡ f k) → (k : ℕ) → k < axis + 1
+    → span_at ys k ≡ f k
 set_more xs ys f axis is inside before =
     below_more _ axis
     (λ k less. let other : k ≢ axis = omega arith in ap (λ (zs : List (ℕ × ℕ)). span_at zs k) is ∙ get_or-set_other xs axis k (f axis) (0, 0) other ∙ before k less)
@@ -36,7 +37,8 @@ loop-axis-preserved g c =
     let inside : axis < length (spans_of cell) = omega (arith, length-spans_of cell, c.loop-axis.invariant.axes, c.axes-axes.ensures, c.loop-axis-test.true) in
     record {
       axes = c.set.ensures.axes ∙ c.loop-axis.invariant.axes;
-      so_far = set_more (spans_of cell) (spans_of c.set.new.self) (λ k. (0, length (get_or axes k []) - 1)) axis (c.set.ensures.spans ∙ ap (λ (n : ℕ). slice_set (spans_of cell) axis (0, n - 1)) c.len.ensures) inside c.loop-axis.invariant.so_far;
+      so_far = set_more (spans_of cell) (spans_of c.set.new.self) (λ k. (0, length (get_or axes k []) - 1)) axis (c.set.ensures.spans
+          ∙ ap (λ (n : ℕ). slice_set (spans_of cell) axis (0, n - 1)) c.len.ensures) inside c.loop-axis.invariant.so_far;
     }
 
 pub returns : goal.returns

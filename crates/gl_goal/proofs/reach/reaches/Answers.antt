@@ -1,5 +1,6 @@
 use Rattle.std.proofs.Common.{◌≡◌, ◌+◌, ◌-◌, ◌<◌, ◌≤◌, ℕ, ap, subst, length, length-append, arith}
-use Rattle.gl_goal.specs.Reach.{IsNoneBehind, IsReach}
+use Rattle.gl_goal.specs.Code.Round.{IsNoneBehind}
+use Rattle.gl_goal.specs.Reach.{IsReach}
 use Rattle.gl_goal.proofs.Closing.{none_behind-same, reaches_more}
 use Rattle.gl_goal.proofs.reach.reaches.Goals.{then-place-next, else-place-next}
 use Rattle.gl_goal.proofs.reach.reaches.Goals as goal
@@ -11,8 +12,10 @@ reach_from-reach-requires-clause-none c =
     let place = c.loop-place.place in
     let after = c.if-place-next in
     elim after.branch [
-      | then-place-next w ↦ none_behind-same fixes closing place (w.min.result + 1) w.end_of_near-end.result after.next after.end w.next-is w.end-is (λ k low below. w.end_of_near-end.ensures.none k low (omega (arith, below))) place (omega arith) (omega arith)
-      | else-place-next w ↦ none_behind-same fixes closing place c.loop-place.next c.loop-place.end after.next after.end w.next-is w.end-is c.loop-place.invariant.none place (omega arith) (omega arith)
+      | then-place-next w ↦ none_behind-same fixes closing place (w.min.result + 1) w.end_of_near-end.result after.next after.end w.next-is w.end-is
+          (λ k low below. w.end_of_near-end.ensures.none k low (omega (arith, below))) place (omega arith) (omega arith)
+      | else-place-next w ↦ none_behind-same fixes closing place c.loop-place.next c.loop-place.end after.next after.end w.next-is w.end-is c.loop-place.invariant.none place (omega arith)
+          (omega arith)
     ]
 
 pub loop-place-preserved : goal.loop-place-preserved
@@ -27,7 +30,8 @@ loop-place-preserved c =
     let P : ℕ → Type 0 = λ k. IsReach fixes closing k reach in
     let none : (k : ℕ) → place ≤ k → k < after.next → IsNoneBehind fixes closing after.end k =
     elim after.branch [
-      | then-place-next w ↦ none_behind-same fixes closing place (w.min.result + 1) w.end_of_near-end.result after.next after.end w.next-is w.end-is (λ k low below. w.end_of_near-end.ensures.none k low (omega (arith, below)))
+      | then-place-next w ↦ none_behind-same fixes closing place (w.min.result + 1) w.end_of_near-end.result after.next after.end w.next-is w.end-is
+          (λ k low below. w.end_of_near-end.ensures.none k low (omega (arith, below)))
       | else-place-next w ↦ none_behind-same fixes closing place c.loop-place.next c.loop-place.end after.next after.end w.next-is w.end-is c.loop-place.invariant.none
     ] in
     let ahead : place < after.next =

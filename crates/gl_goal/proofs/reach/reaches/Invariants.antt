@@ -1,5 +1,6 @@
 use Rattle.std.proofs.Common.{◌≡◌, ◌-◌, ◌<◌, ◌≤◌, ℕ, length, get_or, MatchOption}
-use Rattle.gl_goal.specs.Reach.{IsNoneBehind, IsReach}
+use Rattle.gl_goal.specs.Code.Round.{IsNoneBehind}
+use Rattle.gl_goal.specs.Reach.{IsReach}
 use Rattle.gl_goal.proofs.reach.reaches.Given as goal
 
 abbrev pub invariant-loop-place : goal.invariant-loop-place

@@ -2,7 +2,7 @@ use Rattle.std.proofs.Common.{◌≡◌, ap, sym, subst, ◌∷◌, [], ℕ, suc
 use Rattle.std.specs.Prelude.{IfOk}
 use Rattle.std.specs.List.Sorted.{IsStrictlyIncreasing}
 use Rattle.gl_goal.specs.Lists.{AreNamed}
-use Rattle.gl_goal.specs.Laws.Free.{length-numbers_between, numbers_between-named, numbers_from-rises}
+use Rattle.gl_goal.specs.Lemmas.Free.{length-numbers_between, numbers_between-named, numbers_from-rises}
 use Rattle.gl_goal.proofs.triangle_goal.three_lists.Goals as goal
 
 pub thrice-requires-clause-some : goal.thrice-requires-clause-some

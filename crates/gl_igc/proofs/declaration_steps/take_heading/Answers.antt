@@ -19,6 +19,8 @@ pub returns : goal.returns
 returns c = λ lines of.
     first c.args.declaration.now.heading c.match-read_count.declaration lines c.args.line.now c.args.declaration.now.points.items c.requires of
     (elim c.match-read_count.branch [
-      | in-Some w ↦ subst (λ (heading : Heading). IsHeaded heading (c.args.line.now ∷ []) []) (sym w.declaration-is) (read-first w.in-Some.count.places c.args.line.now (sym c.read_count.ensures ∙ ap (option_map (λ (count : Count). count.places)) w.in-Some.is))
-      | in-None w ↦ subst (λ (heading : Heading). IsHeaded heading (c.args.line.now ∷ []) []) (sym w.declaration-is) (λ more. declared-damaged c.args.line.now more (sym c.read_count.ensures ∙ ap (option_map (λ (count : Count). count.places)) w.in-None.is))
+      | in-Some w ↦ subst (λ (heading : Heading). IsHeaded heading (c.args.line.now ∷ []) []) (sym w.declaration-is)
+          (read-first w.in-Some.count.places c.args.line.now (sym c.read_count.ensures ∙ ap (option_map (λ (count : Count). count.places)) w.in-Some.is))
+      | in-None w ↦ subst (λ (heading : Heading). IsHeaded heading (c.args.line.now ∷ []) []) (sym w.declaration-is)
+          (λ more. declared-damaged c.args.line.now more (sym c.read_count.ensures ∙ ap (option_map (λ (count : Count). count.places)) w.in-None.is))
     ])

@@ -19,7 +19,8 @@ returns-in_ok-push-in-Some c = λ lines of.
     let read : IsRead c.args.count.places lines points = subst (λ (heading : Heading). IsHeaded heading lines points) c.requires of in
     let reads = sym c.read_declared_place.ensures ∙ ap (option_map place_of) c.in-Some.is in
     let more = read-more c.args.count.places lines points c.args.line.now c.in-Some.place read (omega arith) reads in
-    subst (λ (heading : Heading). IsHeaded heading (lines ++ c.args.line.now ∷ []) c.push.new.self.items) (sym c.requires) (subst (λ (points : List Grid). IsRead c.args.count.places (lines ++ c.args.line.now ∷ []) points) (sym c.in_ok-push-in-Some.ensures.items) more)
+    subst (λ (heading : Heading). IsHeaded heading (lines ++ c.args.line.now ∷ []) c.push.new.self.items) (sym c.requires)
+    (subst (λ (points : List Grid). IsRead c.args.count.places (lines ++ c.args.line.now ∷ []) points) (sym c.in_ok-push-in-Some.ensures.items) more)
 
 pub returns-in-None : goal.returns-in-None
 returns-in-None c = λ lines of.

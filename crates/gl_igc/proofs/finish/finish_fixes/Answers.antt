@@ -5,7 +5,7 @@ use Rattle.std.proofs.lemmas.Bool.Decides.{nat_tests}
 use Rattle.std.proofs.lemmas.List.{length-map}
 use Rattle.gl_igc.specs.Declaration.{is_declaration_line}
 use Rattle.gl_igc.specs.FixLine.{is_fix_line}
-use Rattle.gl_igc.specs.Parts.{shifted}
+use Rattle.gl_igc.specs.Code.Parts.{shifted}
 use Rattle.gl_igc.specs.Recording.{sighting_of, declared_of}
 use Rattle.gl_igc.specs.declared.fix.Fix.{Fix}
 use Rattle.gl_igc.proofs.FinishLemmas.{finish-excess, finish-empty, finish-some, finish-fixes, finish-events, finish-skipped, reading-is, finish-rising, moved-length, none_from}
@@ -45,4 +45,8 @@ returns c = λ lines of.
     ap (map sighting_of) c.from_vec.ensures ∙ c.shift_fixes.ensures ∙ ap (λ (s : ℤ). map (shifted s) (map sighting_of track.fixes.items)) shift in
     let seconds : c.from_vec-2.result ≡ map (λ second. second +ℤ c.args.shift) c.args.progress.events.seconds.items =
     c.from_vec-2.ensures ∙ c.shift_events.ensures ∙ ap (λ (s : ℤ). map (λ second. second +ℤ s) c.args.progress.events.seconds.items) shift in
-    finish-some lines (length (filter is_fix_line lines)) track c.args.date c.args.shift of.track none (grind (arith, nat_tests)) ∙ ap Ok (reading-is lines c.args.date c.args.shift (to_z w32 (of_z w32 c.args.date)) (map sighting_of c.from_vec.result) c.from_vec-2.result (declared_of c.declared.result) track.skipped (to_z-of_z w32 c.args.date (search rules)) (finish-fixes lines (length (filter is_fix_line lines)) track c.args.shift c.from_vec.result of.track none all) (finish-events lines c.args.shift c.args.progress.events.seconds.items c.from_vec-2.result (of.events none) seconds) (c.declared.ensures (filter is_declaration_line lines) of.declaration) (finish-skipped lines track of.track none))
+    finish-some lines (length (filter is_fix_line lines)) track c.args.date c.args.shift of.track none (grind (arith, nat_tests))
+    ∙ ap Ok (reading-is lines c.args.date c.args.shift (to_z w32 (of_z w32 c.args.date)) (map sighting_of c.from_vec.result) c.from_vec-2.result (declared_of c.declared.result) track.skipped
+    (to_z-of_z w32 c.args.date (search rules)) (finish-fixes lines (length (filter is_fix_line lines)) track c.args.shift c.from_vec.result of.track none all)
+    (finish-events lines c.args.shift c.args.progress.events.seconds.items c.from_vec-2.result (of.events none) seconds) (c.declared.ensures (filter is_declaration_line lines) of.declaration)
+    (finish-skipped lines track of.track none))

@@ -20,4 +20,5 @@ loop-group-preserved c =
     let group : Group = record { code = columns 5 7 l.rest.now; span = span_view c.in_ok-field.field } in
     let reads : group_of l.rest.now ≡ Some group = c.in_ok-field.ensures in
     let step = groups-more (extension_view l.fields) (c.args.count - l._group) (c.args.count - (l._group + 1)) l.rest.now group more reads in
-    ap (λ (rest : List ℕ). option_map (with_groups (extension_view c.with_group-fields.result)) (groups_of (c.args.count - (l._group + 1)) rest)) (take_rest l.rest.now 7) ∙ ap (λ (fields : Extension). option_map (with_groups fields) (groups_of (c.args.count - (l._group + 1)) (drop 7 l.rest.now))) c.with_group-fields.ensures ∙ sym step ∙ l.invariant
+    ap (λ (rest : List ℕ). option_map (with_groups (extension_view c.with_group-fields.result)) (groups_of (c.args.count - (l._group + 1)) rest)) (take_rest l.rest.now 7)
+    ∙ ap (λ (fields : Extension). option_map (with_groups fields) (groups_of (c.args.count - (l._group + 1)) (drop 7 l.rest.now))) c.with_group-fields.ensures ∙ sym step ∙ l.invariant

@@ -1,5 +1,5 @@
 use Rattle.std.proofs.Common.{◌≡◌, ◌∙◌, sym, subst, ℕ, List, [], ◌++◌, drop, take, arith, rules}
-use Rattle.gl_igc.specs.Pieces.{Takes}
+use Rattle.gl_igc.specs.Code.Parts.{Takes}
 use Rattle.gl_igc.proofs.PieceLemmas.{all_taken, last_joined}
 use Rattle.gl_igc.proofs.igc_reader.finish_line.Goals as goal
 

@@ -9,5 +9,7 @@ loop-line-init c = record { within = omega arith; takes = takes_nothing c.args.t
 pub loop-line-preserved : goal.loop-line-preserved
 loop-line-preserved c = record {
   within = omega (arith, c.in-Some.ensures.bounds);
-  takes = takes_line c.args.text.now c.loop-line.at c.in-Some.line.next (slice_range c.args.text.now c.in-Some.line.from c.in-Some.line.to) c.args.progress.now c.loop-line.progress c.take_line.new.progress c.loop-line.invariant.takes c.in-Some.ensures.line c.in_ok-take_line.ensures;
+  takes = takes_line c.args.text.now c.loop-line.at c.in-Some.line.next
+      (slice_range c.args.text.now c.in-Some.line.from c.in-Some.line.to) c.args.progress.now c.loop-line.progress c.take_line.new.progress c.loop-line.invariant.takes c.in-Some.ensures.line
+      c.in_ok-take_line.ensures;
 }

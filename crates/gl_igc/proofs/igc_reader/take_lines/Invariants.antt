@@ -1,5 +1,5 @@
 use Rattle.std.proofs.Common.{◌-◌, ◌≤◌, length, drop}
-use Rattle.gl_igc.specs.Pieces.{Takes}
+use Rattle.gl_igc.specs.Code.Parts.{Takes}
 use Rattle.gl_igc.proofs.igc_reader.take_lines.Given as goal
 
 -- the lines before the place were taken

@@ -11,8 +11,12 @@ loop-line-preserved c =
     record {
       within = omega (arith, c.in-Some.ensures.bounds);
       taken = λ before stands.
-          let (lines, split, now) = c.loop-line.invariant.taken before stands in
-          (lines ++ line ∷ [], append_assoc lines (line ∷ []) (lines_of (drop c.in-Some.line.next rest)) ∙ ap (λ (l : List (List ℕ)). lines ++ l) (sym c.in-Some.ensures.line) ∙ split, c.in_ok-take_line.ensures lines now);
+          let (lines, split, now) = c.loop-line.invariant.taken before stands in (
+            lines ++ line ∷ [],
+            append_assoc lines (line ∷ []) (lines_of (drop c.in-Some.line.next rest)) ∙ ap (λ (l : List (List ℕ)). lines ++ l) (sym c.in-Some.ensures.line)
+                ∙ split,
+            c.in_ok-take_line.ensures lines now,
+          );
     }
 
 pub returns : goal.returns

@@ -1,6 +1,7 @@
 use Rattle.std.proofs.Common.{sym, ap, subst, refl, List, [], map, None, arith}
 use Rattle.gl_igc.specs.Recording.{sighting_of}
-use Rattle.gl_igc.specs.Seconds.{AreOwnSeconds, is_rising, last_second}
+use Rattle.gl_igc.specs.Code.Seconds.{AreOwnSeconds, last_second}
+use Rattle.gl_igc.specs.Seconds.{is_rising}
 use Rattle.gl_igc.specs.UsedFixes.{used_upwards, event_seconds, events_upwards}
 use Rattle.gl_igc.specs.declared.fix.Fix.{Fix}
 use Rattle.gl_igc.proofs.progress_steps.no_lines.Goals as goal

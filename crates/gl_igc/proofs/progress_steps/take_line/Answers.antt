@@ -16,7 +16,8 @@ returns c = λ lines of.
     let old = c.args.progress.now in
     let line = c.args.line.now in
     let number = c.saturating_add-progress.ensures ∙ number-push lines line old.lines of.number in
-    let track = track-push lines line old.fields c.saturating_add-progress.result old.track c.take_fix.new.track of.fields (c.saturating_add-progress.ensures ∙ ap (λ (n : ℕ). min (n + 1) (2 ^ 32 - 1)) of.number ∙ capped-more (length lines)) of.track c.in_ok-take_fix.ensures in
+    let track = track-push lines line old.fields c.saturating_add-progress.result old.track c.take_fix.new.track of.fields (c.saturating_add-progress.ensures
+    ∙ ap (λ (n : ℕ). min (n + 1) (2 ^ 32 - 1)) of.number ∙ capped-more (length lines)) of.track c.in_ok-take_fix.ensures in
     record {
       number = number;
       opening = first-push opening_of_line lines line old.opening c.or-progress.result of.opening (c.or-progress.ensures ∙ ap (option_or old.opening) c.opening_of_line.ensures);
@@ -24,7 +25,10 @@ returns c = λ lines of.
       fields = first-push extension_of_line lines line (option_map extension_view old.fields) (option_map extension_view c.first_fields-progress.result) of.fields c.first_fields-progress.ensures;
       track = track;
       events = λ none.
-          let before = no_excess_before lines line old.fields (length (filter is_fix_line lines)) (length (filter is_fix_line (lines ++ line ∷ []))) old.track c.take_fix.new.track of.fields of.track track none in
-          c.in_ok-take_event.ensures.kept before ∙ ap (λ (seconds : List ℤ). seconds ++ option_to_list (option_map (λ time. pos (own_second old.track.last time)) (event_time line))) (of.events before) ∙ sym (events-push lines line old.track.last (of.track.kept before).last);
-      declaration = subst (λ (lines : Lines). IsDeclarationOf lines c.take_declared.new.declaration) (sym (declared-push lines line)) (c.in_ok-take_declared.ensures (filter is_declaration_line lines) of.declaration);
+          let before = no_excess_before lines line old.fields (length (filter is_fix_line lines))
+          (length (filter is_fix_line (lines ++ line ∷ []))) old.track c.take_fix.new.track of.fields of.track track none in
+          c.in_ok-take_event.ensures.kept before ∙ ap (λ (seconds : List ℤ). seconds ++ option_to_list (option_map (λ time. pos (own_second old.track.last time)) (event_time line))) (of.events before)
+          ∙ sym (events-push lines line old.track.last (of.track.kept before).last);
+      declaration = subst (λ (lines : Lines). IsDeclarationOf lines c.take_declared.new.declaration) (sym (declared-push lines line))
+          (c.in_ok-take_declared.ensures (filter is_declaration_line lines) of.declaration);
     }

@@ -9,13 +9,15 @@ pub returns-clause-ok : goal.returns-clause-ok
 returns-clause-ok c =
     let text = c.args.text.now in
     let stands = c.in_ok-feed.ensures.text [] c.new-reader.ensures.text in
-    read_ok text c.args.task_day c.finish.result (subst (λ (day : Option ℤ). IsReadAs text day c.finish.result) (c.feed.ensures.task_day ∙ c.new-reader.ensures.task_day) (c.finish.ensures.answer text stands))
+    read_ok text c.args.task_day c.finish.result (subst (λ (day : Option ℤ). IsReadAs text day c.finish.result) (c.feed.ensures.task_day
+    ∙ c.new-reader.ensures.task_day) (c.finish.ensures.answer text stands))
 
 pub returns-clause-refused : goal.returns-clause-refused
 returns-clause-refused c =
     let text = c.args.text.now in
     let stands = c.in_ok-feed.ensures.text [] c.new-reader.ensures.text in
-    read_refused text c.args.task_day c.finish.result (subst (λ (day : Option ℤ). IsReadAs text day c.finish.result) (c.feed.ensures.task_day ∙ c.new-reader.ensures.task_day) (c.finish.ensures.answer text stands))
+    read_refused text c.args.task_day c.finish.result (subst (λ (day : Option ℤ). IsReadAs text day c.finish.result) (c.feed.ensures.task_day
+    ∙ c.new-reader.ensures.task_day) (c.finish.ensures.answer text stands))
 
 pub returns-clause-seen : goal.returns-clause-seen
 returns-clause-seen c =

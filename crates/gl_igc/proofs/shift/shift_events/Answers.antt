@@ -25,6 +25,7 @@ loop-second-preserved c =
     let range = second-below 500_000 l.second-items c.args.seconds.now.items l.second-index (pos 0) c.requires.below l.invariant.left (omega arith) in
     let result = moved-is c.moved.result (get_or l.second-items l.second-index (pos 0)) c.args.shift c.moved.ensures range c.requires.shift in
     record {
-      moved = moved-more (λ second. second +ℤ shift) l.second-items c.args.seconds.now.items l.second-index (to_z w32 (of_z w32 c.moved.result)) (pos 0) l.invariant.moved l.invariant.left (omega arith) result;
+      moved = moved-more (λ second. second +ℤ shift) l.second-items c.args.seconds.now.items l.second-index (to_z w32 (of_z w32 c.moved.result)) (pos 0) l.invariant.moved l.invariant.left
+          (omega arith) result;
       left = left-more l.second-items c.args.seconds.now.items l.second-index (to_z w32 (of_z w32 c.moved.result)) l.invariant.left;
     }

@@ -31,6 +31,7 @@ loop-fix-preserved c =
     let range = fix-below seconds_limit l.fix-items c.args.fixes.now.items l.fix-index c.fix-item.result c.requires.below l.invariant.left (omega arith) in
     let result = moved-is c.moved-fix.result item.second c.args.shift c.moved-fix.ensures (range.0, grind (arith, ints)) c.requires.shift in
     record {
-      moved = fix-more shift l.fix-items c.args.fixes.now.items l.fix-index _ c.fix-item.result l.invariant.moved l.invariant.left (omega arith) (ap (λ (second : ℤ). sighting second item.grid.lat item.grid.lon item.alt item.enl) result);
+      moved = fix-more shift l.fix-items c.args.fixes.now.items l.fix-index _ c.fix-item.result l.invariant.moved l.invariant.left (omega arith)
+          (ap (λ (second : ℤ). sighting second item.grid.lat item.grid.lon item.alt item.enl) result);
       left = left-more l.fix-items c.args.fixes.now.items l.fix-index _ l.invariant.left;
     }

@@ -1,5 +1,5 @@
 use Rattle.std.proofs.Common.{◌≡◌, map, take, drop}
-use Rattle.gl_igc.specs.Parts.{shifted}
+use Rattle.gl_igc.specs.Code.Parts.{shifted}
 use Rattle.gl_igc.specs.Recording.{sighting_of}
 use Rattle.gl_igc.proofs.shift.shift_fixes.Given as goal
 

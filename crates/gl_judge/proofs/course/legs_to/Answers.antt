@@ -25,4 +25,10 @@ returns-clause-value c =
 pub returns-clause-bound : goal.returns-clause-bound
 returns-clause-bound c =
     let size = length-take-le c.args.zones c.as_slice.result.now (omega (arith, c.requires, ap length c.as_slice.ensures)) in
-    omega (arith, c.loop-zone.invariant.legs_are, legs-short c.args.task.now.start.line.centre (map (λ (zone : Zone). zone.centre) c.args.task.now.zones ++ finish_point c.args.task.now.finish ∷ []) c.loop-zone.zone-index (omega (arith, size, c.requires, c.loop-zone.auto.zone-index-end, c.args.task.now.at_most_eight_zones)))
+    omega (
+      arith,
+      c.loop-zone.invariant.legs_are,
+      legs-short c.args.task.now.start.line.centre
+          (map (λ (zone : Zone). zone.centre) c.args.task.now.zones ++ finish_point c.args.task.now.finish ∷ []) c.loop-zone.zone-index
+          (omega (arith, size, c.requires, c.loop-zone.auto.zone-index-end, c.args.task.now.at_most_eight_zones)),
+    )

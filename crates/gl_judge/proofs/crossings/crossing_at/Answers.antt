@@ -1,6 +1,5 @@
 use Rattle.std.proofs.Common.{◌≡◌, ◌-◌, Some, arith}
 use Rattle.std.specs.Prelude.{slice_get}
-use Rattle.gl_judge.specs.Stretch.{range_of}
 use Rattle.gl_judge.proofs.Bounds.{some_then, none_then}
 use Rattle.gl_judge.proofs.Lines.{crosses-is, crosses-forwards, read}
 use Rattle.gl_judge.proofs.crossings.crossing_at.Goals as goal
@@ -14,8 +13,10 @@ behind-is c = read c.args.rec.now.fixes c.as_slice-fixes.result.now c.args.i c.i
 
 pub returns-clause-some : goal.returns-clause-some
 returns-clause-some c =
-    some_then c.crossing.result _ _ (λ t h. crosses-is c.args.line.now c.args.rec.now.fixes (range_of c.args.judged) c.args.i c.index-fixes-i.result c.index-fixes-i-2.result t (omega arith) (omega arith) (before-is c) (behind-is c) h) c.crossing.ensures.some
+    some_then c.crossing.result _ _ (λ t h. crosses-is c.args.line.now c.args.rec.now.fixes c.args.judged c.args.i c.index-fixes-i.result c.index-fixes-i-2.result t (omega arith) (omega arith)
+    (before-is c) (behind-is c) h) c.crossing.ensures.some
 
 pub returns-clause-none : goal.returns-clause-none
 returns-clause-none c =
-    none_then c.crossing.result _ _ (λ none t h. none t (crosses-forwards c.args.line.now c.args.rec.now.fixes (range_of c.args.judged) c.args.i c.index-fixes-i.result c.index-fixes-i-2.result t (before-is c) (behind-is c) h)) c.crossing.ensures.none
+    none_then c.crossing.result _ _ (λ none t h. none t (crosses-forwards c.args.line.now c.args.rec.now.fixes c.args.judged c.args.i c.index-fixes-i.result c.index-fixes-i-2.result t (before-is c)
+    (behind-is c) h)) c.crossing.ensures.none

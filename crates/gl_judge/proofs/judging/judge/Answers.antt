@@ -1,7 +1,6 @@
-use Rattle.gl_judge.specs.Stretch.{range_of}
 use Rattle.gl_judge.proofs.Times.{seconds-bound}
 use Rattle.gl_judge.proofs.judging.judge.Goals as goal
 
 pub returns-clause-seconds : goal.returns-clause-seconds
 returns-clause-seconds c =
-    seconds-bound c.args.task.now c.args.air.now.volumes c.args.rec.now (range_of c.judged_fixes-judged.result) c.outcome_of.result c.judged_fixes-judged.ensures.range c.outcome_of.ensures
+    seconds-bound c.args.task.now c.args.air.now.volumes c.args.rec.now c.judged_range-judged.result c.outcome_of.result c.judged_range-judged.ensures.range c.outcome_of.ensures

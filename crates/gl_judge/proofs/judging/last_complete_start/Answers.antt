@@ -1,4 +1,3 @@
-use Rattle.gl_judge.specs.Stretch.{range_of}
 use Rattle.gl_judge.proofs.Bounds.{none_then, none_when}
 use Rattle.gl_judge.proofs.Finishing.{last-complete}
 use Rattle.gl_judge.proofs.judging.last_complete_start.Goals as goal
@@ -9,7 +8,8 @@ returns-in_err-ready-clause-none c =
 
 pub returns-clause-last : goal.returns-clause-last
 returns-clause-last c =
-    last-complete c.args.task.now c.args.rec.now (range_of c.args.judged) c.in_ok-ready.ready c.last_start.result c.in_ok-ready.ensures.last c.last_start.ensures.legal c.last_start.ensures.within c.last_start.ensures.last
+    last-complete c.args.task.now c.args.rec.now c.args.judged c.in_ok-ready.ready c.last_start.result c.in_ok-ready.ensures.last c.last_start.ensures.legal c.last_start.ensures.within
+    c.last_start.ensures.last
 
 pub returns-clause-none : goal.returns-clause-none
 returns-clause-none c =

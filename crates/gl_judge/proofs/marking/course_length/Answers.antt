@@ -11,7 +11,8 @@ pub loop-zone-preserved : goal.loop-zone-preserved
 loop-zone-preserved c =
     let zones : c.as_slice-zone-items.result.now ≡ c.args.task.now.zones = c.as_slice-zone-items.ensures in
     let count : length c.as_slice-zone-items.result.now ≡ length c.args.task.now.zones = ap length zones in
-    let step = one_leg c.loop-zone.last (finish_point c.args.task.now.finish) c.args.task.now.zones c.as_slice-zone-items.result.now c.loop-zone.zone-index c.zone-item.result zones (omega arith) c.zone-item.is in
+    let step = one_leg c.loop-zone.last (finish_point c.args.task.now.finish) c.args.task.now.zones c.as_slice-zone-items.result.now c.loop-zone.zone-index c.zone-item.result zones
+    (omega arith) c.zone-item.is in
     record {
       parted = added _ _ _ _ _ _ c.loop-zone.invariant.parted step c.leg-length.ensures.value;
       short = omega arith;

@@ -1,8 +1,7 @@
 use Rattle.std.proofs.Common.{ℕ, ◌≤◌}
-use Rattle.gl_judge.specs.Stretch.{range_of}
 use Rattle.gl_judge.specs.Visits.{IsInZone}
 use Rattle.gl_judge.proofs.visits.last_in_zone.Given as goal
 
 abbrev pub invariant-loop-i : goal.invariant-loop-i
 invariant-loop-i l =
-    (i : ℕ) → l.i ≤ i → i ≤ l.limit → IsInZone l.fixes (range_of l.fn.judged) l.zone i → ⊥
+    (i : ℕ) → l.i ≤ i → i ≤ l.limit → IsInZone l.fixes l.fn.judged l.zone i → ⊥

@@ -1,12 +1,11 @@
 use Rattle.std.proofs.Common.{take}
 use Rattle.gl_judge.specs.Greatest.{IsLeast}
 use Rattle.gl_judge.specs.JudgedFixes.{IsInRange}
-use Rattle.gl_judge.specs.Stretch.{range_of}
 use Rattle.gl_judge.specs.Visits.{HasVisit}
 use Rattle.gl_judge.proofs.visits.visit_zones.Given as goal
 
 abbrev pub invariant-loop-count : goal.invariant-loop-count
 invariant-loop-count l = record {
-  is_judged : IsInRange (range_of l.judged) l.last;
-  least : IsLeast (HasVisit l.fixes (range_of l.judged) (take l.count l.zones) l.from) l.last;
+  is_judged : IsInRange l.judged l.last;
+  least : IsLeast (HasVisit l.fixes l.judged (take l.count l.zones) l.from) l.last;
 }

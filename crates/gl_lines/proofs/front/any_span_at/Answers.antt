@@ -13,5 +13,6 @@ returns-in_err-hi c = rw c.from_residual-in_err-hi.ensures (λ span more at.
 
 pub returns-then-lo-hi : goal.returns-then-lo-hi
 returns-then-lo-hi c = λ span more at.
-    let same = span_front c.args.text.now c.in_ok-behind.field-0.now c.in_ok-lo.lo c.in_ok-lo.rest.now c.in_ok-hi.hi c.in_ok-hi.rest.now span more c.in_ok-lo.ensures c.in_ok-behind.ensures c.in_ok-hi.ensures at in
+    let same = span_front c.args.text.now c.in_ok-behind.field-0.now c.in_ok-lo.lo c.in_ok-lo.rest.now c.in_ok-hi.hi c.in_ok-hi.rest.now span more c.in_ok-lo.ensures c.in_ok-behind.ensures
+    c.in_ok-hi.ensures at in
     absurd (omega (arith, same.0, same.1, at.is_span.0, c.if-lo-hi.true))

@@ -17,7 +17,8 @@ use Rattle.gl_near.proofs.Said.{said_verdict, verdict_said}
 use Rattle.gl_near.proofs.boxes.check_boxes.Goals as goal
 
 -- the walk over the cells of the boxes
-ends_boxes : (cells : List NearClosed) (whole other : List (ℕ × ℕ)) (walked : Walked) → other ≡ whole → EndsAt other (map (λ closed. spans_of closed.cell) cells) walked → EndsAt whole (cells_of (map box_of cells)) walked
+ends_boxes : (cells : List NearClosed) (whole other : List (ℕ × ℕ)) (walked : Walked) → other ≡ whole → EndsAt other (map (λ closed. spans_of closed.cell) cells) walked
+    → EndsAt whole (cells_of (map box_of cells)) walked
 ends_boxes cells whole other walked same ends =
     subst (λ (l : List (List (ℕ × ℕ))). EndsAt whole l walked) (map_twice box_of (λ (box : List (ℕ × ℕ) × NearWhy). box.0) cells)
     (subst (λ (w : List (ℕ × ℕ)). EndsAt w (map (λ closed. spans_of closed.cell) cells) walked) same ends)
@@ -42,7 +43,9 @@ returns-in-Some c = λ claimed.
     (claimed, unclosed_said whole (cells_of boxes) (IsClosedAt pairing c.args.best boxes) walked c.in-Some.place c.number_of.result ends first.0 first.1 first.2 c.number_of.ensures)
 
 -- what is said where each box that the walk passed is closed
-verdict_at : (pairing : Pairing) (best : Option NearBest) (cells : List NearClosed) (whole : List (ℕ × ℕ)) (walked : Walked) (number : ℕ) (end_ : WalkEnd) → walked.end ≡ end_ → whole ≡ whole_cell pairing → EndsAt whole (map (λ closed. spans_of closed.cell) cells) walked → ((place : ℕ) → place < walked.count → IsClosedAt pairing best (map box_of cells) place) → NumbersBox number walked.count → IsSound pairing best → IsVerdict pairing best (map box_of cells) (verdict_said (end_said end_ number))
+verdict_at : (pairing : Pairing) (best : Option NearBest) (cells : List NearClosed) (whole : List (ℕ × ℕ)) (walked : Walked) (number : ℕ) (end_ : WalkEnd) → walked.end ≡ end_
+    → whole ≡ whole_cell pairing → EndsAt whole (map (λ closed. spans_of closed.cell) cells) walked → ((place : ℕ) → place < walked.count → IsClosedAt pairing best (map box_of cells) place)
+    → NumbersBox number walked.count → IsSound pairing best → IsVerdict pairing best (map box_of cells) (verdict_said (end_said end_ number))
 verdict_at pairing best cells whole walked number end_ is same ends closed numbered claimed =
     let boxes = map box_of cells in
     let all = ends_boxes cells (whole_cell pairing) whole walked same ends in
@@ -50,13 +53,17 @@ verdict_at pairing best cells whole walked number end_ is same ends closed numbe
     (said_verdict pairing best boxes (end_said walked.end number) claimed (passed_said (whole_cell pairing) (cells_of boxes) (IsClosedAt pairing best boxes) walked number all closed numbered))
 
 pub returns-in-Whole : goal.returns-in-Whole
-returns-in-Whole c = λ claimed. verdict_at (pairing_of c.args.pairs.now) c.args.best c.args.cells.now (spans_of c.whole.result) c.in_ok-walked.walked c.number_of-number.result Whole c.in-Whole.is c.whole.ensures c.in_ok-walked.ensures c.in_default.ensures c.number_of-number.ensures claimed
+returns-in-Whole c = λ claimed. verdict_at (pairing_of c.args.pairs.now) c.args.best c.args.cells.now
+    (spans_of c.whole.result) c.in_ok-walked.walked c.number_of-number.result Whole c.in-Whole.is c.whole.ensures c.in_ok-walked.ensures c.in_default.ensures c.number_of-number.ensures claimed
 
 pub returns-in-Extra : goal.returns-in-Extra
-returns-in-Extra c = λ claimed. verdict_at (pairing_of c.args.pairs.now) c.args.best c.args.cells.now (spans_of c.whole.result) c.in_ok-walked.walked c.number_of-number.result Extra c.in-Extra.is c.whole.ensures c.in_ok-walked.ensures c.in_default.ensures c.number_of-number.ensures claimed
+returns-in-Extra c = λ claimed. verdict_at (pairing_of c.args.pairs.now) c.args.best c.args.cells.now
+    (spans_of c.whole.result) c.in_ok-walked.walked c.number_of-number.result Extra c.in-Extra.is c.whole.ensures c.in_ok-walked.ensures c.in_default.ensures c.number_of-number.ensures claimed
 
 pub returns-in-Place : goal.returns-in-Place
-returns-in-Place c = λ claimed. verdict_at (pairing_of c.args.pairs.now) c.args.best c.args.cells.now (spans_of c.whole.result) c.in_ok-walked.walked c.number_of-number.result Place c.in-Place.is c.whole.ensures c.in_ok-walked.ensures c.in_default.ensures c.number_of-number.ensures claimed
+returns-in-Place c = λ claimed. verdict_at (pairing_of c.args.pairs.now) c.args.best c.args.cells.now
+    (spans_of c.whole.result) c.in_ok-walked.walked c.number_of-number.result Place c.in-Place.is c.whole.ensures c.in_ok-walked.ensures c.in_default.ensures c.number_of-number.ensures claimed
 
 pub returns-in-Open : goal.returns-in-Open
-returns-in-Open c = λ claimed. verdict_at (pairing_of c.args.pairs.now) c.args.best c.args.cells.now (spans_of c.whole.result) c.in_ok-walked.walked c.number_of-number.result Open c.in-Open.is c.whole.ensures c.in_ok-walked.ensures c.in_default.ensures c.number_of-number.ensures claimed
+returns-in-Open c = λ claimed. verdict_at (pairing_of c.args.pairs.now) c.args.best c.args.cells.now
+    (spans_of c.whole.result) c.in_ok-walked.walked c.number_of-number.result Open c.in-Open.is c.whole.ensures c.in_ok-walked.ensures c.in_default.ensures c.number_of-number.ensures claimed

@@ -2,7 +2,7 @@ use Rattle.std.proofs.lemmas.Result.{IfOk-weaker}
 use Rattle.std.proofs.Common.{map}
 use Rattle.gl_near.specs.Certificate.{box_of}
 use Rattle.gl_near.specs.Pairs.{pairing_of, pairs_are}
-use Rattle.gl_near.specs.Laws.Least.{certificate_least}
+use Rattle.gl_near.proofs.Least.{certificate_least}
 use Rattle.gl_near.proofs.Exact.{verdict_unique}
 use Rattle.gl_near.proofs.Judged.{yes_exactly}
 use Rattle.gl_near.proofs.check.check_near.Goals as goal
@@ -21,4 +21,5 @@ pub returns-clause-least : goal.returns-clause-least
 returns-clause-least c =
     let claim = c.args.c.now in
     let pairing = pairing_of c.args.p.now in
-    IfOk-weaker c.verdict_of.result _ _ (λ verdict said yes. certificate_least pairing claim.best (map box_of claim.closed.items) (pairs_are c.args.p.now) ((yes_exactly pairing claim.best (map box_of claim.closed.items) verdict said).0 yes)) c.verdict_of.ensures
+    IfOk-weaker c.verdict_of.result _ _ (λ verdict said yes. certificate_least pairing claim.best (map box_of claim.closed.items) (pairs_are c.args.p.now)
+    ((yes_exactly pairing claim.best (map box_of claim.closed.items) verdict said).0 yes)) c.verdict_of.ensures

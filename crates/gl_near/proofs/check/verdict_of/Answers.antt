@@ -13,5 +13,6 @@ pub returns : goal.returns
 returns c =
     let claim = c.args.claim.now in
     IfOk-weaker c.check_boxes.result _ _
-    (λ verdict said. subst (λ (cells : List NearClosed). IsVerdict (pairing_of c.args.pairs.now) claim.best (map box_of cells) verdict) c.as_slice.ensures.value (said (c.in_default.ensures.none refl)))
+    (λ verdict said. subst (λ (cells : List NearClosed). IsVerdict (pairing_of c.args.pairs.now) claim.best (map box_of cells) verdict) c.as_slice.ensures.value
+    (said (c.in_default.ensures.none refl)))
     c.check_boxes.ensures

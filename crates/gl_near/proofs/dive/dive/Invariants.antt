@@ -1,6 +1,6 @@
 use Rattle.gl_near.specs.Pairs.{pairing_of}
 use Rattle.gl_near.specs.Certificate.{IsSound}
-use Rattle.gl_near.specs.Search.{AreWithin}
+use Rattle.gl_near.specs.Code.Search.{AreWithin}
 use Rattle.gl_near.proofs.dive.dive.Given as goal
 
 abbrev pub invariant-loop : goal.invariant-loop

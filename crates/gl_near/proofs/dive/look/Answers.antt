@@ -1,5 +1,5 @@
 use Rattle.gl_box.specs.Cell.{Covers, spans_of}
-use Rattle.gl_box.specs.Laws.Nodes.{covers_lower, covers_through, covers_upper}
+use Rattle.gl_box.proofs.Nodes.{covers_lower, covers_through, covers_upper}
 use Rattle.gl_near.specs.Pairing.{whole_cell}
 use Rattle.gl_near.specs.Pairs.{pairing_of}
 use Rattle.gl_near.proofs.Stack.{within_some}

@@ -1,6 +1,6 @@
 use Rattle.std.proofs.Common.{◌∙◌}
 use Rattle.gl_near.specs.Pairing.{least_distance}
-use Rattle.gl_near.specs.Laws.Pairs.{least_distance-points}
+use Rattle.gl_near.proofs.PairsLemmas.{least_distance-points}
 use Rattle.gl_near.proofs.measure.distance_of.Goals as goal
 
 pub returns : goal.returns

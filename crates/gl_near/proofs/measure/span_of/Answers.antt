@@ -1,5 +1,5 @@
 use Rattle.std.proofs.Common.{sym}
-use Rattle.gl_box.specs.Laws.Spans.{span_at-spans_of}
+use Rattle.gl_box.proofs.Spans.{span_at-spans_of}
 use Rattle.gl_near.proofs.measure.span_of.Goals as goal
 
 pub returns : goal.returns

@@ -16,5 +16,6 @@ boxes-preserved c =
     let grown : map box_of c.push.new.self.items ≡ said ++ box ∷ [] = ap (map box_of) c.in_ok-push.ensures.items ∙ map_push box_of l.closed.items c.in-Some.one in
     record {
       each = subst (All (λ (b : List (ℕ × ℕ) × NearWhy). AreTwoSpans b.0)) (sym grown) (All-push (λ (b : List (ℕ × ℕ) × NearWhy). AreTwoSpans b.0) said box l.invariant.each c.in-Some.ensures.0);
-      is = subst (λ (boxes : List (List (ℕ × ℕ) × NearWhy)). c.args.text.now ≡ spelled (map box_line boxes) ++ c.in-Some.after.now) (sym grown) (boxes_more c.args.text.now l.rest.now c.in-Some.after.now said box l.invariant.is c.in-Some.ensures.1);
+      is = subst (λ (boxes : List (List (ℕ × ℕ) × NearWhy)). c.args.text.now ≡ spelled (map box_line boxes) ++ c.in-Some.after.now) (sym grown)
+          (boxes_more c.args.text.now l.rest.now c.in-Some.after.now said box l.invariant.is c.in-Some.ensures.1);
     }

@@ -16,7 +16,8 @@ returns-in_default-behind-clause-refused c =
     let found = c.in_ok-closed.ensures in
     let last = c.in_ok-closed.last.now in
     let boxes = map box_of c.in_ok-closed.closed.items in
-    let counted : c.later-line.result ≡ min (read.2 + length boxes) 4_294_967_295 = omega (arith, c.later-line.ensures, c.len.ensures, c.in_ok-closed.closed.ok.0, length-map c.in_ok-closed.closed.items box_of) in
+    let counted : c.later-line.result ≡ min (read.2 + length boxes) 4_294_967_295 =
+    omega (arith, c.later-line.ensures, c.len.ensures, c.in_ok-closed.closed.ok.0, length-map c.in_ok-closed.closed.items box_of) in
     refused_end c.args.text.now last read.0 boxes read.2 c.later-line.result c.misfit.result
     (read_runs c.args.text.now c.in-Some.lines.now read.1.now last read.0 boxes c.in-Some.ensures at.is found.is at.numbers found.each)
     at.numbers found.each found.last (λ more end. c.in_default-behind.ensures more end) at.counted counted c.misfit.ensures
@@ -29,7 +30,8 @@ returns-then-not-is_empty-clause-refused c =
     let last = c.in_ok-closed.last.now in
     let after = c.in-Some-behind.after.now in
     let boxes = map box_of c.in_ok-closed.closed.items in
-    let counted : c.later-line.result ≡ min (read.2 + length boxes) 4_294_967_295 = omega (arith, c.later-line.ensures, c.len.ensures, c.in_ok-closed.closed.ok.0, length-map c.in_ok-closed.closed.items box_of) in
+    let counted : c.later-line.result ≡ min (read.2 + length boxes) 4_294_967_295 =
+    omega (arith, c.later-line.ensures, c.len.ensures, c.in_ok-closed.closed.ok.0, length-map c.in_ok-closed.closed.items box_of) in
     refused_after c.args.text.now last after read.0 boxes read.2 c.later-line.result c.later.result
     (read_runs c.args.text.now c.in-Some.lines.now read.1.now last read.0 boxes c.in-Some.ensures at.is found.is at.numbers found.each)
     at.numbers found.each c.in-Some-behind.ensures (λ none. eqb-false _ _ (sym c.is_empty.ensures ∙ c.if-not-is_empty.true) (ap length none)) at.counted counted c.later.ensures

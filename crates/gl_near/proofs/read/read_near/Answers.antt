@@ -16,11 +16,13 @@ returns-clause-only c = λ best boxes of.
     (IfOk-weaker c.read_lines.result _ _ (λ claim is. text_unique c.args.text.now claim.best best (map box_of claim.closed.items) boxes is of) c.read_lines.ensures.ok)
     (IfErr-weaker c.read_lines.result _ _ (λ error is. text_refused c.args.text.now best boxes error of is) c.read_lines.ensures.refused)
 
-told : (text : List ℕ) (error other : ProofError) → (error ≡ Memory → ⊥) → (other ≡ Memory → ⊥) → IsRefusal near_grammar text error → IsRefusal near_grammar text other → IsErrOf {T = NearClaim} (Err error) other ⊎ IsErrOf {T = NearClaim} (Err error) Memory
+told : (text : List ℕ) (error other : ProofError) → (error ≡ Memory → ⊥) → (other ≡ Memory → ⊥) → IsRefusal near_grammar text error → IsRefusal near_grammar text other
+    → IsErrOf {T = NearClaim} (Err error) other ⊎ IsErrOf {T = NearClaim} (Err error) Memory
 told text error other some_error some_other is_error is_other =
     inl (ap Err (refused_unique text error other some_error some_other is_error is_other))
 
-exactly : (text : List ℕ) (answer : Result NearClaim ProofError) (error : ProofError) → IfOk answer (λ claim. IsTextOf text claim.best (map box_of claim.closed.items)) → IfErr answer (IsRefusal near_grammar text) → (error ≡ Memory → ⊥) → IsRefusal near_grammar text error → IsErrOf answer error ⊎ IsErrOf answer Memory
+exactly : (text : List ℕ) (answer : Result NearClaim ProofError) (error : ProofError) → IfOk answer (λ claim. IsTextOf text claim.best (map box_of claim.closed.items))
+    → IfErr answer (IsRefusal near_grammar text) → (error ≡ Memory → ⊥) → IsRefusal near_grammar text error → IsErrOf answer error ⊎ IsErrOf answer Memory
 exactly text (Ok claim) error ok refused some is = absurd (some (text_refused text claim.best (map box_of claim.closed.items) error ok is))
 exactly text (Err Heading) error ok refused some is = told text Heading error (λ same. cc) some refused is
 exactly text (Err (WrongLine number)) error ok refused some is = told text (WrongLine number) error (λ same. cc) some refused is

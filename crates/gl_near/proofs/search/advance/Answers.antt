@@ -3,15 +3,16 @@ use Rattle.std.proofs.lemmas.List.{get_or-set_same}
 use Rattle.gl_box.specs.declared.cell.Cell.{Cell}
 use Rattle.gl_box.specs.Cell.{Covers, spans_of}
 use Rattle.gl_box.specs.Halves.{IsSingle}
-use Rattle.gl_box.specs.Laws.Held.{length-covers}
-use Rattle.gl_box.specs.Laws.Spans.{length-spans_of, span_at-spans_of}
+use Rattle.gl_box.proofs.Held.{length-covers}
+use Rattle.gl_box.proofs.Spans.{length-spans_of, span_at-spans_of}
 use Rattle.gl_near.specs.declared.found.NearWhy.TheVariants.{Near}
 use Rattle.gl_near.specs.Pairing.{least, whole_cell}
 use Rattle.gl_near.specs.Pairs.{pairing_of, pairs_are}
 use Rattle.gl_near.specs.Certificate.{IsClosedFor, total_of}
-use Rattle.gl_near.specs.Search.{Closes, Promises}
-use Rattle.gl_near.proofs.Stack.{open_reached, same_top, set_top, top_is, two_axes}
+use Rattle.gl_near.specs.Code.Search.{Closes, Promises}
+use Rattle.gl_near.proofs.Stack.{open_reached, two_axes}
 use Rattle.gl_near.proofs.search.advance.Goals as goal
+use Rattle.gl_text.proofs.Lists.{top_is, set_top, same_top}
 
 pub returns-in_ok-close-in-Closed-clause-step : goal.returns-in_ok-close-in-Closed-clause-step
 returns-in_ok-close-in-Closed-clause-step c =
@@ -20,7 +21,8 @@ returns-in_ok-close-in-Closed-clause-step c =
     let some : 0 < length items = omega (arith, c.requires.some, c.args.cells.now.ok.0) in
     let last : c.len-top.result - 1 ≡ length items - 1 = omega (arith, c.len-top.ensures, c.args.cells.now.ok.0) in
     let closes : Closes items c.close.new.cells.items c.args.boxes.now.items c.close.new.boxes.items c.in-Closed.why = c.in_ok-close-in-Closed.ensures in
-    let same = same_top items (take (c.len-top.result - 1) items) c.close.new.cells.items c.index.result.now closes.cell (top_is items (c.len-top.result - 1) c.index.result.now some last c.index.ensures) closes.top in
+    let same = same_top items (take (c.len-top.result - 1) items) c.close.new.cells.items c.index.result.now closes.cell
+    (top_is items (c.len-top.result - 1) c.index.result.now some last c.index.ensures) closes.top in
     inl (record {
       why = c.in-Closed.why;
       closes = closes;

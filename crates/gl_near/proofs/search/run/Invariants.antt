@@ -1,7 +1,7 @@
 use Rattle.gl_near.specs.Pairs.{pairing_of}
-use Rattle.gl_near.specs.Search.{IsUnderWay}
-use Rattle.gl_near.proofs.Stack.{work_of}
+use Rattle.gl_near.specs.Code.Search.{IsUnderWay}
 use Rattle.gl_near.proofs.search.run.Given as goal
+use Rattle.gl_box.proofs.Work.{work_of}
 
 abbrev pub invariant-loop-best : goal.invariant-loop-best
 invariant-loop-best l = IsUnderWay (pairing_of l.pairs) l.best l.cells.items l.boxes.items

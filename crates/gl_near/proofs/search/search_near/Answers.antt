@@ -1,7 +1,7 @@
 use Rattle.std.proofs.Common.{◌≡◌, ◌∙◌, ap, List, [], ◌∷◌, ◌++◌}
 use Rattle.gl_box.specs.declared.cell.Cell.{Cell}
 use Rattle.gl_near.specs.Pairs.{pairing_of, pairs_are}
-use Rattle.gl_near.specs.Laws.Least.{certificate_least}
+use Rattle.gl_near.proofs.Least.{certificate_least}
 use Rattle.gl_near.proofs.Stack.{certified, none_exactly, two_axes_each, under_way_start}
 use Rattle.gl_near.proofs.search.search_near.Goals as goal
 

@@ -22,7 +22,8 @@ loop-closed-preserved c =
     record {
       written = box_more _ _ _ cells l.closed-index c.closed-item.result c.loop-closed-test.true c.closed-item.is l.invariant.written c.in_ok-push_box_line.ensures.ok;
       each = below_more (HoldsAt (λ (box : List (ℕ × ℕ) × NearWhy). AreTwoSpans box.0) (map box_of cells)) l.closed-index l.invariant.each
-          (holds_at box_of (λ (box : List (ℕ × ℕ) × NearWhy). AreTwoSpans box.0) cells l.closed-index c.closed-item.result c.loop-closed-test.true c.closed-item.is c.in_ok-push_box_line.ensures.spans);
+          (holds_at box_of (λ (box : List (ℕ × ℕ) × NearWhy). AreTwoSpans box.0) cells l.closed-index c.closed-item.result c.loop-closed-test.true c.closed-item.is
+          c.in_ok-push_box_line.ensures.spans);
     }
 
 pub returns-clause-spans : goal.returns-clause-spans

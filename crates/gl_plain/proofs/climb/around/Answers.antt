@@ -1,9 +1,9 @@
 use Rattle.std.proofs.Common.{◌∙◌, ap, ℕ, ◌<◌, ◌-◌, length, slice_set, arith}
 use Rattle.gl_box.specs.Cell.{spans_of}
-use Rattle.gl_box.specs.Laws.Held.{length-covers}
-use Rattle.gl_box.specs.Laws.Spans.{length-spans_of}
-use Rattle.gl_goal.specs.Rule.{whole_cell}
-use Rattle.gl_goal.specs.Laws.Order.{length-whole, whole_covers_point}
+use Rattle.gl_box.proofs.Held.{length-covers}
+use Rattle.gl_box.proofs.Spans.{length-spans_of}
+use Rattle.gl_goal.specs.Goal.{whole_cell}
+use Rattle.gl_goal.proofs.Order.{length-whole, whole_covers_point}
 use Rattle.gl_plain.proofs.Places.{covers-set_whole, covers_along}
 use Rattle.gl_plain.proofs.climb.around.Goals as goal
 use Rattle.gl_plain.proofs.climb.around.Goals.{then-free-axis-eq1, else-free-axis-eq1}
@@ -16,7 +16,14 @@ loop-axis-init g c =
 pub set-requires : goal.set-requires
 set-requires g c =
     let axes = (g.G.Goal.rule c.args.goal.now).axes in
-    omega (arith, length-covers (whole_cell axes) (spans_of c.loop-axis.cell) c.loop-axis.invariant, length-whole axes, length-spans_of c.loop-axis.cell, c.axes-axis-end.ensures, c.loop-axis-test.true)
+    omega (
+      arith,
+      length-covers (whole_cell axes) (spans_of c.loop-axis.cell) c.loop-axis.invariant,
+      length-whole axes,
+      length-spans_of c.loop-axis.cell,
+      c.axes-axis-end.ensures,
+      c.loop-axis-test.true,
+    )
 
 pub loop-axis-preserved : goal.loop-axis-preserved
 loop-axis-preserved g c =

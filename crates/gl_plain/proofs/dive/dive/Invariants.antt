@@ -1,4 +1,4 @@
-use Rattle.gl_plain.specs.Candidate.{AreWithin}
+use Rattle.gl_plain.specs.Code.Steps.{AreWithin}
 use Rattle.gl_plain.specs.Search.{IsSound}
 use Rattle.gl_plain.proofs.dive.dive.Given as goal
 

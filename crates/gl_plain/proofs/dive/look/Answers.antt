@@ -1,7 +1,7 @@
 use Rattle.std.proofs.Common.{take}
 use Rattle.gl_box.specs.Cell.{Covers, spans_of}
-use Rattle.gl_box.specs.Laws.Nodes.{covers_lower, covers_through, covers_upper}
-use Rattle.gl_goal.specs.Rule.{whole_cell}
+use Rattle.gl_box.proofs.Nodes.{covers_lower, covers_through, covers_upper}
+use Rattle.gl_goal.specs.Goal.{whole_cell}
 use Rattle.gl_plain.proofs.Places.{lowest_tuple, tuple_along, within_some}
 use Rattle.gl_plain.proofs.dive.look.Goals as goal
 

@@ -5,7 +5,7 @@ use Rattle.gl_box.specs.declared.cell.Cell.{Cell}
 use Rattle.gl_plain.specs.declared.worker.Worker.{Worker}
 use Rattle.gl_plain.proofs.Turns.{empty_hand, steals_full, still_there, theft_tries, thief_there, there_plain}
 use Rattle.std.specs.Prelude.{IfNone, Option}
-use Rattle.gl_plain.specs.Workers.{worker_of}
+use Rattle.gl_plain.specs.Code.Workers.{worker_of}
 use Rattle.gl_plain.proofs.machine.steal.Goals as goal
 
 pub returns-then-is_some : goal.returns-then-is_some

@@ -7,7 +7,7 @@ use Rattle.std.proofs.lemmas.Result.{on_ok_weaker}
 use Rattle.gl_box.specs.declared.closed.Closed.{Closed}
 use Rattle.gl_box.specs.Cell.{spans_of}
 use Rattle.gl_box.specs.Frontier.{IsFrontier}
-use Rattle.gl_box.specs.Laws.Nodes.{spread-lower, spread-upper}
+use Rattle.gl_box.proofs.Nodes.{spread-lower, spread-upper}
 use Rattle.gl_plain.specs.Order.{cells_of}
 use Rattle.gl_plain.proofs.Partings.{boxes_covered, boxes_joined, boxes_one, boxes_passed, boxes_single}
 use Rattle.gl_plain.proofs.order.+put_in_order.Goals as goal
@@ -22,34 +22,42 @@ put_in_order-requires t c =
 pub put_in_order-requires-2 : goal.put_in_order-requires-2
 put_in_order-requires-2 t c = (
   omega (arith, spread-lower _ _ _ c.in-Some.ensures.halves, c.decreases),
-  (boxes_covered c.args.cell c.in-Some.lower c.halve.new.cell c.args.boxes.now c.part-count.new.boxes c.split_at_mut-front.result.0.now c.split_at_mut-front.result.1.now c.part-count.result c.requires c.if-boxes-eq1.false c.in-Some.ensures.halves c.part-count.ensures.permutation c.part-count.ensures.front c.part-count.ensures.back c.split_at_mut-front.ensures.front c.split_at_mut-front.ensures.back).0,
+  (boxes_covered c.args.cell c.in-Some.lower c.halve.new.cell c.args.boxes.now c.part-count.new.boxes c.split_at_mut-front.result.0.now c.split_at_mut-front.result.1.now c.part-count.result c.requires
+      c.if-boxes-eq1.false c.in-Some.ensures.halves c.part-count.ensures.permutation c.part-count.ensures.front c.part-count.ensures.back c.split_at_mut-front.ensures.front
+      c.split_at_mut-front.ensures.back).0,
 )
 
 pub put_in_order-requires-3 : goal.put_in_order-requires-3
 put_in_order-requires-3 t c = (
   omega (arith, spread-upper _ _ _ c.in-Some.ensures.halves, c.decreases),
-  (boxes_covered c.args.cell c.in-Some.lower c.halve.new.cell c.args.boxes.now c.part-count.new.boxes c.split_at_mut-front.result.0.now c.split_at_mut-front.result.1.now c.part-count.result c.requires c.if-boxes-eq1.false c.in-Some.ensures.halves c.part-count.ensures.permutation c.part-count.ensures.front c.part-count.ensures.back c.split_at_mut-front.ensures.front c.split_at_mut-front.ensures.back).1,
+  (boxes_covered c.args.cell c.in-Some.lower c.halve.new.cell c.args.boxes.now c.part-count.new.boxes c.split_at_mut-front.result.0.now c.split_at_mut-front.result.1.now c.part-count.result c.requires
+      c.if-boxes-eq1.false c.in-Some.ensures.halves c.part-count.ensures.permutation c.part-count.ensures.front c.part-count.ensures.back c.split_at_mut-front.ensures.front
+      c.split_at_mut-front.ensures.back).1,
 )
 
 pub returns-in-Some-2-clause-permutation : goal.returns-in-Some-2-clause-permutation
 returns-in-Some-2-clause-permutation t c =
     on_ok_weaker c.put_in_order.result
-    (λ same. subst (λ (boxes : List Closed). IsPermutation boxes (c.split_at_mut-back.result.0.now ++ c.put_in_order.new.boxes)) (sym c.split_at_mut-back.ensures.value) (IsPermutation-append_right c.split_at_mut-back.result.0.now c.split_at_mut-back.result.1.now c.put_in_order.new.boxes same))
+    (λ same. subst (λ (boxes : List Closed). IsPermutation boxes (c.split_at_mut-back.result.0.now ++ c.put_in_order.new.boxes)) (sym c.split_at_mut-back.ensures.value)
+    (IsPermutation-append_right c.split_at_mut-back.result.0.now c.split_at_mut-back.result.1.now c.put_in_order.new.boxes same))
     c.put_in_order.ensures.permutation
 
 pub returns-in-Some-2-clause-frontier : goal.returns-in-Some-2-clause-frontier
 returns-in-Some-2-clause-frontier t c =
     let frontier = subst (λ (o : Option ℕ). IfSome o (λ count. IsFrontier (spans_of c.in-Some.lower) (take count (cells_of c.args.boxes.now)))) c.in-Some-2.is c.in_ok-count.ensures.frontier in
-    let front : take c.in-Some-2.count (cells_of c.args.boxes.now) ≡ cells_of c.split_at_mut-back.result.0.now = take-map (λ (box : Closed). spans_of box.cell) c.in-Some-2.count c.args.boxes.now ∙ ap cells_of (sym c.split_at_mut-back.ensures.front) in
+    let front : take c.in-Some-2.count (cells_of c.args.boxes.now) ≡ cells_of c.split_at_mut-back.result.0.now = take-map (λ (box : Closed). spans_of box.cell) c.in-Some-2.count c.args.boxes.now
+    ∙ ap cells_of (sym c.split_at_mut-back.ensures.front) in
     on_ok_weaker c.put_in_order.result
-    (λ back. boxes_joined c.args.cell c.in-Some.lower c.halve.new.cell c.split_at_mut-back.result.0.now c.put_in_order.new.boxes c.in-Some.ensures.halves (subst (IsFrontier (spans_of c.in-Some.lower)) front frontier) back)
+    (λ back. boxes_joined c.args.cell c.in-Some.lower c.halve.new.cell c.split_at_mut-back.result.0.now c.put_in_order.new.boxes c.in-Some.ensures.halves
+    (subst (IsFrontier (spans_of c.in-Some.lower)) front frontier) back)
     c.put_in_order.ensures.frontier
 
 pub returns-clause-permutation : goal.returns-clause-permutation
 returns-clause-permutation t c =
     on_ok_weaker c.put_in_order-3.result
     (λ same. IsPermutation-trans c.args.boxes.now c.part-count.new.boxes (c.put_in_order-2.new.boxes ++ c.put_in_order-3.new.boxes) c.part-count.ensures.permutation
-    (subst (λ (boxes : List Closed). IsPermutation boxes (c.put_in_order-2.new.boxes ++ c.put_in_order-3.new.boxes)) (sym c.split_at_mut-front.ensures.value) (IsPermutation-append c.split_at_mut-front.result.0.now c.put_in_order-2.new.boxes c.split_at_mut-front.result.1.now c.put_in_order-3.new.boxes c.in_ok-put_in_order.ensures.permutation same)))
+    (subst (λ (boxes : List Closed). IsPermutation boxes (c.put_in_order-2.new.boxes ++ c.put_in_order-3.new.boxes)) (sym c.split_at_mut-front.ensures.value)
+    (IsPermutation-append c.split_at_mut-front.result.0.now c.put_in_order-2.new.boxes c.split_at_mut-front.result.1.now c.put_in_order-3.new.boxes c.in_ok-put_in_order.ensures.permutation same)))
     c.put_in_order-3.ensures.permutation
 
 pub returns-clause-frontier : goal.returns-clause-frontier

@@ -1,5 +1,5 @@
 use Rattle.gl_box.specs.Cell.{spans_of}
-use Rattle.gl_box.specs.Laws.Nodes.{spread}
+use Rattle.gl_box.proofs.Nodes.{spread}
 use Rattle.gl_plain.proofs.order.+put_in_order.Given as goal
 
 -- each half reaches less far

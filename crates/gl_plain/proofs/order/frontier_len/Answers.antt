@@ -17,12 +17,14 @@ loop-count-init c =
 pub loop-count-preserved : goal.loop-count-preserved
 loop-count-preserved c =
     let l = c.loop-count in
-    walked_more (spans_of c.args.cell) (λ (box : Closed). spans_of box.cell) c.args.boxes.now l.count c.index-boxes-count.result _ (open_cells l.opened.items) (open_cells c.go_down.new.opened.items) c.loop-count-test.true c.index-boxes-count.is refl l.invariant (c.in_ok-go_down.ensures.there c.if-not-branch.false)
+    walked_more (spans_of c.args.cell) (λ (box : Closed). spans_of box.cell) c.args.boxes.now l.count c.index-boxes-count.result _ (open_cells l.opened.items)
+    (open_cells c.go_down.new.opened.items) c.loop-count-test.true c.index-boxes-count.is refl l.invariant (c.in_ok-go_down.ensures.there c.if-not-branch.false)
 
 pub returns-then-is_empty-clause-frontier : goal.returns-then-is_empty-clause-frontier
 returns-then-is_empty-clause-frontier c =
     let l = c.loop-count in
     let opened = c.go_down.new.opened in
-    let walked = walked_more (spans_of c.args.cell) (λ (box : Closed). spans_of box.cell) c.args.boxes.now l.count c.index-boxes-count.result _ (open_cells l.opened.items) (open_cells opened.items) c.loop-count-test.true c.index-boxes-count.is refl l.invariant (c.in_ok-go_down.ensures.there c.if-not-branch.false) in
+    let walked = walked_more (spans_of c.args.cell) (λ (box : Closed). spans_of box.cell) c.args.boxes.now l.count c.index-boxes-count.result _ (open_cells l.opened.items)
+    (open_cells opened.items) c.loop-count-test.true c.index-boxes-count.is refl l.invariant (c.in_ok-go_down.ensures.there c.if-not-branch.false) in
     let empty : length opened.items ≡ 0 = omega (arith, eqb-true _ _ (sym c.is_empty.ensures ∙ c.if-is_empty.true), opened.ok.0) in
     walked_whole (spans_of c.args.cell) (take (l.count + 1) (cells_of c.args.boxes.now)) (open_cells opened.items) walked (no_cell opened.items empty)

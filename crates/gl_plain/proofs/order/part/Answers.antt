@@ -17,14 +17,17 @@ loop-place-preserved c =
     let read = get_or_read l.boxes l.place c.index-boxes-place.result below c.index-boxes-place.is in
     elim c.if-covers.branch [
       | then-covers w ↦
-          let after = parted_swap P l.boxes w.swap.new.self l.count l.place w.swap.ensures.by_index l.invariant.within (λ d. subst P (sym c.index-boxes-place.is ∙ read d) (c.covers.ensures.0 w.if-covers.true)) l.invariant.parted in
+          let after = parted_swap P l.boxes w.swap.new.self l.count l.place w.swap.ensures.by_index l.invariant.within
+          (λ d. subst P (sym c.index-boxes-place.is ∙ read d) (c.covers.ensures.0 w.if-covers.true)) l.invariant.parted in
           record {
             within = omega (arith, w.count-is, l.invariant.within);
             permutation = subst (IsPermutation c.args.boxes.now) (sym w.boxes-is) (IsPermutation-trans _ _ _ l.invariant.permutation w.swap.ensures.permutation);
-            parted = subst (λ (boxes : List Closed). PartedAt P boxes c.if-covers.count (l.place + 1)) (sym w.boxes-is) (subst (λ (n : ℕ). PartedAt P w.swap.new.self n (l.place + 1)) (sym w.count-is) after);
+            parted = subst (λ (boxes : List Closed). PartedAt P boxes c.if-covers.count (l.place + 1)) (sym w.boxes-is)
+                (subst (λ (n : ℕ). PartedAt P w.swap.new.self n (l.place + 1)) (sym w.count-is) after);
           }
       | else-covers w ↦
-          let after = parted_stay P l.boxes l.count l.place (λ d has. false≢true (sym w.if-covers.false ∙ c.covers.ensures.1 (subst P (sym (read d) ∙ c.index-boxes-place.is) has))) l.invariant.parted in
+          let after = parted_stay P l.boxes l.count l.place (λ d has. false≢true (sym w.if-covers.false ∙ c.covers.ensures.1 (subst P (sym (read d) ∙ c.index-boxes-place.is) has))) l.invariant.parted
+          in
           record {
             within = omega (arith, w.count-is, l.invariant.within);
             permutation = subst (IsPermutation c.args.boxes.now) (sym w.boxes-is) l.invariant.permutation;

@@ -3,8 +3,10 @@ use Rattle.gl_plain.proofs.replayed.best_kept.Goals as goal
 
 pub loop-worker-preserved : goal.loop-worker-preserved
 loop-worker-preserved c = record {
-  kept = best_among c.args.workers.now c.loop-worker.worker-index c.worker-item.result c.loop-worker.best c.better-best.result c.loop-worker-test.true c.worker-item.is c.loop-worker.invariant.kept c.better-best.ensures.either;
-  no_less = no_less_more c.args.workers.now c.loop-worker.worker-index c.worker-item.result c.loop-worker.best c.better-best.result c.loop-worker-test.true c.worker-item.is c.loop-worker.invariant.no_less c.better-best.ensures.no_less c.better-best.ensures.no_less_other;
+  kept = best_among c.args.workers.now c.loop-worker.worker-index c.worker-item.result c.loop-worker.best c.better-best.result c.loop-worker-test.true c.worker-item.is c.loop-worker.invariant.kept
+      c.better-best.ensures.either;
+  no_less = no_less_more c.args.workers.now c.loop-worker.worker-index c.worker-item.result c.loop-worker.best c.better-best.result c.loop-worker-test.true c.worker-item.is
+      c.loop-worker.invariant.no_less c.better-best.ensures.no_less c.better-best.ensures.no_less_other;
 }
 
 pub returns-clause-no_less : goal.returns-clause-no_less

@@ -2,7 +2,7 @@ use Rattle.std.proofs.Common.{◌≡◌, map, take}
 use Rattle.std.specs.List.{flat_map}
 use Rattle.gl_box.specs.Cell.{spans_of}
 use Rattle.gl_plain.specs.Machine.{open_cells}
-use Rattle.gl_plain.specs.Workers.{workers_of}
+use Rattle.gl_plain.specs.Code.Workers.{workers_of}
 use Rattle.gl_plain.proofs.replayed.open_of.Given as goal
 
 -- those of the workers so far

@@ -3,9 +3,9 @@ use Rattle.std.specs.List.Sorted.{IsPermutation}
 use Rattle.gl_box.specs.declared.closed.Closed.{Closed}
 use Rattle.gl_box.specs.Closed.{box_of}
 use Rattle.gl_box.specs.Frontier.{IsFrontier}
-use Rattle.gl_box.specs.Laws.Parts.{mult-held}
-use Rattle.gl_goal.specs.Rule.{whole_cell}
-use Rattle.gl_goal.specs.Laws.Optimum.{certificate_optimum}
+use Rattle.gl_box.proofs.Parts.{mult-held}
+use Rattle.gl_goal.specs.Goal.{whole_cell}
+use Rattle.gl_goal.proofs.Optimum.{certificate_optimum}
 use Rattle.gl_walk.specs.InLists.{boxes_in}
 use Rattle.gl_plain.specs.declared.found.Found.{Found}
 use Rattle.gl_plain.specs.declared.replayed.Replayed.{Replayed}
@@ -24,7 +24,8 @@ in_order-requires g c =
     let found = c.in_ok-best.field-0 in
     let boxes = c.extend_from_slice.new.self.items in
     let are : boxes ≡ found.closed.items ++ left.closed.items = c.in_ok-extend_from_slice.ensures.items ∙ ap (λ (more : List Closed). found.closed.items ++ more) c.as_slice.ensures.value in
-    subst (λ (cell : List (ℕ × ℕ)). AreParts cell (cells_of boxes)) (sym c.whole.ensures) (parts_made rule c.args.workers c.args.steps.now left found boxes c.in_ok-left.ensures c.in_ok-best.ensures are)
+    subst (λ (cell : List (ℕ × ℕ)). AreParts cell (cells_of boxes)) (sym c.whole.ensures)
+    (parts_made rule c.args.workers c.args.steps.now left found boxes c.in_ok-left.ensures c.in_ok-best.ensures are)
 
 pub overflow_cast-by_steps : goal.overflow_cast-by_steps
 overflow_cast-by_steps g c =

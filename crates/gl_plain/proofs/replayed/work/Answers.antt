@@ -1,7 +1,7 @@
 use Rattle.std.proofs.Common.{sym, subst}
 use Rattle.gl_plain.specs.Machine.{Runs, State}
 use Rattle.gl_plain.specs.Safe.{IsSafe}
-use Rattle.gl_plain.specs.Workers.{state_of}
+use Rattle.gl_plain.specs.Code.Workers.{state_of}
 use Rattle.gl_plain.proofs.Machines.{start_safe}
 use Rattle.gl_plain.proofs.Replays.{left_by}
 use Rattle.gl_plain.proofs.replayed.work.Goals as goal
@@ -15,4 +15,5 @@ pub returns : goal.returns
 returns g c =
     let rule = g.G.Goal.rule c.args.goal.now in
     let after = subst (λ (state : State). Runs rule state c.args.steps.now (state_of c.run.new.self)) c.in_ok-machine.ensures c.in_ok-run.ensures in
-    left_by rule c.args.workers c.args.steps.now c.run.new.self _ c.as_slice-workers.result.now after c.as_slice-workers.ensures.value c.in_ok-open_of.ensures c.in_ok-closed_of.ensures c.best_kept.ensures.kept c.best_kept.ensures.no_less
+    left_by rule c.args.workers c.args.steps.now c.run.new.self _ c.as_slice-workers.result.now after c.as_slice-workers.ensures.value c.in_ok-open_of.ensures c.in_ok-closed_of.ensures
+    c.best_kept.ensures.kept c.best_kept.ensures.no_less

@@ -1,8 +1,8 @@
 use Rattle.std.proofs.Common.{ap, ◌∷◌, [], arith}
 use Rattle.gl_box.specs.Cell.{spans_of}
-use Rattle.gl_box.specs.Laws.Nodes.{spread, spread-lower, spread-upper}
-use Rattle.gl_plain.proofs.Stack.{turns_cut, turns_some, work_of, work_of-append, work_of-one}
+use Rattle.gl_box.proofs.Nodes.{spread, spread-lower, spread-upper}
 use Rattle.gl_plain.proofs.runs.run_len.Goals as goal
+use Rattle.gl_box.proofs.Work.{work_of, turns_some, turns_cut, work_of-append, work_of-one}
 
 pub halves-smaller-in-Some : goal.halves-smaller-in-Some
 halves-smaller-in-Some c =

@@ -1,8 +1,8 @@
 use Rattle.std.proofs.Common.{◌+◌, ◌≤◌, length}
 use Rattle.gl_box.specs.Cell.{spans_of}
-use Rattle.gl_box.specs.Laws.Nodes.{spread}
-use Rattle.gl_plain.proofs.Stack.{turns, work_of}
+use Rattle.gl_box.proofs.Nodes.{spread}
 use Rattle.gl_plain.proofs.runs.run_len.Given as goal
+use Rattle.gl_box.proofs.Work.{turns, work_of}
 
 abbrev pub invariant-halves : goal.invariant-halves
 invariant-halves l = l.count ≤ length l.boxes

@@ -14,11 +14,13 @@ returns-clause-only c = λ steps of.
     (IfOk-weaker c.steps_in.result _ _ (λ read is. schedule_unique c.args.text.now read.items steps is of) c.steps_in.ensures.ok)
     (IfErr-weaker c.steps_in.result _ _ (λ error is. schedule_told c.args.text.now steps error of is) c.steps_in.ensures.refused)
 
-told : (text : List ℕ) (error other : StepError) → (error ≡ Memory → ⊥) → (other ≡ Memory → ⊥) → IsRefused text error → IsRefused text other → IsErrOf {T = Vec Step Global} (Err error) other ⊎ IsErrOf {T = Vec Step Global} (Err error) Memory
+told : (text : List ℕ) (error other : StepError) → (error ≡ Memory → ⊥) → (other ≡ Memory → ⊥) → IsRefused text error → IsRefused text other
+    → IsErrOf {T = Vec Step Global} (Err error) other ⊎ IsErrOf {T = Vec Step Global} (Err error) Memory
 told text error other some_error some_other is_error is_other =
     inl (ap Err (refused_unique text error other some_error some_other is_error is_other))
 
-exactly : (text : List ℕ) (answer : Result (Vec Step Global) StepError) (error : StepError) → IfOk answer (λ steps. IsSchedule text steps.items) → IfErr answer (IsRefused text) → (error ≡ Memory → ⊥) → IsRefused text error → IsErrOf answer error ⊎ IsErrOf answer Memory
+exactly : (text : List ℕ) (answer : Result (Vec Step Global) StepError) (error : StepError) → IfOk answer (λ steps. IsSchedule text steps.items) → IfErr answer (IsRefused text) → (error ≡ Memory → ⊥)
+    → IsRefused text error → IsErrOf answer error ⊎ IsErrOf answer Memory
 exactly text (Ok steps) error ok refused some is = absurd (schedule_refused text steps.items error some ok is)
 exactly text (Err (Line number)) error ok refused some is = told text (Line number) error (λ same. cc) some refused is
 exactly text (Err TooMany) error ok refused some is = told text TooMany error (λ same. cc) some refused is

@@ -22,4 +22,5 @@ returns-in_err-worker_in-2 c = rw c.from_residual-in_err-worker_in-2.ensures (λ
     c.in_err-worker_in-2.ensures other small_other (workers_parted c.in_ok-behind.field-0.now c.in_ok-worker.worker.now c.in_ok-worker.other.now worker other small c.in_ok-worker.ensures rest).1)
 
 pub returns : goal.returns
-returns c = workers_joined c.args.line.now c.args.front.now c.in_ok-behind.field-0.now c.in_ok-worker.worker.now c.in_ok-worker.other.now c.in_ok-worker_in.field-0 c.in_ok-worker_in-2.field-0 c.in_ok-behind.ensures c.in_ok-worker.ensures c.in_ok-worker_in.ensures c.in_ok-worker_in-2.ensures
+returns c = workers_joined c.args.line.now c.args.front.now c.in_ok-behind.field-0.now c.in_ok-worker.worker.now c.in_ok-worker.other.now c.in_ok-worker_in.field-0 c.in_ok-worker_in-2.field-0
+    c.in_ok-behind.ensures c.in_ok-worker.ensures c.in_ok-worker_in.ensures c.in_ok-worker_in-2.ensures

@@ -3,13 +3,14 @@ use Rattle.std.proofs.lemmas.List.{get_or-set_same}
 use Rattle.gl_box.specs.declared.cell.Cell.{Cell}
 use Rattle.gl_box.specs.declared.closed.Why.TheVariants.{Bound}
 use Rattle.gl_box.specs.Cell.{Covers, spans_of}
-use Rattle.gl_goal.specs.Rule.{IsOpen, whole_cell}
+use Rattle.gl_goal.specs.Goal.{IsOpen, whole_cell}
 use Rattle.gl_goal.specs.Certificate.{IsClosedFor}
 use Rattle.gl_plain.specs.Search.{total_of}
 use Rattle.gl_plain.specs.Steps.{Closes}
-use Rattle.gl_plain.specs.Verdict.{Promises}
-use Rattle.gl_plain.proofs.Stack.{same_top, set_top, single_reached, top_is}
+use Rattle.gl_plain.specs.CellVerdict.{Promises}
+use Rattle.gl_plain.proofs.Stack.{single_reached}
 use Rattle.gl_plain.proofs.search.advance.Goals as goal
+use Rattle.gl_text.proofs.Lists.{top_is, set_top, same_top}
 
 pub test-requires-clause-covers : goal.test-requires-clause-covers
 test-requires-clause-covers g c =
@@ -24,7 +25,8 @@ returns-in_ok-close-in-Closed-clause-step g c =
     let some : 0 < length items = omega (arith, c.requires.some, c.args.cells.now.ok.0) in
     let last : c.len-top.result - 1 ≡ length items - 1 = omega (arith, c.len-top.ensures, c.args.cells.now.ok.0) in
     let closes : Closes items c.close.new.cells.items c.args.boxes.now.items c.close.new.boxes.items c.in-Closed.why = c.in_ok-close-in-Closed.ensures in
-    let same = same_top items (take (c.len-top.result - 1) items) c.close.new.cells.items c.index.result.now closes.cell (top_is items (c.len-top.result - 1) c.index.result.now some last c.index.ensures) closes.top in
+    let same = same_top items (take (c.len-top.result - 1) items) c.close.new.cells.items c.index.result.now closes.cell
+    (top_is items (c.len-top.result - 1) c.index.result.now some last c.index.ensures) closes.top in
     inl (record {
       why = c.in-Closed.why;
       closes = closes;

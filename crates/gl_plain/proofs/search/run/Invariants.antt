@@ -1,7 +1,7 @@
 use Rattle.gl_plain.specs.Search.{IsNoLess, total_of}
-use Rattle.gl_plain.specs.Steps.{IsUnderWay}
-use Rattle.gl_plain.proofs.Stack.{work_of}
+use Rattle.gl_plain.specs.Code.Steps.{IsUnderWay}
 use Rattle.gl_plain.proofs.search.run.Given as goal
+use Rattle.gl_box.proofs.Work.{work_of}
 
 abbrev pub invariant-loop-best : goal.invariant-loop-best
 invariant-loop-best g l = record {

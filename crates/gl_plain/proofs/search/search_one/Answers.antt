@@ -1,16 +1,17 @@
 use Rattle.std.proofs.Common.{◌≡◌, ◌∙◌, ap, List, [], ◌∷◌, ◌++◌, map}
 use Rattle.gl_box.specs.Closed.{box_of}
-use Rattle.gl_box.specs.Laws.Parts.{mult-held}
+use Rattle.gl_box.proofs.Parts.{mult-held}
 use Rattle.gl_box.specs.declared.cell.Cell.{Cell}
-use Rattle.gl_goal.specs.Rule.{whole_cell}
-use Rattle.gl_goal.specs.Laws.Optimum.{certificate_optimum}
+use Rattle.gl_goal.specs.Goal.{whole_cell}
+use Rattle.gl_goal.proofs.Optimum.{certificate_optimum}
 use Rattle.gl_walk.specs.InLists.{boxes_in}
 use Rattle.gl_plain.proofs.Stack.{none_exactly, whole_certificate, whole_needed, whole_node}
 use Rattle.gl_plain.proofs.search.search_one.Goals as goal
 
 pub finish-requires-clause-nodes : goal.finish-requires-clause-nodes
 finish-requires-clause-nodes g c =
-    whole_node (g.G.Goal.rule c.args.goal.now) c.push.new.self.items c.whole.result (c.in_ok-push.ensures.items ∙ ap (λ (cells : List Cell). cells ++ c.whole.result ∷ []) c.in_ok-cells.ensures.items) c.whole.ensures
+    whole_node (g.G.Goal.rule c.args.goal.now) c.push.new.self.items c.whole.result (c.in_ok-push.ensures.items
+    ∙ ap (λ (cells : List Cell). cells ++ c.whole.result ∷ []) c.in_ok-cells.ensures.items) c.whole.ensures
 
 pub returns-clause-certificate : goal.returns-clause-certificate
 returns-clause-certificate g c =

@@ -1,7 +1,7 @@
 use Rattle.std.proofs.Common.{◌-◌, length}
 use Rattle.std.specs.Prelude.{All}
 use Rattle.gl_box.specs.Tuple.{places_of}
-use Rattle.gl_goal.specs.Rule.{IsTuple}
+use Rattle.gl_goal.specs.Goal.{IsTuple}
 use Rattle.gl_plain.specs.Search.{IsSound}
 use Rattle.gl_plain.proofs.spaced.+extend.Given as goal
 

@@ -2,7 +2,8 @@ use Rattle.std.proofs.Common.{◌≡◌, ap, ◌∙◌, ◌*◌}
 use Rattle.gl_points.specs.declared.performance.Performance.{Performance}
 use Rattle.gl_points.specs.Limits.{distance_limit, handicap_limit}
 use Rattle.gl_points.specs.Figures.{handicapped_distance}
-use Rattle.gl_points.specs.Fraction.{◌÷◌, greater}
+use Rattle.gl_points.specs.Fraction.{◌÷◌}
+use Rattle.gl_points.specs.Code.Fractions.{greater}
 use Rattle.gl_points.proofs.Greatest.{greatest_kept, greatest_passed}
 use Rattle.gl_points.proofs.passes.greatest_distance.Goals as goal
 use Rattle.gl_points.proofs.passes.greatest_distance.Goals.{then-p, else-p}
@@ -15,7 +16,8 @@ loop-p-preserved c =
     let so_far = c.loop-p.invariant in
     elim c.if-p.branch [
       | then-p w ↦
-          let next : (c.if-p.greatest.0 ÷ c.if-p.greatest.1.0) ≡ greater best (figure c.p-item.result) = rw w.greatest-is (w.greater-greatest.ensures.worth ∙ ap (greater best) w.distance.ensures.worth) in
+          let next : (c.if-p.greatest.0 ÷ c.if-p.greatest.1.0) ≡ greater best (figure c.p-item.result) =
+          rw w.greatest-is (w.greater-greatest.ensures.worth ∙ ap (greater best) w.distance.ensures.worth) in
           record {
             greatest = rw next (greatest_kept figure keep c.args.list.now c.loop-p.p-index c.p-item.result best c.loop-p-test.true c.p-item.is w.if-p.true so_far.divides so_far.greatest);
             divides = rw w.greatest-is w.greater-greatest.result.divides;

@@ -1,4 +1,4 @@
-use Rattle.gl_points.specs.Day.{launched_of}
+use Rattle.gl_points.specs.Summary.{launched_of}
 use Rattle.gl_points.proofs.Least.{handicap_low}
 use Rattle.gl_points.proofs.passes.least_handicap.Goals as goal
 

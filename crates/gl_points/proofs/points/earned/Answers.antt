@@ -1,5 +1,6 @@
 use Rattle.std.proofs.Common.{sym, subst, ◌∙◌, arith, cond}
-use Rattle.gl_points.specs.Fraction.{Fraction, ◌⊗◌, IsSame}
+use Rattle.gl_points.specs.Fraction.{Fraction, ◌⊗◌}
+use Rattle.gl_points.specs.Code.Fractions.{IsSame}
 use Rattle.gl_points.specs.Points.{exact_points, day_factor, completion_factor, points_of_finisher, points_of_outlanding}
 use Rattle.gl_points.specs.Worth.{worth}
 use Rattle.gl_points.proofs.Divided.{exact_points_above}
@@ -25,8 +26,10 @@ returns-clause-points c =
     let most = worth day.most in
     let share = worth c.part.result in
     let written = cond p.finished (points_of_finisher day p) (points_of_outlanding day p) in
-    let same : IsSame (factor ⊗ (most ⊗ share)) (day_factor day ⊗ completion_factor day ⊗ written) = times_same factor (day_factor day ⊗ completion_factor day) (most ⊗ share) written c.factor.ensures.same c.part.ensures.same in
+    let same : IsSame (factor ⊗ (most ⊗ share)) (day_factor day ⊗ completion_factor day ⊗ written) =
+    times_same factor (day_factor day ⊗ completion_factor day) (most ⊗ share) written c.factor.ensures.same c.part.ensures.same in
     let grouped : IsSame (factor ⊗ most ⊗ share) (exact_points day p) = omega (arith, same) in
     let above = exact_points_above day p c.requires.far (some_distance c.requires.part.list day c.requires.part.day_of c.requires.far) in
     let below = c.product.result.divides in
-    c.rounded.ensures.rounded ∙ rounded_same (worth c.product.result) (exact_points day p) below above (subst (λ (made : Fraction). IsSame made (exact_points day p)) (sym c.product.ensures.worth) grouped)
+    c.rounded.ensures.rounded ∙ rounded_same (worth c.product.result) (exact_points day p) below above
+    (subst (λ (made : Fraction). IsSame made (exact_points day p)) (sym c.product.ensures.worth) grouped)

@@ -3,7 +3,7 @@ use Rattle.std.specs.declared.alloc.AllocError.{AllocError}
 use Rattle.std.proofs.lemmas.List.Elements.{All-pop}
 use Rattle.gl_deal.specs.declared.place.Place.{Place}
 use Rattle.gl_pool.specs.declared.crew.Worker.{Worker}
-use Rattle.gl_pool.specs.Crew.{has_seat}
+use Rattle.gl_pool.specs.Code.Crew.{has_seat}
 use Rattle.gl_pool.proofs.Collecting.{collecting_more, collecting_start}
 use Rattle.gl_pool.proofs.crew.collected.Goals as goal
 
@@ -31,7 +31,8 @@ others-preserved c =
     record {
       seats = all.0;
       seat = c.in_ok-gather.ensures.is_seat;
-      so_far = collecting_more c.args.word.now c.args.workers.items c.others.workers.items c.pop-in-others.new.self.items c.others.places.items c.push-in-Some-pop.new.self.items c.others.tally c.gather.new.tally worker
+      so_far = collecting_more c.args.word.now c.args.workers.items c.others.workers.items c.pop-in-others.new.self.items c.others.places.items c.push-in-Some-pop.new.self.items c.others.tally
+          c.gather.new.tally worker
           (c.in-Some-pop.ensures.items ∙ ap (λ (r : Result Worker AllocError). c.pop-in-others.new.self.items ++ r ∷ []) c.in_ok-place-2.was)
           c.in_ok-push-2.ensures.items
           c.in_ok-gather.ensures c.others.invariant.so_far;

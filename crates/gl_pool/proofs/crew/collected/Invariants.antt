@@ -1,7 +1,7 @@
 use Rattle.std.proofs.Common.{length}
 use Rattle.std.specs.Prelude.{All}
 use Rattle.gl_best.specs.Seats.{IsSeatOf}
-use Rattle.gl_pool.specs.Crew.{has_seat}
+use Rattle.gl_pool.specs.Code.Crew.{has_seat}
 use Rattle.gl_pool.proofs.Collecting.{Collecting}
 use Rattle.gl_pool.proofs.crew.collected.Given as goal
 

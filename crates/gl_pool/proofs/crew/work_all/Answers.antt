@@ -3,8 +3,8 @@ use Rattle.std.specs.Prelude.{IfOk}
 use Rattle.std.specs.declared.alloc.AllocError.{AllocError}
 use Rattle.std.proofs.lemmas.Result.{IfOk-weaker}
 use Rattle.gl_pool.specs.declared.crew.Worker.{Worker}
-use Rattle.gl_pool.specs.Crew.{HasTurned}
-use Rattle.gl_pool.specs.Tally.{IsTally}
+use Rattle.gl_pool.specs.Code.Crew.{HasTurned}
+use Rattle.gl_pool.specs.Code.Tally.{IsTally}
 use Rattle.gl_pool.proofs.Turning.{worked_all}
 use Rattle.gl_pool.proofs.crew.work_all.Goals as goal
 
@@ -24,7 +24,8 @@ returns-clause-tally g c =
     let gives = (c.in_ok-worked.ensures.each k d below).1 in
     subst (λ (w : Worker). IfOk (get_or worked k d) (HasTurned rule c.args.word.now w)) (sym (gives.job_is e)) gives.call.met in
     IfOk-weaker c.collected.result _ _
-    (λ all collects. (worked_all rule c.args.word.now c.args.places.items all.0.items c.args.tally all.1 workers worked c.requires.tally c.requires.nothing c.in_ok-workers.ensures (omega (arith, c.in_ok-worked.ensures.len, c.in_ok-workers.workers.ok.0, c.in_ok-worked.worked.ok.0)) each collects).0)
+    (λ all collects. (worked_all rule c.args.word.now c.args.places.items all.0.items c.args.tally all.1 workers worked c.requires.tally c.requires.nothing c.in_ok-workers.ensures
+    (omega (arith, c.in_ok-worked.ensures.len, c.in_ok-workers.workers.ok.0, c.in_ok-worked.worked.ok.0)) each collects).0)
     c.collected.ensures
 
 pub returns-clause-worked : goal.returns-clause-worked
@@ -37,5 +38,6 @@ returns-clause-worked g c =
     let gives = (c.in_ok-worked.ensures.each k d below).1 in
     subst (λ (w : Worker). IfOk (get_or worked k d) (HasTurned rule c.args.word.now w)) (sym (gives.job_is e)) gives.call.met in
     IfOk-weaker c.collected.result _ _
-    (λ all collects. (worked_all rule c.args.word.now c.args.places.items all.0.items c.args.tally all.1 workers worked c.requires.tally c.requires.nothing c.in_ok-workers.ensures (omega (arith, c.in_ok-worked.ensures.len, c.in_ok-workers.workers.ok.0, c.in_ok-worked.worked.ok.0)) each collects).1)
+    (λ all collects. (worked_all rule c.args.word.now c.args.places.items all.0.items c.args.tally all.1 workers worked c.requires.tally c.requires.nothing c.in_ok-workers.ensures
+    (omega (arith, c.in_ok-worked.ensures.len, c.in_ok-workers.workers.ok.0, c.in_ok-worked.worked.ok.0)) each collects).1)
     c.collected.ensures

@@ -5,7 +5,8 @@ use Rattle.std.proofs.lemmas.List.{append-nil}
 use Rattle.gl_box.specs.declared.closed.Closed.{Closed}
 use Rattle.gl_box.specs.Cell.{spans_of}
 use Rattle.gl_pool.specs.declared.trail.Listed.{Listed}
-use Rattle.gl_pool.specs.Listed.{ArePassed, listed_in}
+use Rattle.gl_pool.specs.Code.Listed.{ArePassed}
+use Rattle.gl_pool.specs.Listed.{listed_in}
 use Rattle.gl_pool.proofs.Trails.{Completes, completes_on}
 use Rattle.gl_pool.proofs.joined.chained.Goals as goal
 
@@ -29,7 +30,9 @@ lists-preserved c =
       boxes = ap (λ (b : List Closed). b ++ listed_in rest) more ∙ append_assoc all list.boxes.items (listed_in rest) ∙ ap (λ (b : List Listed). all ++ listed_in b) (sym next) ∙ l.invariant.boxes;
       rest = λ k d below. still (suc k) d (omega arith);
       passed = λ yes.
-          let same : map spans_of l.opened.items ≡ map spans_of list.before.items = ap (map spans_of) (sym c.deref.ensures.value) ∙ c.follows-follow.ensures.same yes ∙ ap (map spans_of) c.deref-in-lists.ensures.value in
+          let same : map spans_of l.opened.items ≡ map spans_of list.before.items = ap (map spans_of) (sym c.deref.ensures.value) ∙ c.follows-follow.ensures.same yes
+          ∙ ap (map spans_of) c.deref-in-lists.ensures.value in
           subst (λ (b : List Closed). Completes (spans_of c.args.whole.now) b list.after.items) (sym more)
-          (completes_on (spans_of c.args.whole.now) all list.boxes.items l.opened.items list.before.items list.after.items same (still 0 list (omega arith)) (l.invariant.passed (c.follows-follow.ensures.follow yes)));
+          (completes_on (spans_of c.args.whole.now) all list.boxes.items l.opened.items list.before.items list.after.items same (still 0 list (omega arith))
+          (l.invariant.passed (c.follows-follow.ensures.follow yes)));
     }

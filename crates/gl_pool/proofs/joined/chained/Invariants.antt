@@ -2,7 +2,8 @@ use Rattle.std.proofs.Common.{◌≡◌, ◌++◌}
 use Rattle.std.specs.Prelude.{IsTrue}
 use Rattle.std.specs.List.{flat_map}
 use Rattle.gl_box.specs.Cell.{spans_of}
-use Rattle.gl_pool.specs.Listed.{ArePassed, listed_in}
+use Rattle.gl_pool.specs.Code.Listed.{ArePassed}
+use Rattle.gl_pool.specs.Listed.{listed_in}
 use Rattle.gl_pool.proofs.Trails.{Completes}
 use Rattle.gl_pool.proofs.joined.chained.Given as goal
 

@@ -7,7 +7,8 @@ use Rattle.gl_box.specs.Cell.{spans_of}
 use Rattle.gl_plain.proofs.Flat.{flat-permutation}
 use Rattle.gl_plain.proofs.Partings.{parts-permutation}
 use Rattle.gl_walk.specs.InLists.{boxes_in}
-use Rattle.gl_pool.specs.Listed.{IsPassed, listed_in}
+use Rattle.gl_pool.specs.Code.Listed.{IsPassed}
+use Rattle.gl_pool.specs.Listed.{listed_in}
 use Rattle.gl_pool.proofs.joined.join_listed.Goals as goal
 
 pub chained-requires : goal.chained-requires
@@ -31,4 +32,5 @@ returns-clause-permutation c =
     let all = flat_map (λ list. list.items) c.in_ok-all.all.items in
     let moved = flat-permutation (λ list. list.boxes.items) c.args.lists.items c.sort_by_key.new.self.items c.sort_by_key.ensures.permutation in
     let same = subst (IsPermutation before) (sym c.in_ok-all.ensures.boxes) moved in
-    IfOk-weaker c.join_in_order.result (λ boxes. IsPermutation all (boxes_in boxes)) (λ boxes. IsPermutation before (boxes_in boxes)) (λ boxes again. IsPermutation-trans before all (boxes_in boxes) same again) c.join_in_order.ensures.permutation
+    IfOk-weaker c.join_in_order.result (λ boxes. IsPermutation all (boxes_in boxes)) (λ boxes. IsPermutation before (boxes_in boxes))
+    (λ boxes again. IsPermutation-trans before all (boxes_in boxes) same again) c.join_in_order.ensures.permutation

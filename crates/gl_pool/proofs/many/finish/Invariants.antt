@@ -1,4 +1,4 @@
-use Rattle.gl_pool.specs.Tally.{IsTally}
+use Rattle.gl_pool.specs.Code.Tally.{IsTally}
 use Rattle.gl_pool.proofs.Finishing.{Finishing}
 use Rattle.gl_pool.proofs.many.finish.Given as goal
 

@@ -2,8 +2,8 @@ use Rattle.std.proofs.Common.{◌∙◌, sym, ap, subst, List, Option, Vec, Glob
 use Rattle.std.specs.Prelude.{IfSome}
 use Rattle.gl_best.specs.declared.rule.View.{View}
 use Rattle.gl_deal.specs.declared.place.Place.{Place}
-use Rattle.gl_pool.specs.Many.{IsDealt}
-use Rattle.gl_pool.specs.Settle.{SettlesAll, StandReady}
+use Rattle.gl_pool.specs.Code.Many.{IsDealt}
+use Rattle.gl_pool.specs.Code.Settle.{SettlesAll, StandReady}
 use Rattle.gl_pool.proofs.Answering.{has_all}
 use Rattle.gl_pool.proofs.Dealing.{is_left, still_ready}
 use Rattle.gl_pool.proofs.many.search_many.Goals as goal

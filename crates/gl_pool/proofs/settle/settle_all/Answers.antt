@@ -4,7 +4,7 @@ use Rattle.gl_deal.specs.declared.pass.Pass.{Pass}
 use Rattle.gl_deal.specs.declared.place.Place.{Place}
 use Rattle.gl_deal.specs.declared.view.PassView.{PassView}
 use Rattle.gl_deal.specs.Tokens.{Deque, end_of}
-use Rattle.gl_pool.specs.Settle.{ArePassesOf, Settles}
+use Rattle.gl_pool.specs.Code.Settle.{ArePassesOf, Settles}
 use Rattle.gl_pool.specs.Taken.{ends_of}
 use Rattle.gl_pool.proofs.SettlingAll.{all_more, all_start, passes_ready, settles_all}
 use Rattle.gl_pool.proofs.settle.settle_all.Goals as goal

@@ -22,7 +22,8 @@ loop-preserved g c =
     record {
       on = λ call way.
           c.in_ok-put_oldest.ensures.on rule c.args.word.now c.look-bench.new.seat call
-          (going_heard rule c.args.word.now call c.loop.place c.stretch.new.seat bench heard (c.in_ok-stretch.ensures.on c.loop.place call (c.loop.invariant.on call way)) c.look-bench.new.seat (record { cells = refl; closed = refl; strange = refl }) refl c.look-bench.ensures.seen
+          (going_heard rule c.args.word.now call c.loop.place c.stretch.new.seat bench heard (c.in_ok-stretch.ensures.on c.loop.place call (c.loop.invariant.on call way)) c.look-bench.new.seat
+          (record { cells = refl; closed = refl; strange = refl }) refl c.look-bench.ensures.seen
           (record { is_seat = c.look-bench.ensures.seat; numbers = c.look-bench.ensures.numbers; no_less = c.look-bench.ensures.no_less }) c.look-bench.ensures.raised);
       legs = subst (λ (legs : List Leg). g.G.Goal.are_legs c.args.goal.now legs) (sym c.put_oldest.ensures.legs) c.in_ok-stretch.ensures.legs;
       trail = c.in_ok-put_oldest.ensures.trail c.in_ok-stretch.ensures.trail;
@@ -33,5 +34,6 @@ returns-then-is_empty-clause-on g c call way =
     let rule = g.G.Goal.rule c.args.goal.now in
     let bench = c.stretch.new.bench in
     let heard : Bench = record { cells = bench.cells; legs = bench.legs; seen = c.look-bench.result; share = bench.share } in
-    going_heard rule c.args.word.now call c.loop.place c.stretch.new.seat bench heard (c.in_ok-stretch.ensures.on c.loop.place call (c.loop.invariant.on call way)) c.look-bench.new.seat (record { cells = refl; closed = refl; strange = refl }) refl c.look-bench.ensures.seen
+    going_heard rule c.args.word.now call c.loop.place c.stretch.new.seat bench heard (c.in_ok-stretch.ensures.on c.loop.place call (c.loop.invariant.on call way)) c.look-bench.new.seat
+    (record { cells = refl; closed = refl; strange = refl }) refl c.look-bench.ensures.seen
     (record { is_seat = c.look-bench.ensures.seat; numbers = c.look-bench.ensures.numbers; no_less = c.look-bench.ensures.no_less }) c.look-bench.ensures.raised

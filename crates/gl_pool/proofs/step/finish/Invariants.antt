@@ -1,5 +1,5 @@
-use Rattle.gl_pool.specs.Trail.{IsOnTrail}
-use Rattle.gl_pool.specs.UnderWay.{GoesOn}
+use Rattle.gl_pool.specs.Code.Trail.{IsOnTrail}
+use Rattle.gl_pool.specs.Code.UnderWay.{GoesOn}
 use Rattle.gl_pool.proofs.step.finish.Given as goal
 
 abbrev pub invariant-loop : goal.invariant-loop

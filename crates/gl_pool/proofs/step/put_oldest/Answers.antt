@@ -21,7 +21,8 @@ returns-in_ok-push-in-Ok-clause-on c rule word seat call way =
     let next : Place = record { hand = c.put.new.self; passes = place.passes } in
     let moves : Moves place next [] (cell ∷ []) = moves_by_put place next cell refl c.put.ensures.deque c.in-Ok.ensures.view in
     let many : 1 < length bench.cells.items = omega (arith, c.if-len-gt-KEPT_CELLS.true, c.len.ensures, bench.cells.ok.0) in
-    let first : bench.cells.items ≡ cell ∷ c.remove-oldest.new.self.items = first_and_rest bench.cells.items cell (omega arith) c.remove-oldest.ensures.value ∙ ap (λ (cells : List Cell). cell ∷ cells) (sym c.remove-oldest.ensures.items) in
+    let first : bench.cells.items ≡ cell ∷ c.remove-oldest.new.self.items = first_and_rest bench.cells.items cell (omega arith) c.remove-oldest.ensures.value
+    ∙ ap (λ (cells : List Cell). cell ∷ cells) (sym c.remove-oldest.ensures.items) in
     going_put rule word call place seat bench _ way next cell moves first many refl refl refl refl
 
 pub returns-in_ok-push-in-Ok-clause-trail : goal.returns-in_ok-push-in-Ok-clause-trail
@@ -29,7 +30,8 @@ returns-in_ok-push-in-Ok-clause-trail c way =
     let bench = c.args.bench.now in
     let cell = c.remove-oldest.result in
     let many : 1 < length bench.cells.items = omega (arith, c.if-len-gt-KEPT_CELLS.true, c.len.ensures, bench.cells.ok.0) in
-    let first : bench.cells.items ≡ cell ∷ c.remove-oldest.new.self.items = first_and_rest bench.cells.items cell (omega arith) c.remove-oldest.ensures.value ∙ ap (λ (cells : List Cell). cell ∷ cells) (sym c.remove-oldest.ensures.items) in
+    let first : bench.cells.items ≡ cell ∷ c.remove-oldest.new.self.items = first_and_rest bench.cells.items cell (omega arith) c.remove-oldest.ensures.value
+    ∙ ap (λ (cells : List Cell). cell ∷ cells) (sym c.remove-oldest.ensures.items) in
     record {
       passed = way.passed;
       leads = put_on bench.share.closed bench.cells.items c.remove-oldest.new.self.items _ cell way first c.in_ok-push-in-Ok.ensures.items;

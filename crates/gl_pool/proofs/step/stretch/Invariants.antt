@@ -1,5 +1,5 @@
-use Rattle.gl_pool.specs.Trail.{IsOnTrail}
-use Rattle.gl_pool.specs.UnderWay.{Steps}
+use Rattle.gl_pool.specs.Code.Trail.{IsOnTrail}
+use Rattle.gl_pool.specs.Code.UnderWay.{Steps}
 use Rattle.gl_pool.proofs.step.stretch.Given as goal
 
 abbrev pub invariant-loop : goal.invariant-loop

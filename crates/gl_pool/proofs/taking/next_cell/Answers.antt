@@ -6,12 +6,15 @@ use Rattle.gl_deal.specs.declared.pass.Pass.{Pass}
 use Rattle.gl_deal.specs.declared.place.Place.{Place}
 use Rattle.gl_deal.specs.Rule.{HasSettledAll, TookAllItPut}
 use Rattle.gl_deal.specs.Tokens.{end_of, hand_deque, hand_view}
-use Rattle.gl_pool.specs.Taken.{FindsNone, Moves, Steals, ends_of}
+use Rattle.gl_pool.specs.Code.Taken.{FindsNone, Steals}
+use Rattle.gl_pool.specs.Taken.{Moves, ends_of}
 use Rattle.gl_pool.proofs.Moving.{moves_by_steal}
 use Rattle.gl_pool.proofs.taking.next_cell.Goals as goal
 
 -- what a round over the passes gave, where the hand's deque was empty
-after_round : (before after : Place) (result : Option Cell) → hand_deque after.hand ≡ hand_deque before.hand → hand_view after.hand ≡ hand_view before.hand → (HasSettledAll (hand_view after.hand) → TookAllItPut (hand_view after.hand)) → MatchOption result (ends_of after ≡ ends_of before) (Steals (ends_of before) (ends_of after)) → MatchOption result (FindsNone before after) (λ cell. Moves before after (cell ∷ []) [])
+after_round : (before after : Place) (result : Option Cell) → hand_deque after.hand ≡ hand_deque before.hand → hand_view after.hand ≡ hand_view before.hand
+    → (HasSettledAll (hand_view after.hand) → TookAllItPut (hand_view after.hand)) → MatchOption result (ends_of after ≡ ends_of before) (Steals (ends_of before) (ends_of after))
+    → MatchOption result (FindsNone before after) (λ cell. Moves before after (cell ∷ []) [])
 after_round before after None deque hand all same = record { deque = deque; hand = hand; passes = same; all_put = all }
 after_round before after (Some cell) deque hand all stolen = moves_by_steal before after cell stolen deque hand
 

@@ -6,12 +6,13 @@ use Rattle.gl_deal.specs.declared.pass.Pass.{Pass}
 use Rattle.gl_deal.specs.declared.view.PassView.{PassView}
 use Rattle.gl_deal.specs.Tokens.{Deque, end_of}
 use Rattle.gl_deal.specs.Views.{with_stolen}
-use Rattle.gl_pool.specs.Taken.{Steals}
+use Rattle.gl_pool.specs.Code.Taken.{Steals}
 use Rattle.gl_pool.proofs.Moving.{steals_at}
 use Rattle.gl_pool.proofs.taking.steal_any.Goals as goal
 
 -- a pass among others took a cell
-stolen : (passes : List Pass) (index : ℕ) (before after : Pass) (cell : Cell) → index < length passes → before ≡ get_or passes index before → end_of after ≡ ((end_of before).0, with_stolen (end_of before).1 (cell ∷ [])) → Steals (map end_of passes) (map end_of (set passes index after)) cell
+stolen : (passes : List Pass) (index : ℕ) (before after : Pass) (cell : Cell) → index < length passes → before ≡ get_or passes index before
+    → end_of after ≡ ((end_of before).0, with_stolen (end_of before).1 (cell ∷ [])) → Steals (map end_of passes) (map end_of (set passes index after)) cell
 stolen passes index before after cell within is took =
     let below : index < length (map end_of passes) = omega (arith, within, length-map passes end_of) in
     let read : end_of before ≡ get_or (map end_of passes) index (end_of before) = ap end_of is ∙ sym (get_or-map end_of passes index before (end_of before) within) in

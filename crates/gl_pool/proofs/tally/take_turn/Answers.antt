@@ -12,7 +12,8 @@ on_ok_both (Err e) f x y = tt
 pub returns-clause-tally : goal.returns-clause-tally
 returns-clause-tally g c =
     on_ok_both c.add_trail.result
-    (λ closed passed. tally_on (g.G.Goal.rule c.args.goal.now) c.args.word.now c.args.place.now c.work_on.new.place c.args.tally.now _ c.in_ok-kept.field-0 c.requires c.in_ok-kept.ensures.hauled c.or-tally.ensures closed passed)
+    (λ closed passed. tally_on (g.G.Goal.rule c.args.goal.now) c.args.word.now c.args.place.now c.work_on.new.place c.args.tally.now _ c.in_ok-kept.field-0 c.requires c.in_ok-kept.ensures.hauled
+    c.or-tally.ensures closed passed)
     c.add_trail.ensures.boxes c.add_trail.ensures.passed
 
 pub returns-clause-turn : goal.returns-clause-turn

@@ -1,7 +1,7 @@
 use Rattle.std.proofs.Common.{sym, subst}
 use Rattle.std.proofs.lemmas.List.Elements.{All-append}
 use Rattle.std.proofs.lemmas.Result.{on_ok_weaker}
-use Rattle.gl_pool.specs.Listed.{ArePassed, IsPassed}
+use Rattle.gl_pool.specs.Code.Listed.{ArePassed, IsPassed}
 use Rattle.gl_pool.proofs.Trails.{lead_done}
 use Rattle.gl_pool.proofs.trail.add_trail.Goals as goal
 

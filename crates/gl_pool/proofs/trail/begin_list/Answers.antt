@@ -3,7 +3,7 @@ use Rattle.std.proofs.lemmas.Result.{on_ok_weaker}
 use Rattle.gl_box.specs.declared.cell.Cell.{Cell}
 use Rattle.gl_box.specs.declared.closed.Closed.{Closed}
 use Rattle.gl_pool.specs.declared.trail.Listed.{Listed}
-use Rattle.gl_pool.specs.Listed.{IsPassed, Lead}
+use Rattle.gl_pool.specs.Code.Listed.{IsPassed, Lead}
 use Rattle.gl_pool.proofs.Trails.{lead_done}
 use Rattle.gl_pool.proofs.trail.begin_list.Goals as goal
 
@@ -18,7 +18,8 @@ returns-clause-trail c =
     let after = c.in_ok-after.after in
     let opened = after.items ++ cell ∷ [] in
     let before_is : c.push.new.self.items ≡ opened =
-    c.in_ok-push.ensures.items ∙ ap (λ (l : List Cell). l ++ cell ∷ []) (c.in_ok-extend_from_slice.ensures.items ∙ ap (λ (l : List Cell). l ++ c.deref.result.now) c.new-before.ensures.items ∙ c.deref.ensures.value) in
+    c.in_ok-push.ensures.items ∙ ap (λ (l : List Cell). l ++ cell ∷ []) (c.in_ok-extend_from_slice.ensures.items ∙ ap (λ (l : List Cell). l ++ c.deref.result.now) c.new-before.ensures.items
+    ∙ c.deref.ensures.value) in
     let leads = lead_none c.push.new.self.items opened c.new.result.items before_is c.new.ensures.items in
     let done : IsPassed c.replace-done.result = subst IsPassed (sym c.replace-done.ensures.value) (lead_done trail c.requires) in
     on_ok_weaker c.add_list.result (λ passed. record {

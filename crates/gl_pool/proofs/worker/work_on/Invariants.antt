@@ -1,8 +1,8 @@
 use Rattle.std.proofs.Common.{◌≡◌, [], ◌∷◌}
 use Rattle.gl_deal.specs.declared.place.Place.{Place}
 use Rattle.gl_pool.specs.Taken.{Moves}
-use Rattle.gl_pool.specs.Trail.{IsTrail}
-use Rattle.gl_pool.specs.UnderWay.{IsUnderWay}
+use Rattle.gl_pool.specs.Code.Trail.{IsTrail}
+use Rattle.gl_pool.specs.Code.UnderWay.{IsUnderWay}
 use Rattle.gl_pool.proofs.worker.work_on.Given as goal
 
 -- the cell in hand was taken since the worker was under way at a place

@@ -16,7 +16,8 @@ returns-then-axes-eq-MOST_AXES c = (
       let l = c.axes in
       let i = l.invariant in
       let xs = map ends (take l.axes l.cell.1.0) in
-      let next = next_word span_word IsSpan xs spans l.rest.now c.in-Some.word.now more c.in-Some.ensures (spans_on l.axes l.cell.1.0 c.args.text.now l.rest.now spans more i.few i.ten i.is i.each i.stops at) in
+      let next = next_word span_word IsSpan xs spans l.rest.now c.in-Some.word.now more c.in-Some.ensures
+      (spans_on l.axes l.cell.1.0 c.args.text.now l.rest.now spans more i.few i.ten i.is i.each i.stops at) in
       absurd (omega (arith, next.0, length-read l.axes l.cell.1.0 i.few i.ten, c.if-axes-eq-MOST_AXES.true, at.are_spans.most)),
   refl,
 )
@@ -27,7 +28,8 @@ returns-in_default-span_at c = (
       let l = c.axes in
       let i = l.invariant in
       let xs = map ends (take l.axes l.cell.1.0) in
-      let next = next_word span_word IsSpan xs spans l.rest.now c.in-Some.word.now more c.in-Some.ensures (spans_on l.axes l.cell.1.0 c.args.text.now l.rest.now spans more i.few i.ten i.is i.each i.stops at) in
+      let next = next_word span_word IsSpan xs spans l.rest.now c.in-Some.word.now more c.in-Some.ensures
+      (spans_on l.axes l.cell.1.0 c.args.text.now l.rest.now spans more i.few i.ten i.is i.each i.stops at) in
       c.in_default-span_at.ensures next.1.next (spaced (map span_word next.1.others) ++ 10 ∷ more)
       (record { is_span = next.1.is_next; is = next.1.text; stops = span_next_stops next.1.others more }),
   refl,
@@ -42,10 +44,13 @@ axes-preserved c =
     record {
       few = omega arith;
       ten = length-set l.cell.1.0 l.axes c.in-Some-span_at.span ∙ i.ten;
-      is = subst (λ (xs : List (ℕ × ℕ)). c.args.text.now ≡ spaced (map span_word xs) ++ c.in-Some-span_at.after.now) (sym more) (word_taken span_word (map ends (take l.axes l.cell.1.0)) (ends c.in-Some-span_at.span) c.args.text.now l.rest.now c.in-Some.word.now c.in-Some-span_at.after.now i.is c.in-Some.ensures c.in-Some-span_at.ensures.is);
+      is = subst (λ (xs : List (ℕ × ℕ)). c.args.text.now ≡ spaced (map span_word xs) ++ c.in-Some-span_at.after.now) (sym more)
+          (word_taken span_word (map ends (take l.axes l.cell.1.0)) (ends c.in-Some-span_at.span) c.args.text.now l.rest.now c.in-Some.word.now c.in-Some-span_at.after.now i.is c.in-Some.ensures
+          c.in-Some-span_at.ensures.is);
       each = subst (All IsSpan) (sym more) (All-push IsSpan (map ends (take l.axes l.cell.1.0)) (ends c.in-Some-span_at.span) i.each c.in-Some-span_at.ensures.is_span);
       stops = λ some. c.in-Some-span_at.ensures.stops;
-      unused = subst (All (λ (span : Span). span.hi ≡ 0)) (sym (drop-set-lt (l.axes + 1) l.cell.1.0 l.axes c.in-Some-span_at.span (omega arith))) (All-rest (λ (span : Span). span.hi ≡ 0) _ _ _ (drop_more l.cell.1.0 l.axes c.in-Some-span_at.span below) i.unused);
+      unused = subst (All (λ (span : Span). span.hi ≡ 0)) (sym (drop-set-lt (l.axes + 1) l.cell.1.0 l.axes c.in-Some-span_at.span (omega arith)))
+          (All-rest (λ (span : Span). span.hi ≡ 0) _ _ _ (drop_more l.cell.1.0 l.axes c.in-Some-span_at.span below) i.unused);
     }
 
 pub returns-in_default-behind : goal.returns-in_default-behind
@@ -53,7 +58,8 @@ returns-in_default-behind c = (
   λ spans more at.
       let l = c.axes in
       let i = l.invariant in
-      let last = no_word span_word IsSpan (map ends (take l.axes l.cell.1.0)) spans l.rest.now more c.in_default.ensures (spans_on l.axes l.cell.1.0 c.args.text.now l.rest.now spans more i.few i.ten i.is i.each i.stops at) in
+      let last = no_word span_word IsSpan (map ends (take l.axes l.cell.1.0)) spans l.rest.now more c.in_default.ensures
+      (spans_on l.axes l.cell.1.0 c.args.text.now l.rest.now spans more i.few i.ten i.is i.each i.stops at) in
       c.in_default-behind.ensures more last.1,
   refl,
 )
@@ -63,7 +69,8 @@ returns-then-axes-eq0 c = (
   λ spans more at.
       let l = c.axes in
       let i = l.invariant in
-      let last = no_word span_word IsSpan (map ends (take l.axes l.cell.1.0)) spans l.rest.now more c.in_default.ensures (spans_on l.axes l.cell.1.0 c.args.text.now l.rest.now spans more i.few i.ten i.is i.each i.stops at) in
+      let last = no_word span_word IsSpan (map ends (take l.axes l.cell.1.0)) spans l.rest.now more c.in_default.ensures
+      (spans_on l.axes l.cell.1.0 c.args.text.now l.rest.now spans more i.few i.ten i.is i.each i.stops at) in
       absurd (omega (arith, ap length last.0, length-read l.axes l.cell.1.0 i.few i.ten, c.if-axes-eq0.true, at.are_spans.some)),
   refl,
 )
@@ -73,4 +80,17 @@ behind_room : (before roomy after : List Closed) (closed : Closed) → after ≡
 behind_room before roomy after closed pushed same = pushed ∙ ap (λ (l : List Closed). l ++ closed ∷ []) same
 
 pub returns : goal.returns
-returns c = (_, record { are_spans = record { some = omega (arith, length-read c.axes.axes c.axes.cell.1.0 c.axes.invariant.few c.axes.invariant.ten, c.if-axes-eq0.false); most = omega (arith, length-read c.axes.axes c.axes.cell.1.0 c.axes.invariant.few c.axes.invariant.ten, c.axes.invariant.few); each = c.axes.invariant.each }; is = c.axes.invariant.is ∙ ap (λ (l : List ℕ). spaced (map span_word (map ends (take c.axes.axes c.axes.cell.1.0))) ++ l) c.in-Some-behind.ensures }, behind_room _ _ _ _ c.in_ok-push.ensures.items c.in_ok-make_room.ensures)
+returns c = (
+  _,
+  record {
+    are_spans = record {
+      some = omega (arith, length-read c.axes.axes c.axes.cell.1.0 c.axes.invariant.few c.axes.invariant.ten, c.if-axes-eq0.false);
+      most =
+          omega (arith, length-read c.axes.axes c.axes.cell.1.0 c.axes.invariant.few c.axes.invariant.ten, c.axes.invariant.few);
+      each = c.axes.invariant.each;
+    };
+    is = c.axes.invariant.is
+        ∙ ap (λ (l : List ℕ). spaced (map span_word (map ends (take c.axes.axes c.axes.cell.1.0))) ++ l) c.in-Some-behind.ensures;
+  },
+  behind_room _ _ _ _ c.in_ok-push.ensures.items c.in_ok-make_room.ensures,
+)

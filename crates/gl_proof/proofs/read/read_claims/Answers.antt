@@ -23,7 +23,8 @@ claims-preserved c =
     let read = c.in-Ok.ensures.ok in
     let grown : map statement_of c.push.new.self.items ≡ said ++ s ∷ [] = ap (map statement_of) c.in_ok-push.ensures.items ∙ map_push statement_of l.claims.items c.in-Ok.read.0 in
     record {
-      at = λ whole given. subst (λ (ss : List Statement). AreClaimsAt c.args.version whole ss c.in-Ok.read.1.now c.in-Ok.read.2) (sym grown) (claim_more c.args.version whole said s l.rest.now c.in-Ok.read.1.now l.line c.in-Ok.read.2 (l.invariant.at whole given) read);
+      at = λ whole given. subst (λ (ss : List Statement). AreClaimsAt c.args.version whole ss c.in-Ok.read.1.now c.in-Ok.read.2) (sym grown)
+          (claim_more c.args.version whole said s l.rest.now c.in-Ok.read.1.now l.line c.in-Ok.read.2 (l.invariant.at whole given) read);
       last = λ some. read.last;
     }
 
@@ -32,7 +33,8 @@ returns-then-rest-clause-refused c = λ whole given.
     let l = c.claims in
     let at = l.invariant.at whole given in
     let end = c.is_end.ensures.0 c.claims-test.false in
-    refused_after c.args.version whole (map statement_of l.claims.items) l.rest.now l.line c.later.result end.0 at.each at.is at.counted end.1 (λ none. absurd (omega (arith, ap length end.1, ap length none, c.if-rest.true))) c.later.ensures
+    refused_after c.args.version whole (map statement_of l.claims.items) l.rest.now l.line c.later.result end.0 at.each at.is at.counted end.1
+    (λ none. absurd (omega (arith, ap length end.1, ap length none, c.if-rest.true))) c.later.ensures
 
 pub returns-clause-ok : goal.returns-clause-ok
 returns-clause-ok c = λ whole given.

@@ -1,6 +1,6 @@
 use Rattle.std.proofs.Common.{◌<◌, ℕ, List, length, map}
 use Rattle.gl_proof.specs.Claim.{statement_of}
-use Rattle.gl_proof.specs.Passage.{NoBox}
+use Rattle.gl_proof.specs.Code.Passage.{NoBox}
 use Rattle.gl_proof.specs.Reading.{AreClaimsAt}
 use Rattle.gl_proof.proofs.read.read_claims.Given as goal
 

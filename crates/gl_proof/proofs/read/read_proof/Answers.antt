@@ -12,14 +12,17 @@ use Rattle.gl_proof.proofs.read.read_proof.Goals as goal
 pub returns-clause-only : goal.returns-clause-only
 returns-clause-only c = λ version statements of.
     MatchResult-from_both c.read_lines.result _ _
-    (IfOk-weaker c.read_lines.result _ _ (λ proof is. (version_unique c.args.text.now (statements_of proof) statements is of, text_unique c.args.text.now (statements_of proof) statements is of)) c.read_lines.ensures.ok)
+    (IfOk-weaker c.read_lines.result _ _ (λ proof is. (version_unique c.args.text.now (statements_of proof) statements is of, text_unique c.args.text.now (statements_of proof) statements is of))
+    c.read_lines.ensures.ok)
     (IfErr-weaker c.read_lines.result _ _ (λ error is. text_refused c.args.text.now statements error of is) c.read_lines.ensures.refused)
 
-told : (text : List ℕ) (error other : ProofError) → (error ≡ Memory → ⊥) → (other ≡ Memory → ⊥) → IsRefused text error → IsRefused text other → IsErrOf {T = Proof} (Err error) other ⊎ IsErrOf {T = Proof} (Err error) Memory
+told : (text : List ℕ) (error other : ProofError) → (error ≡ Memory → ⊥) → (other ≡ Memory → ⊥) → IsRefused text error → IsRefused text other
+    → IsErrOf {T = Proof} (Err error) other ⊎ IsErrOf {T = Proof} (Err error) Memory
 told text error other some_error some_other is_error is_other =
     inl (ap Err (refused_unique text error other some_error some_other is_error is_other))
 
-exactly : (text : List ℕ) (answer : Result Proof ProofError) (error : ProofError) → IfOk answer (λ proof. IsTextOf proof.version text (statements_of proof)) → IfErr answer (IsRefused text) → (error ≡ Memory → ⊥) → IsRefused text error → IsErrOf answer error ⊎ IsErrOf answer Memory
+exactly : (text : List ℕ) (answer : Result Proof ProofError) (error : ProofError) → IfOk answer (λ proof. IsTextOf proof.version text (statements_of proof)) → IfErr answer (IsRefused text)
+    → (error ≡ Memory → ⊥) → IsRefused text error → IsErrOf answer error ⊎ IsErrOf answer Memory
 exactly text (Ok proof) error ok refused some is = absurd (some (text_refused text (statements_of proof) error ok is))
 exactly text (Err Heading) error ok refused some is = told text Heading error (λ same. cc) some refused is
 exactly text (Err (WrongLine number)) error ok refused some is = told text (WrongLine number) error (λ same. cc) some refused is

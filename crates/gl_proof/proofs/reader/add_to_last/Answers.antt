@@ -17,8 +17,10 @@ returns-clause-at c = λ version whole given.
     let rest = c.in_ok-rest.rest.now in
     let count = c.len.result - c.len-before.result in
     let was : map statement_of c.args.claims.now.items ≡ said ++ statement_of claim ∷ [] = ap (map statement_of) c.in-Some.ensures.items ∙ map_push statement_of others claim in
-    let is : map statement_of c.push.new.self.items ≡ said ++ with_boxes claim.number claim.kind claim.total claim.fixes.items (front ++ after) ∷ [] = ap (map statement_of) c.in_ok-push.ensures.items ∙ map_push statement_of others _ in
+    let is : map statement_of c.push.new.self.items ≡ said ++ with_boxes claim.number claim.kind claim.total claim.fixes.items (front ++ after) ∷ [] = ap (map statement_of) c.in_ok-push.ensures.items
+    ∙ map_push statement_of others _ in
     let many : count + length before ≡ length after = omega (arith, c.len.ensures, c.len-before.ensures, c.add_boxes_at.new.cells.ok.0, claim.cells.last.ok.0, c.in_ok-rest.ensures.grows) in
     subst (λ (ss : List Statement). AreClaimsAt version whole ss rest c.later.result) (sym is)
-    (boxes_more version whole said claim.number claim.kind claim.total claim.fixes.items front before after c.args.text.now rest c.args.line.now c.later.result count c.in_ok-rest.ensures many c.later.ensures
+    (boxes_more version whole said claim.number claim.kind claim.total claim.fixes.items front before after c.args.text.now rest c.args.line.now c.later.result count c.in_ok-rest.ensures many
+    c.later.ensures
     (subst (λ (ss : List Statement). AreClaimsAt version whole ss c.args.text.now c.args.line.now) was given))

@@ -11,4 +11,5 @@ returns-in_err-write_boxes-clause-err c =
 
 pub loop-list-preserved : goal.loop-list-preserved
 loop-list-preserved c =
-    list_more _ _ _ _ c.args.lists.now c.loop-list.list-index c.list-item.result c.loop-list-test.true c.list-item.is c.loop-list.invariant (ap boxes_text c.as_slice.ensures.value) c.in_ok-write_boxes.ensures.ok
+    list_more _ _ _ _ c.args.lists.now c.loop-list.list-index c.list-item.result c.loop-list-test.true c.list-item.is c.loop-list.invariant
+    (ap boxes_text c.as_slice.ensures.value) c.in_ok-write_boxes.ensures.ok

@@ -24,4 +24,5 @@ in_order-requires g c =
     let searched = subst (λ (boxes : List Closed). IsPermutation boxes c.disorder.new.boxes) c.in_ok-boxes.ensures same in
     let back = lent list.len c.disorder.new.boxes list.items (length_permutation list.items c.disorder.new.boxes same) list.ok.0 in
     subst (λ (boxes : List Closed). AreParts (spans_of c.whole.result) (cells_of boxes)) (sym back)
-    (subst (λ (all : List (ℕ × ℕ)). AreParts all (cells_of c.disorder.new.boxes)) (sym c.whole.ensures) (certified_parts _ _ _ (boxes_in c.in_ok-found.found.closed) c.disorder.new.boxes c.in_ok-found.ensures.certificate searched))
+    (subst (λ (all : List (ℕ × ℕ)). AreParts all (cells_of c.disorder.new.boxes)) (sym c.whole.ensures)
+    (certified_parts _ _ _ (boxes_in c.in_ok-found.found.closed) c.disorder.new.boxes c.in_ok-found.ensures.certificate searched))

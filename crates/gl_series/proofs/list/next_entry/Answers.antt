@@ -1,7 +1,7 @@
 use Rattle.std.proofs.Common.{◌∙◌, sym, subst}
 use Rattle.std.proofs.lemmas.Bool.{false≢true}
 use Rattle.gl_series.specs.declared.entry.Entry.{Entry}
-use Rattle.gl_series.specs.Adding.{with_entry}
+use Rattle.gl_series.specs.Code.Adding.{with_entry}
 use Rattle.gl_series.specs.SeriesList.{IsLineOf, IsSeries}
 use Rattle.gl_series.proofs.Lines.{line_unique}
 use Rattle.gl_series.proofs.list.next_entry.Goals as goal

@@ -1,7 +1,7 @@
 use Rattle.std.proofs.Common.{◌-◌, ◌≤◌, length, drop, map}
 use Rattle.gl_text.specs.Lines.{lines_of}
-use Rattle.gl_series.specs.Adding.{SaysUpTo}
-use Rattle.gl_series.specs.Numbers.{HasNumbers}
+use Rattle.gl_series.specs.Code.Adding.{SaysUpTo}
+use Rattle.gl_series.specs.Code.AddingRows.{HasNumbers}
 use Rattle.gl_series.proofs.list.series_in.Given as goal
 
 -- the lines so far are those of the days and members so far

@@ -3,7 +3,7 @@ use Rattle.std.specs.List.Sorted.{IsPermutation, IsSorted}
 use Rattle.std.proofs.lemmas.Grind.{common_steps}
 use Rattle.std.proofs.lemmas.List.Sorted.{IsPermutation-map, length_permutation}
 use Rattle.gl_series.specs.declared.standing.Total.{Total}
-use Rattle.gl_series.specs.Tallies.{text_cmp}
+use Rattle.gl_series.specs.Code.Tallies.{text_cmp}
 use Rattle.gl_series.proofs.numbered.by_number.Goals as goal
 
 pub returns-clause-numbered : goal.returns-clause-numbered
@@ -16,7 +16,8 @@ returns-clause-numbered c =
     let many = c.deref_mut.ensures.len in
     let same : sorted ≡ take places.len (sorted ++ drop (length sorted) places.items) = grind (arith, common_steps) in
     let now : Bor Total → Total = λ one. one.now in
-    let are : IsPermutation c.args.pilots.now (map now sorted) = subst (λ (l : List Total). IsPermutation l (map now sorted)) c.in_ok-in_order.ensures (IsPermutation-map now places.items sorted moved) in
+    let are : IsPermutation c.args.pilots.now (map now sorted) = subst (λ (l : List Total). IsPermutation l (map now sorted)) c.in_ok-in_order.ensures
+    (IsPermutation-map now places.items sorted moved) in
     record {
       apart = c.requires.apart;
       low = c.requires.low;

@@ -7,7 +7,7 @@ use Rattle.std.specs.List.Sorted.{IsNonDecreasingBy, IsPartitionPoint}
 use Rattle.std.specs.Ordering.{ordering_index}
 use Rattle.std.proofs.lemmas.Fn.{always_returns_same}
 use Rattle.gl_series.specs.declared.standing.Total.{Total}
-use Rattle.gl_series.specs.Tallies.{text_cmp}
+use Rattle.gl_series.specs.Code.Tallies.{text_cmp}
 use Rattle.gl_series.proofs.Searched.{equal_texts, none_among, one_among}
 use Rattle.gl_series.proofs.numbered.total_in.Goals as goal
 
@@ -32,5 +32,7 @@ pub returns-in-Err-clause-value : goal.returns-in-Err-clause-value
 returns-in-Err-clause-value c =
     let ord : Bor Total → Ordering = λ one. text_cmp one.now.number c.args.number.now in
     let point = c.in-Err.ensures.position ord (always_returns_same _ (λ a r. r ≡ ord a.0.now) _ (λ a r f h. search rules)) in
-    let at = subst (λ (l : List (Bor Total)). IsNonDecreasingBy (λ x. ordering_index (ord x)) l → IsPartitionPoint (λ x. ord x ≡ Less) (λ x. ord x ≡ Greater) l c.in-Err.field-0) c.deref.ensures.value point in
-    sym (total_none c.args.number.now c.args.pilots.now.pilots.now (none_among (λ (row : Total). row.number) c.args.pilots.now.pilots.now c.args.pilots.now.in_order.items c.requires.pilots_are c.args.number.now c.in-Err.field-0 c.requires.in_order at))
+    let at = subst (λ (l : List (Bor Total)). IsNonDecreasingBy (λ x. ordering_index (ord x)) l
+    → IsPartitionPoint (λ x. ord x ≡ Less) (λ x. ord x ≡ Greater) l c.in-Err.field-0) c.deref.ensures.value point in
+    sym (total_none c.args.number.now c.args.pilots.now.pilots.now (none_among
+    (λ (row : Total). row.number) c.args.pilots.now.pilots.now c.args.pilots.now.in_order.items c.requires.pilots_are c.args.number.now c.in-Err.field-0 c.requires.in_order at))

@@ -1,5 +1,5 @@
 use Rattle.std.proofs.Common.{take}
-use Rattle.gl_series.specs.Tallies.{AreOrdered}
+use Rattle.gl_series.specs.Code.Tallies.{AreOrdered}
 use Rattle.gl_series.proofs.ordered.days_ordered.Given as goal
 
 abbrev pub invariant-loop-day : goal.invariant-loop-day

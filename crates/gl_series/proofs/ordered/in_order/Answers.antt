@@ -3,7 +3,7 @@ use Rattle.std.specs.List.Sorted.{IsPermutation, IsSorted}
 use Rattle.std.proofs.lemmas.Grind.{common_steps}
 use Rattle.std.proofs.lemmas.List.Sorted.{IsPermutation-map, length_permutation}
 use Rattle.gl_series.specs.declared.day.DayRow.{DayRow}
-use Rattle.gl_series.specs.Tallies.{text_cmp}
+use Rattle.gl_series.specs.Code.Tallies.{text_cmp}
 use Rattle.gl_series.proofs.ordered.in_order.Goals as goal
 
 pub returns-clause-ordered : goal.returns-clause-ordered
@@ -17,7 +17,8 @@ returns-clause-ordered c =
     let same : sorted ≡ take rows.len (sorted ++ drop (length sorted) rows.items) = grind (arith, common_steps) in
     let now : Bor DayRow → DayRow = λ one. one.now in
     let whole = c.args.day.now.rows in
-    let are : IsPermutation whole (map now sorted) = subst (λ (l : List DayRow). IsPermutation l (map now sorted)) (c.in_ok-rows.ensures ∙ c.as_slice.ensures) (IsPermutation-map now rows.items sorted moved) in
+    let are : IsPermutation whole (map now sorted) = subst (λ (l : List DayRow). IsPermutation l (map now sorted)) (c.in_ok-rows.ensures
+    ∙ c.as_slice.ensures) (IsPermutation-map now rows.items sorted moved) in
     record {
       day = c.requires;
       rows_are = subst (λ (l : List (Bor DayRow)). IsPermutation whole (map now l)) same are;

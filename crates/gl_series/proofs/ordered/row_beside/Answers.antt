@@ -5,7 +5,7 @@ use Rattle.std.specs.List.Sorted.{IsNonDecreasingBy, IsPartitionPoint}
 use Rattle.std.specs.Ordering.{ordering_index}
 use Rattle.std.proofs.lemmas.Fn.{always_returns_same}
 use Rattle.gl_series.specs.declared.day.DayRow.{DayRow}
-use Rattle.gl_series.specs.Tallies.{text_cmp}
+use Rattle.gl_series.specs.Code.Tallies.{text_cmp}
 use Rattle.gl_series.proofs.Searched.{equal_texts, none_among, one_among}
 use Rattle.gl_series.proofs.ordered.row_beside.Goals as goal
 
@@ -24,5 +24,6 @@ pub returns-in-Err : goal.returns-in-Err
 returns-in-Err c =
     let ord : Bor DayRow → Ordering = λ one. text_cmp one.now.number c.args.number.now in
     let point = c.in-Err.ensures.position ord (always_returns_same _ (λ a r. r ≡ ord a.0.now) _ (λ a r f h. search rules)) in
-    let at = subst (λ (l : List (Bor DayRow)). IsNonDecreasingBy (λ x. ordering_index (ord x)) l → IsPartitionPoint (λ x. ord x ≡ Less) (λ x. ord x ≡ Greater) l c.in-Err.field-0) c.deref.ensures.value point in
+    let at = subst (λ (l : List (Bor DayRow)). IsNonDecreasingBy (λ x. ordering_index (ord x)) l
+    → IsPartitionPoint (λ x. ord x ≡ Less) (λ x. ord x ≡ Greater) l c.in-Err.field-0) c.deref.ensures.value point in
     none_among (λ (row : DayRow). row.number) c.args.day.now.day.now.rows c.args.day.now.rows.items c.requires.rows_are c.args.number.now c.in-Err.field-0 c.requires.in_order at

@@ -1,5 +1,5 @@
 use Rattle.std.proofs.Common.{◌≡◌, drop}
-use Rattle.gl_series.specs.Tallies.{days_of, is_in_days}
+use Rattle.gl_series.specs.Code.Tallies.{days_of, is_in_days}
 use Rattle.gl_series.proofs.pilots.is_in_days.Given as goal
 
 -- the number isn't in the days so far

@@ -1,5 +1,5 @@
 use Rattle.std.proofs.Common.{◌≡◌, ◌++◌, map, drop}
-use Rattle.gl_series.specs.Tallies.{days_of, last_rows}
+use Rattle.gl_series.specs.Code.Tallies.{days_of, last_rows}
 use Rattle.gl_series.proofs.pilots.last_rows.Given as goal
 
 abbrev pub invariant-loop-place : goal.invariant-loop-place

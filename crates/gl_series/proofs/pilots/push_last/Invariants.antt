@@ -1,6 +1,6 @@
 use Rattle.std.proofs.Common.{◌≡◌, ◌++◌, map, take}
 use Rattle.std.specs.Prelude.{filter, not}
-use Rattle.gl_series.specs.Tallies.{days_of, is_in_days}
+use Rattle.gl_series.specs.Code.Tallies.{days_of, is_in_days}
 use Rattle.gl_series.proofs.pilots.push_last.Given as goal
 
 abbrev pub invariant-loop-row : goal.invariant-loop-row

@@ -1,5 +1,5 @@
 use Rattle.std.proofs.Common.{◌∙◌, sym, ◌++◌, ◌∷◌, []}
-use Rattle.gl_series.specs.Tallies.{pilot_of}
+use Rattle.gl_series.specs.Code.Tallies.{pilot_of}
 use Rattle.gl_series.proofs.LastRows.{map_more}
 use Rattle.gl_series.proofs.pilots.ranked.Goals as goal
 

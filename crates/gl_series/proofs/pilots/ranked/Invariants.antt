@@ -1,5 +1,5 @@
 use Rattle.std.proofs.Common.{◌≡◌, map, take}
-use Rattle.gl_series.specs.Tallies.{pilot_of}
+use Rattle.gl_series.specs.Code.Tallies.{pilot_of}
 use Rattle.gl_series.proofs.pilots.ranked.Given as goal
 
 abbrev pub invariant-loop-tally : goal.invariant-loop-tally

@@ -1,5 +1,5 @@
 use Rattle.std.proofs.Common.{take, map}
-use Rattle.gl_series.specs.Tallies.{AreTotals, days_of}
+use Rattle.gl_series.specs.Code.Tallies.{AreTotals, days_of}
 use Rattle.gl_series.proofs.pilots.tallies_of.Given as goal
 
 abbrev pub invariant-loop-row : goal.invariant-loop-row

@@ -1,5 +1,5 @@
 use Rattle.std.proofs.Common.{take}
-use Rattle.gl_series.specs.Tallies.{AreScored, days_of}
+use Rattle.gl_series.specs.Code.Tallies.{AreScored, days_of}
 use Rattle.gl_series.proofs.scored.days_scored.Given as goal
 
 abbrev pub invariant-loop-day : goal.invariant-loop-day

@@ -3,7 +3,7 @@ use Rattle.std.specs.List.Sorted.{IsPermutation}
 use Rattle.std.proofs.lemmas.Grind.{common_steps}
 use Rattle.std.proofs.lemmas.List.Sorted.{length_permutation}
 use Rattle.gl_series.specs.declared.shares.Share.{Share}
-use Rattle.gl_series.specs.Tallies.{AreShares}
+use Rattle.gl_series.specs.Code.Tallies.{AreShares}
 use Rattle.gl_series.proofs.Summed.{shares_in_order}
 use Rattle.gl_series.proofs.shares.shares.Goals as goal
 

@@ -3,7 +3,7 @@ use Rattle.std.specs.Cmp.Lexicographic.{nat_list_cmp_total}
 use Rattle.std.specs.Ordering.{is_lt}
 use Rattle.std.proofs.lemmas.List.Sorted.{answers_always, ranks_by}
 use Rattle.gl_series.specs.declared.shares.Share.{Share}
-use Rattle.gl_series.specs.Tallies.{share_cmp}
+use Rattle.gl_series.specs.Code.Tallies.{share_cmp}
 use Rattle.gl_series.proofs.shares.sort.Goals as goal
 
 pub returns-clause-sorted : goal.returns-clause-sorted

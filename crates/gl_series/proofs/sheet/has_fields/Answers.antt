@@ -10,13 +10,15 @@ returns-then-ne c =
     let now : Bor (List ℕ) → List ℕ = λ field. field.now in
     let place = c.loop-place.place in (
       λ is. absurd (false≢true is),
-      λ same. absurd (told_apart _ _ c.ne.result c.ne.ensures c.if-ne.true (c.field.ensures ∙ ap (λ (l : List (List ℕ)). get_or l place []) same ∙ get_or-map now c.args.fields.now place _ [] c.loop-place-test.true)),
+      λ same. absurd (told_apart _ _ c.ne.result c.ne.ensures c.if-ne.true (c.field.ensures ∙ ap (λ (l : List (List ℕ)). get_or l place []) same
+          ∙ get_or-map now c.args.fields.now place _ [] c.loop-place-test.true)),
     )
 
 pub loop-place-preserved : goal.loop-place-preserved
 loop-place-preserved c =
     let now : Bor (List ℕ) → List ℕ = λ field. field.now in
-    below_more _ _ c.loop-place.invariant (sym c.field.ensures ∙ told_same _ _ c.ne.result c.ne.ensures c.if-ne.false ∙ sym (get_or-map now c.args.fields.now c.loop-place.place _ [] c.loop-place-test.true))
+    below_more _ _ c.loop-place.invariant (sym c.field.ensures ∙ told_same _ _ c.ne.result c.ne.ensures c.if-ne.false
+    ∙ sym (get_or-map now c.args.fields.now c.loop-place.place _ [] c.loop-place-test.true))
 
 pub returns : goal.returns
 returns c =

@@ -6,7 +6,7 @@ use Rattle.csv.specs.declared.parser.State.TheVariants as st
 use Rattle.csv.specs.declared.reader.Trim.TheVariants as trim
 use Rattle.csv.proofs.ReadFacts.{rows-end, rows-more}
 use Rattle.gl_series.specs.declared.day.DayRow.{DayRow}
-use Rattle.gl_series.specs.AddingRows.{IsNextRow}
+use Rattle.gl_series.specs.Code.AddingRows.{IsNextRow}
 use Rattle.gl_series.specs.SheetText.{IsSheetOf, sheet_heading}
 use Rattle.gl_series.proofs.Kept.{kept_item}
 use Rattle.gl_series.proofs.Sheets.{first_read, left_of, rows_all, rows_further, rows_none, unread_heading, wrong_heading, wrong_here}
@@ -26,7 +26,8 @@ returns-then-not-branch-clause-refused c =
     let fields = fields_of c.read_byte_record.new.row in
     elim c.then-not-branch.branch [
       | then-not-branch-via-then-not-branch w ↦ unread_heading old new text fields config made.source made.state (rw w.if-not-branch.true at reads)
-      | then-not-branch-via-else-not-branch+then-not-is_heading w ↦ wrong_heading old new text fields config made.source made.state (rw w.if-not-branch.false at reads) (λ same. false≢true (sym w.if-not-is_heading.true ∙ w.is_heading.ensures.1 same))
+      | then-not-branch-via-else-not-branch+then-not-is_heading w ↦ wrong_heading old new text fields config made.source made.state (rw w.if-not-branch.false at reads)
+          (λ same. false≢true (sym w.if-not-is_heading.true ∙ w.is_heading.ensures.1 same))
     ]
 
 pub loop-record-init : goal.loop-record-init

@@ -1,7 +1,7 @@
 use Rattle.std.proofs.Common.{◌≡◌, ◌<◌, ℕ, List, Some, map}
 use Rattle.csv.specs.Reading.{Ready, default_config, source_of}
 use Rattle.csv.specs.declared.reader.Trim.TheVariants as trim
-use Rattle.gl_series.specs.Numbers.{HasNumbers}
+use Rattle.gl_series.specs.Code.AddingRows.{HasNumbers}
 use Rattle.gl_series.proofs.Sheets.{RowsUpTo}
 use Rattle.gl_series.proofs.sheet.sheet_in.Given as goal
 

@@ -1,7 +1,7 @@
 use Rattle.std.proofs.Common.{ap, length, map, arith}
 use Rattle.std.proofs.lemmas.List.{length-map}
 use Rattle.std.proofs.lemmas.List.Sorted.{length_permutation}
-use Rattle.gl_series.specs.Tallies.{total_of_sum}
+use Rattle.gl_series.specs.Code.Tallies.{total_of_sum}
 use Rattle.gl_series.proofs.teams.in_order.Goals as goal
 
 pub ranked-requires-clause-few : goal.ranked-requires-clause-few

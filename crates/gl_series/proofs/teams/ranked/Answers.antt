@@ -1,5 +1,5 @@
 use Rattle.std.proofs.Common.{◌∙◌, sym, ◌++◌, ◌∷◌, []}
-use Rattle.gl_series.specs.Tallies.{team_of}
+use Rattle.gl_series.specs.Code.Tallies.{team_of}
 use Rattle.gl_series.proofs.LastRows.{map_more}
 use Rattle.gl_series.proofs.teams.ranked.Goals as goal
 

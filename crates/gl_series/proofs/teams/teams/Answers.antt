@@ -3,7 +3,7 @@ use Rattle.std.proofs.lemmas.Result.{IfOk-weaker}
 use Rattle.gl_series.specs.declared.shares.Share.{Share}
 use Rattle.gl_series.specs.declared.standing.Total.{Total}
 use Rattle.gl_series.specs.declared.teams.TeamSum.{TeamSum}
-use Rattle.gl_series.specs.Tallies.{AreRankedTeams, AreShares, AreTeamSums}
+use Rattle.gl_series.specs.Code.Tallies.{AreRankedTeams, AreShares, AreTeamSums}
 use Rattle.gl_series.proofs.Summed.{shares_few, sums_few, teams_of}
 use Rattle.gl_series.proofs.teams.teams.Goals as goal
 

@@ -1,5 +1,5 @@
 use Rattle.std.proofs.Common.{◌≡◌, map, take}
-use Rattle.gl_series.specs.Tallies.{total_of_sum}
+use Rattle.gl_series.specs.Code.Tallies.{total_of_sum}
 use Rattle.gl_series.proofs.teams.totals_of.Given as goal
 
 abbrev pub invariant-loop-sum : goal.invariant-loop-sum

@@ -6,7 +6,7 @@ use Rattle.gl_task.specs.declared.task.Entrant.{Entrant}
 use Rattle.gl_sheet.specs.declared.row.Row.{Row}
 use Rattle.gl_sheet.specs.declared.row.Outcome.TheVariants.{Finished}
 use Rattle.gl_sheet.specs.declared.row.Listed.TheVariants.{Unasked}
-use Rattle.gl_sheet.specs.Line.{line_of}
+use Rattle.gl_sheet.specs.Code.Line.{line_of}
 use Rattle.gl_sheet.proofs.Standing.{gathered_more}
 use Rattle.gl_sheet.proofs.line.gathered.Goals as goal
 

@@ -1,7 +1,7 @@
 use Rattle.std.proofs.Common.{rules}
 use Rattle.std.specs.Ordering.{is_lt}
 use Rattle.std.proofs.lemmas.List.Sorted.{IsPermutation-map, answers_always, ranks_by}
-use Rattle.gl_sheet.specs.Line.{line_of}
+use Rattle.gl_sheet.specs.Code.Line.{line_of}
 use Rattle.gl_sheet.specs.Sheet.{line_cmp}
 use Rattle.gl_sheet.proofs.Standing.{line_cmp_total, mapped_sorted}
 use Rattle.gl_sheet.proofs.line.sort.Goals as goal

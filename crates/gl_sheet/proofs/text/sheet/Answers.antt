@@ -5,7 +5,7 @@ use Rattle.csv.specs.Writing.{default_writer, row_text}
 use Rattle.gl_task.specs.declared.task.Entrant.{Entrant}
 use Rattle.gl_sheet.specs.declared.line.Line.{Line}
 use Rattle.gl_sheet.specs.Columns.{fields, heading}
-use Rattle.gl_sheet.specs.Line.{line_of}
+use Rattle.gl_sheet.specs.Code.Line.{line_of}
 use Rattle.gl_sheet.proofs.text.sheet.Goals as goal
 
 pub returns : goal.returns

@@ -1,7 +1,7 @@
 use Rattle.std.proofs.Common.{sym, ap, ◌∙◌, ℕ, List, ◌++◌}
 use Rattle.csv.specs.Writing.{default_writer, row_text}
 use Rattle.gl_sheet.specs.Columns.{fields, heading}
-use Rattle.gl_sheet.specs.Line.{line_of}
+use Rattle.gl_sheet.specs.Code.Line.{line_of}
 use Rattle.gl_sheet.proofs.Standing.{text_more}
 use Rattle.gl_sheet.proofs.text.text_of.Goals as goal
 

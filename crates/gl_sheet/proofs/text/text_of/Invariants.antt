@@ -2,7 +2,7 @@ use Rattle.std.proofs.Common.{◌≡◌, ◌∷◌, map, take}
 use Rattle.std.specs.List.{flat_map}
 use Rattle.csv.specs.Writing.{default_writer, row_text}
 use Rattle.gl_sheet.specs.Columns.{fields, heading}
-use Rattle.gl_sheet.specs.Line.{line_of}
+use Rattle.gl_sheet.specs.Code.Line.{line_of}
 use Rattle.gl_sheet.proofs.text.text_of.Given as goal
 
 abbrev pub invariant-loop-line : goal.invariant-loop-line

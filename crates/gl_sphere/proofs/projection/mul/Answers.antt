@@ -3,8 +3,9 @@ use Rattle.std.specs.Prelude.{unsigned_abs}
 use Rattle.std.proofs.lemmas.Int.{ints, to_z-of_z}
 use lib.Signed.{lt_z}
 use mathlib.Core.Bool.{beq}
-use Rattle.gl_sphere.specs.Laws.Quotients.{scaled_at_most}
-use Rattle.gl_sphere.specs.Laws.Signs.{abs_at_most, product-alike, product-unlike}
+use Rattle.gl_sphere.specs.Lemmas.Quotients.{scaled_at_most}
+use Rattle.gl_sphere.specs.Lemmas.Signs.{abs_at_most}
+use Rattle.gl_sphere.proofs.Signs.{product-alike, product-unlike}
 use Rattle.gl_sphere.proofs.projection.mul.Goals as goal
 use Rattle.gl_sphere.proofs.projection.mul.Goals.{After-over_unit-size}
 
@@ -17,7 +18,12 @@ size-is c =
 
 size-fits : (c : After-over_unit-size) → c.over_unit-size.result ≤ 10000000000000000
 size-fits c =
-    omega (arith, size-is c, scaled_at_most (unsigned_abs c.args.a) (unsigned_abs c.args.b) 10000000000000000 1 10000000000000000 (abs_at_most c.args.a _ c.requires.a_in_range) (omega (arith, abs_at_most c.args.b 10000000000000000 c.requires.b_in_range)))
+    omega (
+      arith,
+      size-is c,
+      scaled_at_most (unsigned_abs c.args.a) (unsigned_abs c.args.b) 10000000000000000 1 10000000000000000 (abs_at_most c.args.a _ c.requires.a_in_range)
+          (omega (arith, abs_at_most c.args.b 10000000000000000 c.requires.b_in_range)),
+    )
 
 pub returns-then-a-b-clause-value : goal.returns-then-a-b-clause-value
 returns-then-a-b-clause-value c =

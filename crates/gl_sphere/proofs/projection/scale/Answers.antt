@@ -1,7 +1,7 @@
 use Rattle.std.proofs.Common.{◌≡◌, ◌+◌, ◌*◌, ◌/◌, pos, ◌<ℤ◌, ◌≤ℤ◌, ap, arith}
 use Rattle.std.specs.Prelude.{unsigned_abs}
 use Rattle.std.proofs.lemmas.Int.{ints, to_z-of_z}
-use Rattle.gl_sphere.specs.Laws.Signs.{scaled-negative, scaled-natural}
+use Rattle.gl_sphere.proofs.Signs.{scaled-negative, scaled-natural}
 use Rattle.gl_sphere.proofs.projection.scale.Goals as goal
 
 pub returns-then-m-lt0-clause-value : goal.returns-then-m-lt0-clause-value

@@ -1,5 +1,5 @@
 use Rattle.std.proofs.Common.{sym, arith}
-use Rattle.gl_sphere.specs.Laws.Signs.{half_turn_sine-first, half_turn_sine-second}
+use Rattle.gl_sphere.specs.Lemmas.Signs.{half_turn_sine-first, half_turn_sine-second}
 use Rattle.gl_sphere.proofs.series_steps.quarter_angle.Goals as goal
 
 pub returns-then-n-le-QUARTER_TURN-clause-value : goal.returns-then-n-le-QUARTER_TURN-clause-value

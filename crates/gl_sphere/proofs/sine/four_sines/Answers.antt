@@ -1,6 +1,6 @@
 use Rattle.std.proofs.Common.{◌≡◌, ◌≤◌, ℕ, ℤ, subst, arith}
 use Rattle.gl_sphere.specs.declared.series.Series.{Series}
-use Rattle.gl_sphere.specs.Series.{IsSummed}
+use Rattle.gl_sphere.specs.Code.Series.{IsSummed}
 use Rattle.gl_sphere.proofs.sine.four_sines.Goals as goal
 
 -- after the last pair all pairs are added up

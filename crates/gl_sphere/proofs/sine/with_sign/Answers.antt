@@ -1,6 +1,6 @@
 use Rattle.std.proofs.Common.{pos, ◌<ℤ◌, ◌≤ℤ◌, arith}
 use Rattle.std.proofs.lemmas.Int.{ints}
-use Rattle.gl_sphere.specs.Laws.Signs.{written_sine-negative, written_sine-natural}
+use Rattle.gl_sphere.proofs.Signs.{written_sine-negative, written_sine-natural}
 use Rattle.gl_sphere.proofs.sine.with_sign.Goals as goal
 
 pub returns-then-n-lt0-clause-value : goal.returns-then-n-lt0-clause-value

@@ -1,5 +1,5 @@
 use Rattle.std.proofs.Common.{◌≤◌}
-use Rattle.gl_sphere.specs.Series.{IsSummed}
+use Rattle.gl_sphere.specs.Code.Series.{IsSummed}
 use Rattle.gl_sphere.proofs.sine.wsin.Given as goal
 
 abbrev pub invariant-loop-pair : goal.invariant-loop-pair

@@ -26,7 +26,8 @@ returns-in-Some-clause-checked g c =
     let same = c.as_slice-entrant-items.ensures in
     let below = subst (λ (l : List Entrant). i < length l) same c.loop-entrant-test.true in
     let item = subst (λ (l : List Entrant). e ≡ get_or l i e) same c.entrant-item.is in
-    let asked = subst (λ (f : Option FilesByName). AreAskedIn f day.task day.airspace e (expected_of e.number (rules_of_claims goals))) c.loop-entrant.invariant.reads.folder c.in_ok-goals.ensures.asked in
+    let asked = subst (λ (f : Option FilesByName). AreAskedIn f day.task day.airspace e (expected_of e.number (rules_of_claims goals))) c.loop-entrant.invariant.reads.folder
+    c.in_ok-goals.ensures.asked in
     let found = subst (λ (o : Option NotProved). GoesOn c.loop-entrant.count (expected_of e.number (rules_of_claims c.deref.result.now)) statements o) c.in-Some.is c.in_ok-wrong.ensures.goes_on in
     let goes = subst (λ (l : List (ClaimKind × AnyGoal)). GoesOn c.loop-entrant.count (expected_of e.number (rules_of_claims l)) statements (Some c.in-Some.wrong)) c.deref.ensures.value found in
     checked_wrong folder day i e goals statements c.loop-entrant.count c.in-Some.wrong below item c.loop-entrant.invariant.checked asked goes
@@ -42,11 +43,13 @@ loop-entrant-preserved g c =
     let same = c.as_slice-entrant-items.ensures in
     let below = subst (λ (l : List Entrant). i < length l) same c.loop-entrant-test.true in
     let item = subst (λ (l : List Entrant). e ≡ get_or l i e) same c.entrant-item.is in
-    let asked = subst (λ (f : Option FilesByName). AreAskedIn f day.task day.airspace e (expected_of e.number (rules_of_claims goals))) c.loop-entrant.invariant.reads.folder c.in_ok-goals.ensures.asked in
+    let asked = subst (λ (f : Option FilesByName). AreAskedIn f day.task day.airspace e (expected_of e.number (rules_of_claims goals))) c.loop-entrant.invariant.reads.folder
+    c.in_ok-goals.ensures.asked in
     let found = subst (λ (o : Option NotProved). GoesOn c.loop-entrant.count (expected_of e.number (rules_of_claims c.deref.result.now)) statements o) c.in_default.is c.in_ok-wrong.ensures.goes_on in
     let goes = subst (λ (l : List (ClaimKind × AnyGoal)). GoesOn c.loop-entrant.count (expected_of e.number (rules_of_claims l)) statements None) c.deref.ensures.value found in
     let long : c.len-count.result ≡ length goals = c.len-count.ensures ∙ c.in_ok-goals.goals.ok.0 in
-    let room : c.loop-entrant.count + length c.deref.result.now ≤ length c.args.proved.now = subst (λ (o : Option NotProved). IfNone o (c.loop-entrant.count + length c.deref.result.now ≤ length c.args.proved.now)) c.in_default.is c.in_ok-wrong.ensures.within in
+    let room : c.loop-entrant.count + length c.deref.result.now ≤ length c.args.proved.now =
+    subst (λ (o : Option NotProved). IfNone o (c.loop-entrant.count + length c.deref.result.now ≤ length c.args.proved.now)) c.in_default.is c.in_ok-wrong.ensures.within in
     record {
       within = omega (arith, room, long, ap length c.deref.ensures.value);
       reads = reads_twice (g.D.Desk.told c.args.desk.now) (g.D.Desk.told c.loop-entrant.desk) (g.D.Desk.told c.asked_of.new.desk) c.loop-entrant.invariant.reads c.in_ok-goals.ensures.reads;
@@ -58,6 +61,7 @@ returns-clause-checked g c =
     let folder = (g.D.Desk.told c.args.desk.now).folder in
     let day = c.args.files.now in
     let statements = map statement_of c.args.proved.now in
-    let last : length day.task.entrants ≤ c.loop-entrant.entrant-index = subst (λ (l : List Entrant). length l ≤ c.loop-entrant.entrant-index) c.as_slice-entrant-items.ensures c.loop-entrant-test.false in
+    let last : length day.task.entrants ≤ c.loop-entrant.entrant-index =
+    subst (λ (l : List Entrant). length l ≤ c.loop-entrant.entrant-index) c.as_slice-entrant-items.ensures c.loop-entrant-test.false in
     let all = subst (λ (l : List Entrant). AreChecked folder day l statements c.loop-entrant.count) (take_all c.loop-entrant.entrant-index day.task.entrants last) c.loop-entrant.invariant.checked in
     checked_end folder day statements c.loop-entrant.count c.check_end.result all c.check_end.ensures.ends

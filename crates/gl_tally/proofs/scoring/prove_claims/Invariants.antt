@@ -1,7 +1,7 @@
 use Rattle.std.proofs.Common.{take}
 use Rattle.gl_day.specs.Expected.{expected_of}
 use Rattle.gl_judge.specs.Claimed.{rules_of_claims}
-use Rattle.gl_tally.specs.Scoring.{AreClaimed}
+use Rattle.gl_tally.specs.Code.Scoring.{AreClaimed}
 use Rattle.gl_tally.proofs.scoring.prove_claims.Given as goal
 
 abbrev pub invariant-loop-goal : goal.invariant-loop-goal

@@ -7,19 +7,23 @@ use Rattle.gl_tally.proofs.scoring.score_day.Goals as goal
 
 pub sheet_of-requires : goal.sheet_of-requires
 sheet_of-requires g c =
-    ap length c.as_slice.ensures.value ∙ flights_count c.args.files.now _ c.args.files.now.task.entrants c.args.proof.now (g.D.Desk.told c.args.desk.now) (g.D.Desk.told c.score_entrants.new.desk) c.in_ok-flights.flights.items c.in_ok-flights.ensures.scored
+    ap length c.as_slice.ensures.value ∙ flights_count c.args.files.now _ c.args.files.now.task.entrants c.args.proof.now (g.D.Desk.told c.args.desk.now)
+    (g.D.Desk.told c.score_entrants.new.desk) c.in_ok-flights.flights.items c.in_ok-flights.ensures.scored
 
 pub returns-in_err-sheet-clause-stopped : goal.returns-in_err-sheet-clause-stopped
 returns-in_err-sheet-clause-stopped g c =
     let p = err_from_is_err_and c.from_residual-in_err-sheet.result c.from_residual-in_err-sheet.ensures.1 in
-    rw (p.1, p.2) (day_memory c.args.files.now _ c.args.proof.now (g.D.Desk.told c.args.desk.now) (g.D.Desk.told c.score_entrants.new.desk) c.in_ok-flights.flights.items c.in_ok-flights.ensures.scored)
+    rw (p.1, p.2) (day_memory c.args.files.now _ c.args.proof.now (g.D.Desk.told c.args.desk.now)
+    (g.D.Desk.told c.score_entrants.new.desk) c.in_ok-flights.flights.items c.in_ok-flights.ensures.scored)
 
 pub returns-in_err-append_piece-clause-stopped : goal.returns-in_err-append_piece-clause-stopped
 returns-in_err-append_piece-clause-stopped g c =
     let p = err_from_is_err_and c.from_residual-in_err-append_piece.result c.from_residual-in_err-append_piece.ensures.1 in
-    rw (p.1, p.2) (end_stopped c.args.files.now _ c.args.proof.now c.end_line.result.now (g.D.Desk.told c.args.desk.now) (g.D.Desk.told c.score_entrants.new.desk) (g.D.Desk.told c.append_piece.new.desk) c.in_ok-flights.flights.items c.in_err-append_piece.field-0.0 c.end_line.ensures c.in_ok-flights.ensures.scored c.in_err-append_piece.ensures.stopped)
+    rw (p.1, p.2) (end_stopped c.args.files.now _ c.args.proof.now c.end_line.result.now (g.D.Desk.told c.args.desk.now) (g.D.Desk.told c.score_entrants.new.desk)
+    (g.D.Desk.told c.append_piece.new.desk) c.in_ok-flights.flights.items c.in_err-append_piece.field-0.0 c.end_line.ensures c.in_ok-flights.ensures.scored c.in_err-append_piece.ensures.stopped)
 
 pub returns-clause-scored : goal.returns-clause-scored
 returns-clause-scored g c =
     let said = subst (λ (l : List Flight). IsSheetOf c.args.files.now.task l c.in_ok-sheet.sheet.items) c.as_slice.ensures.value c.in_ok-sheet.ensures in
-    day_done c.args.files.now _ c.args.proof.now c.end_line.result.now c.in_ok-sheet.sheet.items (g.D.Desk.told c.args.desk.now) (g.D.Desk.told c.score_entrants.new.desk) (g.D.Desk.told c.append_piece.new.desk) c.in_ok-flights.flights.items c.end_line.ensures c.in_ok-flights.ensures.scored said c.in_ok-append_piece.ensures.appended
+    day_done c.args.files.now _ c.args.proof.now c.end_line.result.now c.in_ok-sheet.sheet.items (g.D.Desk.told c.args.desk.now) (g.D.Desk.told c.score_entrants.new.desk)
+    (g.D.Desk.told c.append_piece.new.desk) c.in_ok-flights.flights.items c.end_line.ensures c.in_ok-flights.ensures.scored said c.in_ok-append_piece.ensures.appended

@@ -11,6 +11,7 @@ pub returns-clause-ok : goal.returns-clause-ok
 returns-clause-ok c =
     let whole = c.write_last_digits-whole in
     let digits = c.write_digits-start in
-    let written = fixed_written c.args.places c.args.n digits.result whole.result whole.new.buffer digits.new.buffer c.requires.most (omega arith) whole.ensures.rest whole.auto.buffer whole.ensures.written (omega (arith, length-set {A = ℕ})) digits.ensures.written in
+    let written = fixed_written c.args.places c.args.n digits.result whole.result whole.new.buffer digits.new.buffer c.requires.most
+    (omega arith) whole.ensures.rest whole.auto.buffer whole.ensures.written (omega (arith, length-set {A = ℕ})) digits.ensures.written in
     let items = c.extend_from_slice.ensures.items in
     search rules

@@ -8,4 +8,5 @@ visit-requires-clause-node c = top_node c.args.goal.now InTime c.loop.best c.loo
 pub loop-preserved : goal.loop-preserved
 loop-preserved c =
     let visited = c.in_ok-visit.ensures.visited in
-    goes_on c.args.goal.now InTime c.loop.best c.visit.new.best c.loop.nodes.items c.pop.new.self.items c.visit.new.nodes.items visited.added c.in-Some.node c.in-Some.ensures.items visited.on_top c.loop.invariant c.in_ok-visit.ensures.sound c.in_ok-visit.ensures.grows visited.replace
+    goes_on c.args.goal.now InTime c.loop.best c.visit.new.best c.loop.nodes.items c.pop.new.self.items c.visit.new.nodes.items visited.added c.in-Some.node c.in-Some.ensures.items visited.on_top
+    c.loop.invariant c.in_ok-visit.ensures.sound c.in_ok-visit.ensures.grows visited.replace

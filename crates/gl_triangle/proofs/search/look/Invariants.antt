@@ -1,4 +1,4 @@
-use Rattle.gl_triangle.specs.Search.{IsUnderWay}
+use Rattle.gl_triangle.specs.Code.Search.{IsUnderWay}
 use Rattle.gl_triangle.specs.declared.order.Order.TheVariants.{InTime}
 use Rattle.gl_triangle.proofs.search.look.Given as goal
 

@@ -1,4 +1,4 @@
-use Rattle.gl_triangle.specs.Search.{IsUnderWay}
+use Rattle.gl_triangle.specs.Code.Search.{IsUnderWay}
 use Rattle.gl_triangle.proofs.Nodes.{work_of}
 use Rattle.gl_triangle.proofs.search.run.Given as goal
 

@@ -2,7 +2,6 @@ use Rattle.std.proofs.Common.{ap, length, subst, List, arith}
 use Rattle.std.proofs.lemmas.Result.{on_ok_weaker}
 use Rattle.gl_igc.specs.declared.fix.Fix.{Fix}
 use Rattle.gl_places.specs.ByPlace.{IsByPlace}
-use Rattle.gl_triangle.specs.Node.{fixes_of}
 use Rattle.gl_triangle.specs.declared.order.Order.TheVariants.{ByPlace}
 use Rattle.gl_triangle.proofs.Nodes.{ends}
 use Rattle.gl_triangle.proofs.Rounds.{at_most_90000, length-fixes_of}

@@ -3,8 +3,8 @@ use Rattle.std.proofs.lemmas.List.{append-nil}
 use Rattle.std.proofs.lemmas.Result.{on_ok_weaker}
 use Rattle.gl_box.specs.Halves.{width}
 use Rattle.gl_igc.specs.declared.fix.Fix.{Fix}
-use Rattle.gl_triangle.specs.Node.{IsVisited, fixes_of}
-use Rattle.gl_triangle.specs.Spans.{AreWithin, IsWide, axis_of, cell_of}
+use Rattle.gl_triangle.specs.Code.Node.{IsVisited, fixes_of}
+use Rattle.gl_triangle.specs.Code.Spans.{AreWithin, IsWide, axis_of, cell_of}
 use Rattle.gl_triangle.proofs.Cells.{among_tuple, lowest_among, single_held, within_ordered}
 use Rattle.gl_triangle.proofs.Nodes.{Tested, both_put, bound_out, left_out}
 use Rattle.gl_triangle.proofs.search.visit.Goals as goal
@@ -34,7 +34,8 @@ returns-in_default-clause-visited c =
     record {
       added = [];
       on_top = sym (append-nil c.args.nodes.now.items);
-      replace = left_out c.args.goal.now c.args.order.now node _ (single_held c.args.goal.now c.args.order.now (cell_of node.spans) _ _ _ c.in_default.ensures c.lowest.ensures c.in_time.ensures.in_time c.consider.ensures.considered);
+      replace = left_out c.args.goal.now c.args.order.now node _ (single_held c.args.goal.now c.args.order.now
+          (cell_of node.spans) _ _ _ c.in_default.ensures c.lowest.ensures c.in_time.ensures.in_time c.consider.ensures.considered);
     }
 
 pub returns-clause-visited : goal.returns-clause-visited
@@ -50,10 +51,13 @@ returns-clause-visited c =
     let cell = cell_of node.spans in
     let is_wide : IsWide node.spans corner = c.in-Some.ensures in
     let wide : 0 < hi - lo = omega (arith, is_wide, ap width c.at-span.ensures) in
-    let low : Tested goal order node known (slice_set cell (axis_of corner) (lo, middle)) c.narrowed-low.result = record { is_node = c.narrowed-low.ensures.node; spans = c.narrowed-low.ensures.spans; left_out = c.narrowed-low.ensures.none } in
-    let high : Tested goal order node known (slice_set cell (axis_of corner) (middle + 1, hi)) c.narrowed-high.result = record { is_node = c.narrowed-high.ensures.node; spans = c.narrowed-high.ensures.spans; left_out = c.narrowed-high.ensures.none } in
+    let low : Tested goal order node known (slice_set cell (axis_of corner) (lo, middle)) c.narrowed-low.result =
+    record { is_node = c.narrowed-low.ensures.node; spans = c.narrowed-low.ensures.spans; left_out = c.narrowed-low.ensures.none } in
+    let high : Tested goal order node known (slice_set cell (axis_of corner) (middle + 1, hi)) c.narrowed-high.result =
+    record { is_node = c.narrowed-high.ensures.node; spans = c.narrowed-high.ensures.spans; left_out = c.narrowed-high.ensures.none } in
     let last : middle < hi = omega arith in
     on_ok_weaker c.push_some-2.result
     (λ second. subst (λ (most : ℕ). IsVisited goal order node most c.args.nodes.now.items c.push_some-2.new.nodes.items) c.worth-known.ensures
-    (both_put goal order node corner (lo, hi) middle known c.narrowed-low.result c.narrowed-high.result c.in_order-less.result c.args.nodes.now.items c.push_some.new.nodes.items c.push_some-2.new.nodes.items c.at-span.ensures (omega arith) last low high c.in_order-less.ensures c.in_ok-push_some.ensures second))
+    (both_put goal order node corner (lo, hi) middle known c.narrowed-low.result c.narrowed-high.result c.in_order-less.result c.args.nodes.now.items c.push_some.new.nodes.items
+    c.push_some-2.new.nodes.items c.at-span.ensures (omega arith) last low high c.in_order-less.ensures c.in_ok-push_some.ensures second))
     c.push_some-2.ensures

@@ -1,6 +1,6 @@
 use Rattle.std.specs.Prelude.{IfSome}
-use Rattle.gl_triangle.specs.Node.{fixes_of}
-use Rattle.gl_triangle.specs.Places.{AreAmong}
+use Rattle.gl_triangle.specs.Code.Node.{fixes_of}
+use Rattle.gl_triangle.specs.Code.Places.{AreAmong}
 use Rattle.gl_triangle.proofs.trial.try_seconds.Given as goal
 
 abbrev pub invariant-loop-index : goal.invariant-loop-index

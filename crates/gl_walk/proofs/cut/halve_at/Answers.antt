@@ -1,6 +1,6 @@
 use Rattle.std.proofs.Common.{◌≡◌, ◌∙◌, ap, refl, ℕ, ◌<◌, ◌≤◌, get_or, arith}
 use Rattle.gl_box.specs.Halves.{width}
-use Rattle.gl_box.specs.Laws.Spans.{halves_made, length-spans, single-from_widest, span_at-read}
+use Rattle.gl_box.proofs.Spans.{halves_made, length-spans, single-from_widest, span_at-read}
 use Rattle.gl_walk.proofs.cut.halve_at.Goals as goal
 
 no_width : (span : ℕ × ℕ) (lo hi : ℕ) → span ≡ (lo, hi) → lo ≡ hi → width span ≡ 0

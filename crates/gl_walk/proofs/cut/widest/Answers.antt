@@ -1,7 +1,7 @@
 use Rattle.std.proofs.Common.{◌≡◌, ◌∙◌, sym, ap, ℕ, ◌<◌, ◌≤◌, arith}
 use Rattle.gl_box.specs.Cell.{spans_of}
 use Rattle.gl_box.specs.Halves.{span_at, width}
-use Rattle.gl_box.specs.Laws.Spans.{span_at-read, widest-more, widest-next, widest-next_or_same}
+use Rattle.gl_box.proofs.Spans.{span_at-read, widest-more, widest-next, widest-next_or_same}
 use Rattle.gl_walk.proofs.cut.widest.Goals as goal
 use Rattle.gl_walk.proofs.cut.widest.Goals.{then-width-most, else-width-most}
 
@@ -16,7 +16,8 @@ loop-axis-preserved c =
     let cell = c.args.cell.now in
     let all : cell.axes ≤ 10 = cell.ten_axes in
     let f = λ (axis : ℕ). width (span_at (spans_of cell) axis) in
-    let here : f c.loop-axis.axis ≡ c.width-width.result = ap width (span_at-read cell.axes cell.spans c.loop-axis.axis c.index-cell-axis.result (omega arith) (omega arith)) ∙ sym c.width-width.ensures in
+    let here : f c.loop-axis.axis ≡ c.width-width.result = ap width (span_at-read cell.axes cell.spans c.loop-axis.axis c.index-cell-axis.result (omega arith) (omega arith))
+    ∙ sym c.width-width.ensures in
     let best : f c.loop-axis.widest ≡ c.loop-axis.most = sym c.loop-axis.invariant.most in
     elim c.if-width-most.branch [
       | then-width-most w ↦
@@ -43,7 +44,8 @@ pub loop-axis-init : goal.loop-axis-init
 loop-axis-init c =
     let cell = c.args.cell.now in
     let f = λ (axis : ℕ). width (span_at (spans_of cell) axis) in
-    let first : f 0 ≡ c.width-most.result = ap width (span_at-read cell.axes cell.spans 0 c.index-cell-0.result (omega (arith, cell.some_axis)) (omega (arith, cell.ten_axes, cell.ten_spans))) ∙ sym c.width-most.ensures in
+    let first : f 0 ≡ c.width-most.result = ap width (span_at-read cell.axes cell.spans 0 c.index-cell-0.result (omega (arith, cell.some_axis)) (omega (arith, cell.ten_axes, cell.ten_spans)))
+    ∙ sym c.width-most.ensures in
     record {
       most = sym first;
       before = omega arith;

@@ -50,7 +50,8 @@ loop-count-preserved g c =
     let opened = open_cells l.opened.items in
     let after = open_cells c.go_down.new.opened.items in
     let some : opened ≡ [] → ⊥ = some_cell l.opened.items (λ none. eqb-false _ _ (sym c.is_empty.ensures ∙ c.if-is_empty.false) (omega (arith, none, l.opened.ok.0))) in
-    let more = walked_more whole cell boxes l.count next (spans_of c.cell.result.now) opened after c.loop-count-test.true c.index-boxes-count.is c.cell.ensures l.invariant.walked (c.in_ok-go_down.ensures.there c.if-not-branch.false) in
+    let more = walked_more whole cell boxes l.count next (spans_of c.cell.result.now) opened after c.loop-count-test.true c.index-boxes-count.is c.cell.ensures l.invariant.walked
+    (c.in_ok-go_down.ensures.there c.if-not-branch.false) in
     record {
       walked = more;
       placed = below_more (IsPlaced whole (map cell boxes)) l.count l.invariant.placed (record {

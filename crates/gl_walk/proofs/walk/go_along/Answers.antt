@@ -25,11 +25,13 @@ loop-next-preserved c =
     let l = c.loop-next in
     let boxes = c.args.boxes.now in
     let next = c.next-item.result in
-    along_more (open_cells c.args.opened.now.items) (open_cells l.opened.items) (open_cells c.go_down.new.opened.items) (map (λ box. spans_of box.cell) boxes) l.next-index (spans_of next.cell) (inside boxes l.next-index c.loop-next-test.true) (read boxes l.next-index next c.loop-next-test.true c.next-item.is) l.invariant (c.in_ok-go_down.ensures.there c.if-not-branch.false)
+    along_more (open_cells c.args.opened.now.items) (open_cells l.opened.items) (open_cells c.go_down.new.opened.items) (map (λ box. spans_of box.cell) boxes) l.next-index (spans_of next.cell)
+    (inside boxes l.next-index c.loop-next-test.true) (read boxes l.next-index next c.loop-next-test.true c.next-item.is) l.invariant (c.in_ok-go_down.ensures.there c.if-not-branch.false)
 
 pub returns-then-not-branch-clause-absent : goal.returns-then-not-branch-clause-absent
 returns-then-not-branch-clause-absent c = λ no.
     let l = c.loop-next in
     let boxes = c.args.boxes.now in
     let next = c.next-item.result in
-    along_out (open_cells c.args.opened.now.items) (open_cells l.opened.items) (map (λ box. spans_of box.cell) boxes) l.next-index (spans_of next.cell) (inside boxes l.next-index c.loop-next-test.true) (read boxes l.next-index next c.loop-next-test.true c.next-item.is) l.invariant (c.in_ok-go_down.ensures.absent c.if-not-branch.true)
+    along_out (open_cells c.args.opened.now.items) (open_cells l.opened.items) (map (λ box. spans_of box.cell) boxes) l.next-index (spans_of next.cell)
+    (inside boxes l.next-index c.loop-next-test.true) (read boxes l.next-index next c.loop-next-test.true c.next-item.is) l.invariant (c.in_ok-go_down.ensures.absent c.if-not-branch.true)

@@ -5,9 +5,9 @@ use Rattle.std.proofs.lemmas.List.{length-set}
 use Rattle.gl_box.specs.declared.cell.Cell.{Cell}
 use Rattle.gl_box.specs.declared.span.Span.{Span}
 use Rattle.gl_box.specs.Cell.{Covers, spans_of}
-use Rattle.gl_box.specs.Laws.Nodes.{spread-lower}
-use Rattle.gl_box.specs.Laws.Held.{covers_at, length-covers}
-use Rattle.gl_box.specs.Laws.Spans.{length-spans_of, span_at-spans_of}
+use Rattle.gl_box.proofs.Nodes.{spread-lower}
+use Rattle.gl_box.proofs.Held.{covers_at, length-covers}
+use Rattle.gl_box.proofs.Spans.{length-spans_of, span_at-spans_of}
 use Rattle.gl_walk.specs.Walk.{AreFrontiers, open_cells}
 use Rattle.gl_walk.proofs.Frontiers.{first_covered, halved_on, open_push, passed_on, through}
 use Rattle.gl_walk.proofs.walk.go_down.Goals as goal

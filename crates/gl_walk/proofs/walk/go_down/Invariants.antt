@@ -1,7 +1,7 @@
 use Rattle.std.proofs.Common.{ℕ, List, ◌∷◌}
 use Rattle.std.specs.Prelude.{◌↔◌}
 use Rattle.gl_box.specs.Cell.{spans_of}
-use Rattle.gl_box.specs.Laws.Nodes.{spread}
+use Rattle.gl_box.proofs.Nodes.{spread}
 use Rattle.gl_walk.specs.Walk.{AreFrontiers, open_cells}
 use Rattle.gl_walk.proofs.walk.go_down.Given as goal
 

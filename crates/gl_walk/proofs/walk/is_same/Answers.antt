@@ -3,7 +3,7 @@ use Rattle.std.proofs.lemmas.Bool.{false≢true}
 use Rattle.std.proofs.lemmas.List.{get_or_default, same_lists}
 use Rattle.gl_box.specs.Cell.{spans_of}
 use Rattle.gl_box.specs.Halves.{span_at}
-use Rattle.gl_box.specs.Laws.Spans.{length-spans_of}
+use Rattle.gl_box.proofs.Spans.{length-spans_of}
 use Rattle.gl_walk.proofs.walk.is_same.Goals as goal
 
 pub returns-then-cell-other : goal.returns-then-cell-other
@@ -29,6 +29,7 @@ returns c =
     let one = c.args.cell.now in
     let other = c.args.other.now in (
       λ yes. same_lists (spans_of one) (spans_of other) (omega (arith, length-spans_of one, length-spans_of other))
-          (λ k d below. get_or_default (spans_of one) k d (0, 0) below ∙ c.loop-axis.invariant k (omega (arith, length-spans_of one)) ∙ sym (get_or_default (spans_of other) k d (0, 0) (omega (arith, length-spans_of one, length-spans_of other)))),
+          (λ k d below. get_or_default (spans_of one) k d (0, 0) below ∙ c.loop-axis.invariant k (omega (arith, length-spans_of one))
+          ∙ sym (get_or_default (spans_of other) k d (0, 0) (omega (arith, length-spans_of one, length-spans_of other)))),
       λ same. refl,
     )

@@ -4,14 +4,16 @@ use Rattle.gl_box.specs.declared.cell.Cell.{Cell}
 use Rattle.gl_box.specs.declared.span.Span.{Span}
 use Rattle.gl_box.specs.Cell.{ends, spans_of}
 use Rattle.gl_box.specs.Halves.{span_at}
-use Rattle.gl_box.specs.Laws.Spans.{span_at-spans_of}
+use Rattle.gl_box.proofs.Spans.{span_at-spans_of}
 use Rattle.gl_walk.proofs.walk.is_same_at.Goals as goal
 
-together : (one other : Cell) (axis : ℕ) (a b : Span) → axis < one.axes → axis < other.axes → (get_or one.spans axis a).lo ≡ (get_or other.spans axis b).lo → (get_or one.spans axis a).hi ≡ (get_or other.spans axis b).hi → span_at (spans_of one) axis ≡ span_at (spans_of other) axis
+together : (one other : Cell) (axis : ℕ) (a b : Span) → axis < one.axes → axis < other.axes → (get_or one.spans axis a).lo ≡ (get_or other.spans axis b).lo
+    → (get_or one.spans axis a).hi ≡ (get_or other.spans axis b).hi → span_at (spans_of one) axis ≡ span_at (spans_of other) axis
 together one other axis a b inside also low high =
     span_at-spans_of one axis a inside ∙ (λ i. (low i, high i)) ∙ sym (span_at-spans_of other axis b also)
 
-apart : (one other : Cell) (axis : ℕ) (a b : Span) → axis < one.axes → axis < other.axes → span_at (spans_of one) axis ≡ span_at (spans_of other) axis → ends (get_or one.spans axis a) ≡ ends (get_or other.spans axis b)
+apart : (one other : Cell) (axis : ℕ) (a b : Span) → axis < one.axes → axis < other.axes → span_at (spans_of one) axis ≡ span_at (spans_of other) axis
+    → ends (get_or one.spans axis a) ≡ ends (get_or other.spans axis b)
 apart one other axis a b inside also same =
     sym (span_at-spans_of one axis a inside) ∙ same ∙ span_at-spans_of other axis b also
 

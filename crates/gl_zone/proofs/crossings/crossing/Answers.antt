@@ -22,7 +22,8 @@ chord_is : (point centre : Vec3) (x y z : ℤ) → point.x ≡ x → point.y ≡
 unfolding squared_chord
 chord_is point centre x y z x_is y_is z_is = cc
 
-distance_is : (line : Line) (x y : Fix) (point : Vec3) (q d : ℕ) → point.x ≡ at_crossing line x y x.at.x y.at.x → point.y ≡ at_crossing line x y x.at.y y.at.y → point.z ≡ at_crossing line x y x.at.z y.at.z
+distance_is : (line : Line) (x y : Fix) (point : Vec3) (q d : ℕ) → point.x ≡ at_crossing line x y x.at.x y.at.x → point.y ≡ at_crossing line x y x.at.y y.at.y
+    → point.z ≡ at_crossing line x y x.at.z y.at.z
     → q ≡ squared_chord point line.centre → d ≡ written_distance q → d ≡ distance_at_crossing line x y
 unfolding distance_at_crossing
 distance_is line x y point q d x_is y_is z_is q_is d_is =

@@ -9,4 +9,5 @@ returns-clause-value c = search rules
 
 pub returns-clause-bound : goal.returns-clause-bound
 returns-clause-bound c =
-    subst (IsWithin (greatest_scalar_product * greatest_scalar_product)) (sym (returns-clause-value c)) (product_within c.args.a c.args.b greatest_scalar_product greatest_scalar_product c.requires.a_in_range c.requires.b_in_range)
+    subst (IsWithin (greatest_scalar_product * greatest_scalar_product)) (sym (returns-clause-value c))
+    (product_within c.args.a c.args.b greatest_scalar_product greatest_scalar_product c.requires.a_in_range c.requires.b_in_range)

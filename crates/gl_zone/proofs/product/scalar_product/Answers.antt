@@ -25,7 +25,8 @@ returns-clause-value c =
 
 pub returns-clause-bound : goal.returns-clause-bound
 returns-clause-bound c =
-    subst (IsWithin greatest_scalar_product) (sym (three_kept w64 c.product.result c.product-2.result c.product-3.result greatest_product (lit< tt) c.product.ensures.bound c.product-2.ensures.bound c.product-3.ensures.bound))
+    subst (IsWithin greatest_scalar_product) (sym (three_kept w64 c.product.result c.product-2.result c.product-3.result greatest_product
+    (lit< tt) c.product.ensures.bound c.product-2.ensures.bound c.product-3.ensures.bound))
     (three_within c.product.result c.product-2.result c.product-3.result greatest_product c.product.ensures.bound c.product-2.ensures.bound c.product-3.ensures.bound)
 
 pub overflow_add-result : goal.overflow_add-result

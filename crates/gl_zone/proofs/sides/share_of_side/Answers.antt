@@ -12,4 +12,5 @@ returns-clause-value c =
 
 pub returns-clause-bound : goal.returns-clause-bound
 returns-clause-bound c =
-    subst (IsWithin greatest_share_of_side) (sym (returns-clause-value c)) (product_within c.args.forwards c.args.component greatest_forwards radius c.requires.forwards_in_range c.requires.component_in_range)
+    subst (IsWithin greatest_share_of_side) (sym (returns-clause-value c))
+    (product_within c.args.forwards c.args.component greatest_forwards radius c.requires.forwards_in_range c.requires.component_in_range)

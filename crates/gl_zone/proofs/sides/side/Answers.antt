@@ -10,7 +10,8 @@ use Rattle.gl_zone.proofs.Products.{kept, sum_fits, three_fit, three_kept, three
 use Rattle.gl_zone.proofs.sides.side.Goals as goal
 use Rattle.gl_zone.proofs.sides.side.Goals.{After-share_of_side-3}
 
-forwards_is : (line : Line) (p q s l d f x : ℤ) → s ≡ scalar_product line.centre line.centre → l ≡ scalar_product line.centre line.towards → f ≡ (q *ℤ s) -ℤ (p *ℤ l) → d ≡ f *ℤ x → d ≡ forwards line p q *ℤ x
+forwards_is : (line : Line) (p q s l d f x : ℤ) → s ≡ scalar_product line.centre line.centre → l ≡ scalar_product line.centre line.towards → f ≡ (q *ℤ s) -ℤ (p *ℤ l) → d ≡ f *ℤ x
+    → d ≡ forwards line p q *ℤ x
 unfolding forwards
 forwards_is line p q s l d f x s_is l_is f_is d_is = cc
 
@@ -26,7 +27,8 @@ component_is line p q s l d f x s_is l_is p_in q_in s_in l_in f_in x_in f_is d_i
     let direction : f ≡ (q *ℤ s) -ℤ (p *ℤ l) = cc in
     forwards_is line p q s l d f x s_is l_is direction (product_passed w128 w32 d f x greatest_forwards radius (lit< tt) (lit< tt) f_in x_in d_is)
 
-sum_is : (line : Line) (x : Vec3) (a b c : ℤ) → a ≡ forwards line line.centre.x line.towards.x *ℤ x.x → b ≡ forwards line line.centre.y line.towards.y *ℤ x.y → c ≡ forwards line line.centre.z line.towards.z *ℤ x.z → a +ℤ b +ℤ c ≡ side_of line x
+sum_is : (line : Line) (x : Vec3) (a b c : ℤ) → a ≡ forwards line line.centre.x line.towards.x *ℤ x.x → b ≡ forwards line line.centre.y line.towards.y *ℤ x.y
+    → c ≡ forwards line line.centre.z line.towards.z *ℤ x.z → a +ℤ b +ℤ c ≡ side_of line x
 unfolding side_of
 sum_is line x a b c a_is b_is c_is = cc
 
@@ -37,21 +39,29 @@ sum-is c =
     let s = c.scalar_product-square in
     let l = c.scalar_product-along in
     sum_is line x _ _ _
-    (component_is line line.centre.x line.towards.x s.result l.result _ _ x.x s.ensures.value l.ensures.value line.centre.x_in_range line.towards.x_in_range s.ensures.bound l.ensures.bound c.forwards.ensures.bound x.x_in_range c.forwards.ensures.value c.share_of_side.ensures.value)
-    (component_is line line.centre.y line.towards.y s.result l.result _ _ x.y s.ensures.value l.ensures.value line.centre.y_in_range line.towards.y_in_range s.ensures.bound l.ensures.bound c.forwards-2.ensures.bound x.y_in_range c.forwards-2.ensures.value c.share_of_side-2.ensures.value)
-    (component_is line line.centre.z line.towards.z s.result l.result _ _ x.z s.ensures.value l.ensures.value line.centre.z_in_range line.towards.z_in_range s.ensures.bound l.ensures.bound c.forwards-3.ensures.bound x.z_in_range c.forwards-3.ensures.value c.share_of_side-3.ensures.value)
+    (component_is line line.centre.x line.towards.x s.result l.result _ _ x.x s.ensures.value l.ensures.value line.centre.x_in_range line.towards.x_in_range s.ensures.bound l.ensures.bound
+    c.forwards.ensures.bound x.x_in_range c.forwards.ensures.value c.share_of_side.ensures.value)
+    (component_is line line.centre.y line.towards.y s.result l.result _ _ x.y s.ensures.value l.ensures.value line.centre.y_in_range line.towards.y_in_range s.ensures.bound l.ensures.bound
+    c.forwards-2.ensures.bound x.y_in_range c.forwards-2.ensures.value c.share_of_side-2.ensures.value)
+    (component_is line line.centre.z line.towards.z s.result l.result _ _ x.z s.ensures.value l.ensures.value line.centre.z_in_range line.towards.z_in_range s.ensures.bound l.ensures.bound
+    c.forwards-3.ensures.bound x.z_in_range c.forwards-3.ensures.value c.share_of_side-3.ensures.value)
 
 pub returns-clause-value : goal.returns-clause-value
 returns-clause-value c =
-    three_kept w128 c.share_of_side.result c.share_of_side-2.result c.share_of_side-3.result greatest_share_of_side (lit< tt) c.share_of_side.ensures.bound c.share_of_side-2.ensures.bound c.share_of_side-3.ensures.bound ∙ sum-is c
+    three_kept w128 c.share_of_side.result c.share_of_side-2.result c.share_of_side-3.result greatest_share_of_side
+    (lit< tt) c.share_of_side.ensures.bound c.share_of_side-2.ensures.bound c.share_of_side-3.ensures.bound ∙ sum-is c
 
 pub returns-clause-bound : goal.returns-clause-bound
 returns-clause-bound c =
-    subst (IsWithin greatest_side) (sym (three_kept w128 c.share_of_side.result c.share_of_side-2.result c.share_of_side-3.result greatest_share_of_side (lit< tt) c.share_of_side.ensures.bound c.share_of_side-2.ensures.bound c.share_of_side-3.ensures.bound))
-    (three_within c.share_of_side.result c.share_of_side-2.result c.share_of_side-3.result greatest_share_of_side c.share_of_side.ensures.bound c.share_of_side-2.ensures.bound c.share_of_side-3.ensures.bound)
+    subst (IsWithin greatest_side) (sym (three_kept w128 c.share_of_side.result c.share_of_side-2.result c.share_of_side-3.result greatest_share_of_side
+    (lit< tt) c.share_of_side.ensures.bound c.share_of_side-2.ensures.bound c.share_of_side-3.ensures.bound))
+    (three_within c.share_of_side.result c.share_of_side-2.result c.share_of_side-3.result greatest_share_of_side c.share_of_side.ensures.bound c.share_of_side-2.ensures.bound
+    c.share_of_side-3.ensures.bound)
 
 pub overflow_add-result : goal.overflow_add-result
-overflow_add-result c = sum_fits w128 c.share_of_side.result c.share_of_side-2.result greatest_share_of_side greatest_share_of_side (lit< tt) c.share_of_side.ensures.bound c.share_of_side-2.ensures.bound
+overflow_add-result c = sum_fits w128 c.share_of_side.result c.share_of_side-2.result greatest_share_of_side greatest_share_of_side
+    (lit< tt) c.share_of_side.ensures.bound c.share_of_side-2.ensures.bound
 
 pub overflow_add-result-2 : goal.overflow_add-result-2
-overflow_add-result-2 c = three_fit w128 c.share_of_side.result c.share_of_side-2.result c.share_of_side-3.result greatest_share_of_side (lit< tt) c.share_of_side.ensures.bound c.share_of_side-2.ensures.bound c.share_of_side-3.ensures.bound
+overflow_add-result-2 c = three_fit w128 c.share_of_side.result c.share_of_side-2.result c.share_of_side-3.result greatest_share_of_side
+    (lit< tt) c.share_of_side.ensures.bound c.share_of_side-2.ensures.bound c.share_of_side-3.ensures.bound

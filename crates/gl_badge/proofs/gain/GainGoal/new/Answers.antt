@@ -1,9 +1,9 @@
 use Rattle.std.proofs.Common.{◌≡◌, ◌∙◌, ℕ, List, length, ap, sym, subst, arith}
 use Rattle.gl_goal.specs.Free.{numbers_from}
 use Rattle.gl_goal.specs.Lists.{AreNamed}
-use Rattle.gl_goal.specs.Laws.Free.{length-numbers_from}
+use Rattle.gl_goal.specs.Lemmas.Free.{length-numbers_from}
 use Rattle.gl_badge.specs.Gain.{gain_goal}
-use Rattle.gl_badge.specs.Laws.Gain.{all-named, gain_goal-is_goal}
+use Rattle.gl_badge.specs.Lemmas.Gain.{all-named, gain_goal-is_goal}
 use Rattle.gl_badge.proofs.Pairs.{picked-all, stay_legal}
 use Rattle.gl_badge.proofs.gain.GainGoal.new.Goals as goal
 use Rattle.gl_badge.proofs.gain.GainGoal.new.Goals.{After-as_slice}

@@ -2,7 +2,7 @@ use Rattle.std.proofs.Common.{◌≡◌, ◌∙◌, sym, ℕ, ◌<◌, length, m
 use Rattle.std.proofs.lemmas.List.{get_or-map, get_or_default, length-map, same_lists}
 use Rattle.gl_box.specs.Tuple.{places_of}
 use Rattle.gl_box.specs.Cell.{spans_of}
-use Rattle.gl_box.specs.Laws.Spans.{length-places_of, length-spans_of}
+use Rattle.gl_box.proofs.Spans.{length-places_of, length-spans_of}
 use Rattle.gl_box.proofs.cell.Cell.lowest.Goals as goal
 
 pub returns : goal.returns

@@ -1,6 +1,6 @@
 use Rattle.std.proofs.Common.{◌∙◌, ◌<◌, length, arith}
 use Rattle.gl_box.specs.Cell.{spans_of}
-use Rattle.gl_box.specs.Laws.Spans.{length-spans, point-all, point-more}
+use Rattle.gl_box.proofs.Spans.{length-spans, point-all, point-more}
 use Rattle.gl_box.proofs.cell.Cell.point.Goals as goal
 
 pub loop-axis-preserved : goal.loop-axis-preserved

@@ -1,4 +1,4 @@
-use Rattle.gl_box.specs.Laws.Spans.{spans-set}
+use Rattle.gl_box.proofs.Spans.{spans-set}
 use Rattle.gl_box.proofs.cell.Cell.set.Goals as goal
 
 pub returns-clause-spans : goal.returns-clause-spans

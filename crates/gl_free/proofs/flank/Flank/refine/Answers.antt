@@ -3,7 +3,7 @@ use Rattle.std.proofs.lemmas.List.{get_or-take, length-take}
 use Rattle.gl_box.specs.Cell.{ends}
 use Rattle.gl_hull.specs.Near.{IsPlaceOf}
 use Rattle.gl_free.specs.declared.candidate.Candidate.{Candidate}
-use Rattle.gl_free.specs.Candidates.{IsAmong, IsCandidate, Sifts}
+use Rattle.gl_free.specs.Code.Candidates.{IsAmong, IsCandidate, Sifts}
 use Rattle.gl_free.proofs.SiftLemmas.{among-next, among-none, grown-at, sifts-empty, sifts-parts}
 use Rattle.gl_free.proofs.flank.Flank.refine.Goals as goal
 
@@ -15,7 +15,8 @@ loop-at-init c =
     let Q : List Candidate → Type 0 = λ new. Sifts c.args.hulls.now c.args.allowed.now middle c.args.need kind (take c.args.part.to old) new 0 (record { most = 0; inner = 0; end = 0 }) in
     record {
       flank = record { few = c.requires.flank.few; sized = c.requires.flank.sized; known = c.requires.flank.known };
-      sifts = subst Q (sym c.truncate.ensures.items) (sifts-empty c.args.hulls.now c.args.allowed.now middle c.args.need kind (take c.args.part.to old) (omega (arith, c.requires.middle.within)) (λ inner. among-none old c.args.part.from inner));
+      sifts = subst Q (sym c.truncate.ensures.items) (sifts-empty c.args.hulls.now c.args.allowed.now middle c.args.need kind (take c.args.part.to old) (omega (arith, c.requires.middle.within))
+          (λ inner. among-none old c.args.part.from inner));
     }
 
 pub index-candidate-requires : goal.index-candidate-requires
@@ -50,7 +51,8 @@ loop-at-preserved c =
     ∙ sym (grown-at fixes allowed middle front c.loop-at.self.candidates.items at candidate c.loop-at.invariant.sifts.grows below) ∙ sym c.index-candidate.ensures in
     record {
       flank = c.in_ok-sift.ensures.flank;
-      sifts = sifts-parts fixes allowed middle c.args.need (IsAmong (take (at + 1) old) from) (IsAmong (take at old) from) (IsPlaceOf (ends candidate.span)) front c.loop-at.self.candidates.items c.sift.new.self.candidates.items 0 c.loop-at.arm c.sift.new.arm
+      sifts = sifts-parts fixes allowed middle c.args.need (IsAmong (take (at + 1) old) from) (IsAmong (take at old) from)
+          (IsPlaceOf (ends candidate.span)) front c.loop-at.self.candidates.items c.sift.new.self.candidates.items 0 c.loop-at.arm c.sift.new.arm
           (λ inner among. among-next old at from inner candidate (omega (arith, c.requires.part.within)) there among)
           c.loop-at.invariant.sifts c.in_ok-sift.ensures.sifts;
     }
@@ -59,5 +61,6 @@ pub returns-clause-sifts : goal.returns-clause-sifts
 returns-clause-sifts c =
     let old = c.args.self.now.candidates.items in
     let done : c.loop-at.at ≡ c.args.part.to = omega (arith, c.loop-at.auto.at-end c.requires.part.ordered) in
-    let Q : ℕ → Type 0 = λ at. Sifts c.args.hulls.now c.args.allowed.now (ends c.args.middle.now.span) c.args.need (IsAmong (take at old) c.args.part.from) (take c.args.part.to old) c.loop-at.self.candidates.items 0 c.loop-at.arm in
+    let Q : ℕ → Type 0 = λ at. Sifts c.args.hulls.now c.args.allowed.now (ends c.args.middle.now.span) c.args.need (IsAmong (take at old) c.args.part.from)
+    (take c.args.part.to old) c.loop-at.self.candidates.items 0 c.loop-at.arm in
     subst Q done c.loop-at.invariant.sifts

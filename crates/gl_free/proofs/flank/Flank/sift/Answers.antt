@@ -13,7 +13,8 @@ returns-then-width-clause-sifts c =
     let span = c.args.candidate.span in
     let lower = c.halves.result.0 in
     let upper = c.halves.result.1 in
-    sifts-parts fixes allowed middle c.args.need (IsPlaceOf (ends span)) (IsPlaceOf (ends lower)) (IsPlaceOf (ends upper)) c.args.self.now.candidates.items c.put.new.self.candidates.items c.put-then-width.new.self.candidates.items c.args.arm.now.most c.put.new.arm c.put-then-width.new.arm
+    sifts-parts fixes allowed middle c.args.need (IsPlaceOf (ends span)) (IsPlaceOf (ends lower))
+    (IsPlaceOf (ends upper)) c.args.self.now.candidates.items c.put.new.self.candidates.items c.put-then-width.new.self.candidates.items c.args.arm.now.most c.put.new.arm c.put-then-width.new.arm
     (λ inner inside. halves-parts lower.lo lower.hi upper.lo upper.hi inner c.halves.ensures.next (omega (arith, inside.0, c.halves.ensures.first), omega (arith, inside.1, c.halves.ensures.last)))
     c.in_ok-put.ensures.sifts c.in_ok-put-2.ensures.sifts
 
@@ -25,7 +26,9 @@ returns-clause-sifts c =
     let old = c.args.candidate in
     let leg = c.leg_from.result in
     let candidate : Candidate = record { span = old.span; far = old.far; most = old.far.value + leg } in
-    let is = candidate-made fixes allowed middle candidate leg c.requires.candidate.within c.requires.candidate.some_end c.requires.candidate.farthest c.leg_from.ensures.most (omega arith) c.leg_from.ensures.bound in
-    sifts-kept fixes allowed middle c.args.need candidate c.args.self.now.candidates.items c.keep.new.self.candidates.items c.args.arm.now c.keep.new.arm c.args.middle.now.span.ordered c.requires.top is
+    let is = candidate-made fixes allowed middle candidate leg c.requires.candidate.within c.requires.candidate.some_end c.requires.candidate.farthest c.leg_from.ensures.most
+    (omega arith) c.leg_from.ensures.bound in
+    sifts-kept fixes allowed middle c.args.need candidate c.args.self.now.candidates.items c.keep.new.self.candidates.items c.args.arm.now c.keep.new.arm c.args.middle.now.span.ordered c.requires.top
+    is
     (exact-made fixes allowed middle candidate leg (λ past. grind (arith, c.is_out.ensures.1 past)) (omega arith) c.leg_from.ensures.most (omega arith))
     c.in_ok-keep.ensures.single c.in_ok-keep.ensures.wide c.keep.ensures.greater c.keep.ensures.not_greater

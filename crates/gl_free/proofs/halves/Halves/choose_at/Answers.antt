@@ -1,6 +1,6 @@
 use Rattle.std.proofs.Common.{◌≡◌, ◌∙◌, sym, subst, List}
 use Rattle.gl_igc.specs.declared.fix.Fix.{Fix}
-use Rattle.gl_free.specs.Halves.{AreLongest}
+use Rattle.gl_free.specs.Code.Halves.{AreLongest}
 use Rattle.gl_free.proofs.HalfLemmas.{over-chosen}
 use Rattle.gl_free.proofs.halves.Halves.choose_at.Goals as goal
 

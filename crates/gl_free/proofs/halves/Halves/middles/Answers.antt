@@ -1,6 +1,6 @@
 use Rattle.std.proofs.Common.{◌∙◌, ◌-◌, ap, sym, subst, length, Option, arith}
 use Rattle.gl_free.specs.declared.pair.Pair.{Pair}
-use Rattle.gl_free.specs.Search.{IsOver}
+use Rattle.gl_free.specs.Code.Search.{IsOver}
 use Rattle.gl_free.proofs.HalfLemmas.{done-all, done-next}
 use Rattle.gl_free.proofs.halves.Halves.middles.Goals as goal
 
@@ -20,4 +20,5 @@ loop-middle-preserved c =
 pub returns-clause-over : goal.returns-clause-over
 returns-clause-over c =
     let goal = c.args.goal.now in
-    done-all goal.hulls c.args.sides.now c.loop-middle.best.total c.loop-middle.middle c.requires.some (omega (arith, c.loop-middle-test.false, c.loop-middle.auto.middle-end, c.len-middle-end.ensures, ap length (c.hulls.ensures ∙ sym goal.hulled))) c.loop-middle.invariant.done
+    done-all goal.hulls c.args.sides.now c.loop-middle.best.total c.loop-middle.middle c.requires.some
+    (omega (arith, c.loop-middle-test.false, c.loop-middle.auto.middle-end, c.len-middle-end.ensures, ap length (c.hulls.ensures ∙ sym goal.hulled))) c.loop-middle.invariant.done

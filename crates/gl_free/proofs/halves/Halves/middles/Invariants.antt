@@ -1,7 +1,7 @@
 use Rattle.std.proofs.Common.{◌-◌, ◌≤◌, length}
 use Rattle.gl_goal.specs.FreeGoal.{rule_of}
-use Rattle.gl_free.specs.Halves.{AreAmong}
-use Rattle.gl_free.specs.Search.{IsValid}
+use Rattle.gl_free.specs.Code.Halves.{AreAmong}
+use Rattle.gl_free.specs.Code.Search.{IsValid}
 use Rattle.gl_free.proofs.HalfLemmas.{AreDone}
 use Rattle.gl_free.proofs.halves.Halves.middles.Given as goal
 

@@ -4,9 +4,9 @@ use Rattle.gl_igc.specs.declared.fix.Fix.{Fix}
 use Rattle.gl_goal.specs.FreeGoal.{rule_of}
 use Rattle.gl_free.specs.declared.arm.Part.{Part}
 use Rattle.gl_free.specs.declared.stop.Stop.TheVariants.{Done}
-use Rattle.gl_free.specs.Arms.{arm_length}
-use Rattle.gl_free.specs.Choices.{IsLow}
-use Rattle.gl_free.specs.Search.{IsHalted, IsNarrowed, IsValid}
+use Rattle.gl_free.specs.Code.Arms.{arm_length}
+use Rattle.gl_free.specs.Code.Choices.{IsLow}
+use Rattle.gl_free.specs.Code.Search.{IsHalted, IsNarrowed, IsValid}
 use Rattle.gl_free.proofs.SearchLemmas.{halted-after, halted-part, keeps-all, keeps-through, over-halves, over-single, ready-half, ready-narrowed}
 use Rattle.gl_free.proofs.search.Search.+middle.Goals as goal
 
@@ -16,10 +16,13 @@ returns-then-is_single-clause-halted t c =
     let arms = c.in-Some.arms in
     let middle = c.args.span.lo in
     let single : c.args.span.lo ≡ c.args.span.hi = c.is_single.ensures.0 c.if-is_single.true in
-    let P : List Fix → Type 0 = λ list. MatchOption c.choose.result (arm_length list middle arms.before.inner arms.before.end + arm_length list middle arms.after.inner arms.after.end ≤ c.choose.new.best.total) (IsLow list c.args.goal.now.loss arms.before.end arms.after.end) in
-    let over = over-single fixes c.args.sides.now (ends c.args.span) c.args.goal.now.loss c.narrow.new.self.best.total c.choose.new.best.total c.narrow.new.self c.args.before c.args.after arms c.choose.result single (omega arith) c.choose.ensures.raised (search rules)
+    let P : List Fix → Type 0 = λ list. MatchOption c.choose.result (arm_length list middle arms.before.inner arms.before.end + arm_length list middle arms.after.inner arms.after.end
+    ≤ c.choose.new.best.total) (IsLow list c.args.goal.now.loss arms.before.end arms.after.end) in
+    let over = over-single fixes c.args.sides.now (ends c.args.span) c.args.goal.now.loss c.narrow.new.self.best.total c.choose.new.best.total c.narrow.new.self c.args.before c.args.after arms
+    c.choose.result single (omega arith) c.choose.ensures.raised (search rules)
     (subst P (sym c.requires.same) c.choose.ensures.chosen) in
-    subst (IsHalted fixes c.args.sides.now (ends c.args.span) c.args.goal.now.loss c.choose.new.best.total) (sym c.after.ensures) (halted-after fixes c.args.sides.now (ends c.args.span) c.args.goal.now.loss c.choose.new.best.total c.choose.result over)
+    subst (IsHalted fixes c.args.sides.now (ends c.args.span) c.args.goal.now.loss c.choose.new.best.total) (sym c.after.ensures)
+    (halted-after fixes c.args.sides.now (ends c.args.span) c.args.goal.now.loss c.choose.new.best.total c.choose.result over)
 
 pub middle-requires : goal.middle-requires
 middle-requires t c =
@@ -35,10 +38,20 @@ middle-requires t c =
     let wide : c.args.span.lo < c.args.span.hi = grind (arith, c.is_single.ensures.1) in
     let to_before : c.len.result ≡ length kept.before.candidates.items = omega (arith, c.len.ensures, kept.before.candidates.ok.0) in
     let to_after : c.len-2.result ≡ length kept.after.candidates.items = omega (arith, c.len-2.ensures, kept.after.candidates.ok.0) in
-    let ready = ready-half fixes sides span (ends half) kept.best.total kept.best.total kept.before.candidates.items kept.before.candidates.items kept.after.candidates.items kept.after.candidates.items before after
-    (λ place inside. c.ordered.ensures.inside place (inl inside)) (omega arith) (keeps-all before kept.before.candidates.items (omega arith)) (keeps-all after kept.after.candidates.items (omega arith))
-    (ready-narrowed fixes sides span kept c.args.before c.args.after arms c.len.result c.len-2.result to_before to_after wide is) in
-    (search rules, (c.requires.same, (subst (IsValid (rule_of c.args.goal.now)) (sym c.narrow.ensures.best) c.requires.valid, (c.requires.sides, (omega (arith, c.ordered.ensures.one_in, c.requires.inside), (c.in_ok-arms.ensures.flanks, (ready.part_before, (ready.part_after, (ready.below, ready.among)))))))))
+    let ready = ready-half fixes sides span (ends half) kept.best.total kept.best.total kept.before.candidates.items kept.before.candidates.items kept.after.candidates.items
+    kept.after.candidates.items before after
+    (λ place inside. c.ordered.ensures.inside place (inl inside)) (omega arith) (keeps-all before kept.before.candidates.items (omega arith))
+    (keeps-all after kept.after.candidates.items (omega arith))
+    (ready-narrowed fixes sides span kept c.args.before c.args.after arms c.len.result c.len-2.result to_before to_after wide is) in (
+      search rules,
+      (
+        c.requires.same,
+        (
+          subst (IsValid (rule_of c.args.goal.now)) (sym c.narrow.ensures.best) c.requires.valid,
+          (c.requires.sides, (omega (arith, c.ordered.ensures.one_in, c.requires.inside), (c.in_ok-arms.ensures.flanks, (ready.part_before, (ready.part_after, (ready.below, ready.among)))))),
+        ),
+      ),
+    )
 
 pub middle-requires-2 : goal.middle-requires-2
 middle-requires-2 t c =
@@ -55,44 +68,63 @@ middle-requires-2 t c =
     let wide : c.args.span.lo < c.args.span.hi = grind (arith, c.is_single.ensures.1) in
     let to_before : c.len.result ≡ length kept.before.candidates.items = omega (arith, c.len.ensures, kept.before.candidates.ok.0) in
     let to_after : c.len-2.result ≡ length kept.after.candidates.items = omega (arith, c.len-2.ensures, kept.after.candidates.ok.0) in
-    let ready = ready-half fixes sides span (ends half) kept.best.total new.best.total kept.before.candidates.items new.before.candidates.items kept.after.candidates.items new.after.candidates.items before after
+    let ready = ready-half fixes sides span (ends half) kept.best.total new.best.total kept.before.candidates.items new.before.candidates.items kept.after.candidates.items new.after.candidates.items
+    before after
     (λ place inside. c.ordered.ensures.inside place (inr inside)) c.in_ok-stop.ensures.raised c.in_ok-stop.ensures.kept_before c.in_ok-stop.ensures.kept_after
-    (ready-narrowed fixes sides span kept c.args.before c.args.after arms c.len.result c.len-2.result to_before to_after wide is) in
-    (search rules, (c.requires.same, (c.in_ok-stop.ensures.valid, (c.requires.sides, (omega (arith, c.ordered.ensures.other_in, c.requires.inside), (c.in_ok-stop.ensures.flanks, (ready.part_before, (ready.part_after, (ready.below, ready.among)))))))))
+    (ready-narrowed fixes sides span kept c.args.before c.args.after arms c.len.result c.len-2.result to_before to_after wide is) in (
+      search rules,
+      (
+        c.requires.same,
+        (
+          c.in_ok-stop.ensures.valid,
+          (
+            c.requires.sides,
+            (omega (arith, c.ordered.ensures.other_in, c.requires.inside), (c.in_ok-stop.ensures.flanks, (ready.part_before, (ready.part_after, (ready.below, ready.among))))),
+          ),
+        ),
+      ),
+    )
 
 pub returns-then-not-is_done-clause-kept_before : goal.returns-then-not-is_done-clause-kept_before
 returns-then-not-is_done-clause-kept_before t c =
     let kept = c.narrow.new.self in
     let next : Part = record { from = c.args.before.to; to = c.len.result; most = c.in-Some.arms.before.most } in
     let first = c.in_ok-arms.ensures.kept_before in
-    keeps-through c.args.before next c.args.self.now.before.candidates.items kept.before.candidates.items c.middle.new.self.before.candidates.items (omega (arith, first.longer, c.len.ensures, kept.before.candidates.ok.0)) first c.in_ok-stop.ensures.kept_before
+    keeps-through c.args.before next c.args.self.now.before.candidates.items kept.before.candidates.items c.middle.new.self.before.candidates.items
+    (omega (arith, first.longer, c.len.ensures, kept.before.candidates.ok.0)) first c.in_ok-stop.ensures.kept_before
 
 pub returns-then-not-is_done-clause-kept_after : goal.returns-then-not-is_done-clause-kept_after
 returns-then-not-is_done-clause-kept_after t c =
     let kept = c.narrow.new.self in
     let next : Part = record { from = c.args.after.to; to = c.len-2.result; most = c.in-Some.arms.after.most } in
     let first = c.in_ok-arms.ensures.kept_after in
-    keeps-through c.args.after next c.args.self.now.after.candidates.items kept.after.candidates.items c.middle.new.self.after.candidates.items (omega (arith, first.longer, c.len-2.ensures, kept.after.candidates.ok.0)) first c.in_ok-stop.ensures.kept_after
+    keeps-through c.args.after next c.args.self.now.after.candidates.items kept.after.candidates.items c.middle.new.self.after.candidates.items
+    (omega (arith, first.longer, c.len-2.ensures, kept.after.candidates.ok.0)) first c.in_ok-stop.ensures.kept_after
 
 pub returns-clause-kept_before : goal.returns-clause-kept_before
 returns-clause-kept_before t c =
     let kept = c.narrow.new.self in
     let next : Part = record { from = c.args.before.to; to = c.len.result; most = c.in-Some.arms.before.most } in
     let first = c.in_ok-arms.ensures.kept_before in
-    let second = keeps-through c.args.before next c.args.self.now.before.candidates.items kept.before.candidates.items c.middle.new.self.before.candidates.items (omega (arith, first.longer, c.len.ensures, kept.before.candidates.ok.0)) first c.in_ok-stop.ensures.kept_before in
-    keeps-through c.args.before next c.args.self.now.before.candidates.items c.middle.new.self.before.candidates.items c.middle-2.new.self.before.candidates.items (omega (arith, first.longer, c.len.ensures, kept.before.candidates.ok.0)) second c.in_ok-stop-2.ensures.kept_before
+    let second = keeps-through c.args.before next c.args.self.now.before.candidates.items kept.before.candidates.items c.middle.new.self.before.candidates.items
+    (omega (arith, first.longer, c.len.ensures, kept.before.candidates.ok.0)) first c.in_ok-stop.ensures.kept_before in
+    keeps-through c.args.before next c.args.self.now.before.candidates.items c.middle.new.self.before.candidates.items c.middle-2.new.self.before.candidates.items
+    (omega (arith, first.longer, c.len.ensures, kept.before.candidates.ok.0)) second c.in_ok-stop-2.ensures.kept_before
 
 pub returns-clause-kept_after : goal.returns-clause-kept_after
 returns-clause-kept_after t c =
     let kept = c.narrow.new.self in
     let next : Part = record { from = c.args.after.to; to = c.len-2.result; most = c.in-Some.arms.after.most } in
     let first = c.in_ok-arms.ensures.kept_after in
-    let second = keeps-through c.args.after next c.args.self.now.after.candidates.items kept.after.candidates.items c.middle.new.self.after.candidates.items (omega (arith, first.longer, c.len-2.ensures, kept.after.candidates.ok.0)) first c.in_ok-stop.ensures.kept_after in
-    keeps-through c.args.after next c.args.self.now.after.candidates.items c.middle.new.self.after.candidates.items c.middle-2.new.self.after.candidates.items (omega (arith, first.longer, c.len-2.ensures, kept.after.candidates.ok.0)) second c.in_ok-stop-2.ensures.kept_after
+    let second = keeps-through c.args.after next c.args.self.now.after.candidates.items kept.after.candidates.items c.middle.new.self.after.candidates.items
+    (omega (arith, first.longer, c.len-2.ensures, kept.after.candidates.ok.0)) first c.in_ok-stop.ensures.kept_after in
+    keeps-through c.args.after next c.args.self.now.after.candidates.items c.middle.new.self.after.candidates.items c.middle-2.new.self.after.candidates.items
+    (omega (arith, first.longer, c.len-2.ensures, kept.after.candidates.ok.0)) second c.in_ok-stop-2.ensures.kept_after
 
 pub returns-then-not-is_done-clause-halted : goal.returns-then-not-is_done-clause-halted
 returns-then-not-is_done-clause-halted t c =
-    halted-part c.args.hulls.now c.args.sides.now (ends c.args.span) (ends c.ordered.result.0) c.args.goal.now.loss c.middle.new.self.best.total c.in_ok-stop.stop (λ done. grind (arith, c.is_done.ensures.1 done)) c.in_ok-stop.ensures.halted
+    halted-part c.args.hulls.now c.args.sides.now (ends c.args.span) (ends c.ordered.result.0) c.args.goal.now.loss c.middle.new.self.best.total c.in_ok-stop.stop
+    (λ done. grind (arith, c.is_done.ensures.1 done)) c.in_ok-stop.ensures.halted
 
 pub returns-clause-halted : goal.returns-clause-halted
 returns-clause-halted t c =
@@ -100,4 +132,6 @@ returns-clause-halted t c =
     let sides = c.args.sides.now in
     let done : c.in_ok-stop.stop ≡ Done = c.is_done.ensures.0 (search rules) in
     let none = subst (IsHalted fixes sides (ends c.ordered.result.0) c.args.goal.now.loss c.middle.new.self.best.total) done c.in_ok-stop.ensures.halted in
-    over-halves fixes sides (ends c.args.span) (ends c.ordered.result.0) (ends c.ordered.result.1) c.args.goal.now.loss c.middle.new.self.best.total c.middle-2.new.self.best.total c.in_ok-stop-2.stop c.ordered.ensures (omega (arith, c.in_ok-stop-2.ensures.raised)) none c.in_ok-stop-2.ensures.halted
+    over-halves fixes sides (ends c.args.span) (ends c.ordered.result.0)
+    (ends c.ordered.result.1) c.args.goal.now.loss c.middle.new.self.best.total c.middle-2.new.self.best.total c.in_ok-stop-2.stop c.ordered.ensures
+    (omega (arith, c.in_ok-stop-2.ensures.raised)) none c.in_ok-stop-2.ensures.halted

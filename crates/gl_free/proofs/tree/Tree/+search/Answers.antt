@@ -1,6 +1,6 @@
 use Rattle.std.proofs.Common.{inl, inr, ⊎_elim}
 use Rattle.gl_box.specs.Cell.{ends}
-use Rattle.gl_free.specs.Ways.{IsThere}
+use Rattle.gl_free.specs.Code.Ways.{IsThere}
 use Rattle.gl_free.proofs.WayLemmas.{beaten-above, lengthens-none, lengthens-parts, there-parts}
 use Rattle.gl_free.proofs.tree.Tree.+search.Goals as goal
 
@@ -16,7 +16,8 @@ returns-then-low-high t c =
     let numbers = c.args.by_place.now.numbers.items in
     let lower = ends c.halves.result.0 in
     let upper = ends c.halves.result.1 in
-    lengthens-parts c.args.hulls.now c.args.self.now.ways.items c.args.target.now (IsThere numbers (ends c.args.span)) (IsThere numbers upper) (IsThere numbers lower) c.args.found.now c.search.new.found c.search-then-low-high.new.found
+    lengthens-parts c.args.hulls.now c.args.self.now.ways.items c.args.target.now (IsThere numbers (ends c.args.span)) (IsThere numbers upper)
+    (IsThere numbers lower) c.args.found.now c.search.new.found c.search-then-low-high.new.found
     (λ from there. ⊎_elim (λ (low : IsThere numbers lower from). inr low) (λ (high : IsThere numbers upper from). inl high)
     (there-parts numbers (ends c.args.span) lower upper from c.halves.ensures.first c.halves.ensures.next c.halves.ensures.last there))
     c.search.ensures c.search-then-low-high.ensures
@@ -26,6 +27,7 @@ returns-else-low-high t c =
     let numbers = c.args.by_place.now.numbers.items in
     let lower = ends c.halves.result.0 in
     let upper = ends c.halves.result.1 in
-    lengthens-parts c.args.hulls.now c.args.self.now.ways.items c.args.target.now (IsThere numbers (ends c.args.span)) (IsThere numbers lower) (IsThere numbers upper) c.args.found.now c.search-else-low-high.new.found c.search-else-low-high-2.new.found
+    lengthens-parts c.args.hulls.now c.args.self.now.ways.items c.args.target.now (IsThere numbers (ends c.args.span)) (IsThere numbers lower)
+    (IsThere numbers upper) c.args.found.now c.search-else-low-high.new.found c.search-else-low-high-2.new.found
     (λ from there. there-parts numbers (ends c.args.span) lower upper from c.halves.ensures.first c.halves.ensures.next c.halves.ensures.last there)
     c.search-else-low-high.ensures c.search-else-low-high-2.ensures

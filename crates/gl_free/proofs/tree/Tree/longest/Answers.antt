@@ -14,4 +14,5 @@ returns-clause-found c =
 
 pub returns-clause-above : goal.returns-clause-above
 returns-clause-above c from way =
-    c.search.ensures.above from (all-there c.args.hulls.now c.args.by_place.now (0, c.len.result - 1) from c.requires.tree.order (omega arith) (omega (arith, c.len.ensures, c.requires.tree.some)) (omega (arith, way.within, c.requires.tree.long))) way
+    c.search.ensures.above from (all-there c.args.hulls.now c.args.by_place.now (0, c.len.result - 1) from c.requires.tree.order (omega arith) (omega (arith, c.len.ensures, c.requires.tree.some))
+    (omega (arith, way.within, c.requires.tree.long))) way

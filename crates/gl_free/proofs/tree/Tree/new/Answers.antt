@@ -1,6 +1,6 @@
 use Rattle.std.proofs.Common.{◌≡◌, ap, sym, subst, length, List, ℕ, slice_index_or, arith}
 use Rattle.std.specs.Prelude.{All}
-use Rattle.gl_free.specs.Ways.{IsBranch}
+use Rattle.gl_free.specs.Code.Ways.{IsBranch}
 use Rattle.gl_places.proofs.Orders.{numbers_below, numbers_long}
 use Rattle.gl_free.proofs.WayLemmas.{branches-unknown}
 use Rattle.gl_free.proofs.tree.Tree.new.Goals as goal
@@ -18,7 +18,16 @@ filled-branches-requires-clause-numbers c k d below =
     omega (arith, numbers, same, ap length c.deref-2.ensures.value, c.requires.long)
 
 pub filled-branches-requires-clause-sized : goal.filled-branches-requires-clause-sized
-filled-branches-requires-clause-sized c = omega (arith, c.in_ok-branches.ensures.len, c.in_ok-branches.branches.ok.0, c.len.ensures, c.args.ways.ok.0, c.requires.long, ap length c.deref.ensures.value, numbers_long c.args.hulls.now c.args.by_place.now c.requires.order)
+filled-branches-requires-clause-sized c = omega (
+  arith,
+  c.in_ok-branches.ensures.len,
+  c.in_ok-branches.branches.ok.0,
+  c.len.ensures,
+  c.args.ways.ok.0,
+  c.requires.long,
+  ap length c.deref.ensures.value,
+  numbers_long c.args.hulls.now c.args.by_place.now c.requires.order,
+)
 
 pub filled-branches-requires-clause-branches : goal.filled-branches-requires-clause-branches
 filled-branches-requires-clause-branches c =
@@ -27,7 +36,8 @@ filled-branches-requires-clause-branches c =
     let all = c.in_ok-branches.ensures.items_if_clones_equal (λ y same. same) in
     subst (λ (ns : List ℕ). All (IsBranch ns c.deref-2.result.now) c.in_ok-branches.branches.items) (sym c.deref.ensures.value)
     (subst (λ (ws : List ℕ). All (IsBranch by_place.numbers.items ws) c.in_ok-branches.branches.items) (sym c.deref-2.ensures.value)
-    (branches-unknown fixes by_place c.args.ways.items c.unknown.result _ c.in_ok-branches.branches.items c.requires.order c.requires.few c.requires.long c.requires.limited c.unknown.ensures.lo c.unknown.ensures.hi c.unknown.ensures.most all))
+    (branches-unknown fixes by_place c.args.ways.items c.unknown.result _ c.in_ok-branches.branches.items c.requires.order c.requires.few c.requires.long c.requires.limited c.unknown.ensures.lo
+    c.unknown.ensures.hi c.unknown.ensures.most all))
 
 pub returns-clause-tree : goal.returns-clause-tree
 returns-clause-tree c = record {

@@ -14,7 +14,8 @@ index-requires c = omega (arith, c.requires.inside, numbers_long c.args.hulls.no
 pub consider-requires-clause-from : goal.consider-requires-clause-from
 consider-requires-clause-from c =
     subst (λ (n : ℕ). n < length c.args.hulls.now) (sym c.index.ensures)
-    (numbers_below c.args.hulls.now c.args.by_place.now c.requires.tree.order c.loop-place.place c.index.result.now (omega (arith, c.requires.inside, numbers_long c.args.hulls.now c.args.by_place.now c.requires.tree.order)))
+    (numbers_below c.args.hulls.now c.args.by_place.now c.requires.tree.order c.loop-place.place c.index.result.now
+    (omega (arith, c.requires.inside, numbers_long c.args.hulls.now c.args.by_place.now c.requires.tree.order)))
 
 pub consider-requires-clause-known : goal.consider-requires-clause-known
 consider-requires-clause-known c = c.loop-place.invariant.known
@@ -27,4 +28,5 @@ loop-place-preserved c =
     (sym (c.index.ensures ∙ get_or_default numbers c.loop-place.place c.index.result.now 0 within)) c.loop-place.invariant c.consider.ensures
 
 pub returns : goal.returns
-returns c = scan-all c.args.hulls.now c.args.self.now.ways.items c.args.by_place.now.numbers.items c.args.target.now (ends c.args.span) c.loop-place.place c.args.found.now c.loop-place.found (omega arith) c.loop-place.invariant
+returns c = scan-all c.args.hulls.now c.args.self.now.ways.items c.args.by_place.now.numbers.items c.args.target.now (ends c.args.span) c.loop-place.place c.args.found.now c.loop-place.found
+    (omega arith) c.loop-place.invariant

@@ -1,4 +1,4 @@
-use Rattle.gl_free.specs.Ways.{Lengthens}
+use Rattle.gl_free.specs.Code.Ways.{Lengthens}
 use Rattle.gl_free.proofs.WayLemmas.{IsThereBelow}
 use Rattle.gl_free.proofs.tree.Tree.scan.Given as goal
 

@@ -1,4 +1,4 @@
-use Rattle.gl_goal.specs.Laws.Area.{area_goal-is_goal}
+use Rattle.gl_goal.specs.Lemmas.Area.{area_goal-is_goal}
 use Rattle.gl_goal.proofs.Listed.{made-lists}
 use Rattle.gl_goal.proofs.area.AreaGoal.new.Goals as goal
 

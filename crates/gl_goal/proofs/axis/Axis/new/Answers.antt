@@ -9,4 +9,5 @@ new-requires-clause-most c =
 
 pub returns-clause-hulled : goal.returns-clause-hulled
 returns-clause-hulled c =
-    c.in_ok-new.ensures.ok ∙ filter_map-found (slice_get c.args.fixes.now) c.args.numbers.items c.in_ok-hulls.hulls (c.in_ok-hulls.ensures ∙ ap (λ numbers. map (slice_get c.args.fixes.now) numbers) c.as_slice.ensures.value)
+    c.in_ok-new.ensures.ok ∙ filter_map-found (slice_get c.args.fixes.now) c.args.numbers.items c.in_ok-hulls.hulls (c.in_ok-hulls.ensures
+    ∙ ap (λ numbers. map (slice_get c.args.fixes.now) numbers) c.as_slice.ensures.value)

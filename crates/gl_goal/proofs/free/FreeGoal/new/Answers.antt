@@ -5,7 +5,7 @@ use Rattle.gl_igc.specs.declared.fix.Fix.{Fix}
 use Rattle.gl_goal.specs.Chain.{fixes_at}
 use Rattle.gl_goal.specs.Free.{numbers_between}
 use Rattle.gl_goal.specs.Lists.{AreNamed}
-use Rattle.gl_goal.specs.Laws.Free.{free_goal-is_goal, length-numbers_between, numbers_between-named}
+use Rattle.gl_goal.specs.Lemmas.Free.{free_goal-is_goal, length-numbers_between, numbers_between-named}
 use Rattle.gl_goal.proofs.FreeLosses.{filter_map-found, stay_legal}
 use Rattle.gl_goal.proofs.free.FreeGoal.new.Goals as goal
 use Rattle.gl_goal.proofs.free.FreeGoal.new.Goals.{After-as_slice}
@@ -43,4 +43,5 @@ returns-clause-well_formed c =
 pub returns-clause-legal : goal.returns-clause-legal
 returns-clause-legal c =
     let low : pos 0 ≤ℤ to_z w32 (of_z w32 c.args.loss) = omega (arith, ints) in
-    stay_legal c.in_ok-from_slice.field-0.items c.args.first c.args.last (to_z w32 (of_z w32 c.args.loss)) (omega (arith, c.requires.order, c.requires.within, ap length c.in_ok-from_slice.ensures.items)) low
+    stay_legal c.in_ok-from_slice.field-0.items c.args.first c.args.last (to_z w32 (of_z w32 c.args.loss))
+    (omega (arith, c.requires.order, c.requires.within, ap length c.in_ok-from_slice.ensures.items)) low

@@ -44,5 +44,6 @@ unfolding free_goal
 returns-clause-bound c =
     let g = c.args.self.now in
     let cell = c.args.cell.now in
-    let hulls = hulls_of-five g cell c.index-cell-0.result c.index-cell-1.result c.index-cell-2.result c.index-cell-3.result c.index-cell-4.result _ _ _ _ _ c.requires.covers refl refl refl refl refl in
+    let hulls = hulls_of-five g cell c.index-cell-0.result c.index-cell-1.result c.index-cell-2.result c.index-cell-3.result c.index-cell-4.result _ _ _ _ _ c.requires.covers refl refl refl refl refl
+    in
     four_legs _ _ _ _ _ _ _ _ c.most_by-first.ensures.value c.most_by-second.ensures.value c.most_by-third.ensures.value c.most_by-fourth.ensures.value ∙ ap greatest_legs hulls

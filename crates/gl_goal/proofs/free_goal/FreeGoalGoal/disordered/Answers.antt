@@ -13,7 +13,8 @@ loop-span-preserved c =
     let g = c.args.self.now in
     let cell = c.args.cell.now in
     let at = five-item g.first g.last cell c.loop-span.span-index c.span-item.result c.requires (omega (arith, length-five cell)) c.span-item.is in
-    seen_more (begins (spans_of cell)) (closes (spans_of cell)) c.loop-span.span-index c.loop-span.latest c.span-item.result.lo c.span-item.result.hi c.max-latest.result c.loop-span.invariant (ap (λ (s : ℕ × ℕ). s.0) at) (ap (λ (s : ℕ × ℕ). s.1) at) c.if-span-latest.false c.max-latest.ensures
+    seen_more (begins (spans_of cell)) (closes (spans_of cell)) c.loop-span.span-index c.loop-span.latest c.span-item.result.lo c.span-item.result.hi c.max-latest.result c.loop-span.invariant
+    (ap (λ (s : ℕ × ℕ). s.0) at) (ap (λ (s : ℕ × ℕ). s.1) at) c.if-span-latest.false c.max-latest.ensures
 
 pub returns-then-span-latest : goal.returns-then-span-latest
 unfolding free_goal
@@ -23,7 +24,8 @@ returns-then-span-latest c =
     let below : c.loop-span.span-index < 5 = omega (arith, length-five cell) in
     let at = five-item g.first g.last cell c.loop-span.span-index c.span-item.result c.requires below c.span-item.is in
     let past : (span_at (spans_of cell) c.loop-span.span-index).1 < c.loop-span.latest = omega (arith, ap (λ (s : ℕ × ℕ). s.1) at) in (
-      λ _. five_past g.first g.last (spans_of cell) c.loop-span.span-index c.loop-span.latest c.loop-span.invariant below past (λ k under. five-span_within g.first g.last cell k c.requires under) (λ k under. five-lo_within g.first g.last cell k c.requires under),
+      λ _. five_past g.first g.last (spans_of cell) c.loop-span.span-index c.loop-span.latest c.loop-span.invariant below past (λ k under. five-span_within g.first g.last cell k c.requires under)
+          (λ k under. five-lo_within g.first g.last cell k c.requires under),
       λ _. refl,
     )
 
@@ -34,5 +36,6 @@ returns c =
     let cell = c.args.cell.now in
     let all : 5 ≤ c.loop-span.span-index = omega (arith, length-five cell) in (
       λ none. absurd (cc),
-      λ disordered. absurd (five_seen g.first g.last (spans_of cell) c.loop-span.span-index c.loop-span.latest c.loop-span.invariant all (λ k under. five-span_within g.first g.last cell k c.requires under) (λ k under. five-lo_within g.first g.last cell k c.requires under) disordered),
+      λ disordered. absurd (five_seen g.first g.last (spans_of cell) c.loop-span.span-index c.loop-span.latest c.loop-span.invariant all
+          (λ k under. five-span_within g.first g.last cell k c.requires under) (λ k under. five-lo_within g.first g.last cell k c.requires under) disordered),
     )

@@ -1,6 +1,6 @@
 use Rattle.std.proofs.Common.{◌∙◌, suc, ◌-◌, ◌<◌, length, ap, sym, arith}
 use Rattle.gl_goal.specs.Free.{free_goal}
-use Rattle.gl_goal.specs.Laws.Free.{length-numbers_between}
+use Rattle.gl_goal.specs.Lemmas.Free.{length-numbers_between}
 use Rattle.gl_goal.proofs.Fives.{five_axis, five-fix_at}
 use Rattle.gl_goal.proofs.free_goal.FreeGoalGoal.fix.Goals as goal
 

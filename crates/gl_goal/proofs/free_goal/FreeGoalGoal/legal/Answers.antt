@@ -10,7 +10,8 @@ pub returns-then-are_in_order : goal.returns-then-are_in_order
 unfolding free_goal
 returns-then-are_in_order c =
     let g = c.args.self.now in
-    let by_loss = legal-by_loss g (places_of c.args.tuple.now) c.numbers-numbers.result c.at.result.now c.at-then-are_in_order.result.now c.requires c.numbers-numbers.ensures.chosen (c.are_in_order.ensures.0 c.if-are_in_order.true) c.at.ensures c.at-then-are_in_order.ensures in
+    let by_loss = legal-by_loss g (places_of c.args.tuple.now) c.numbers-numbers.result c.at.result.now c.at-then-are_in_order.result.now c.requires c.numbers-numbers.ensures.chosen
+    (c.are_in_order.ensures.0 c.if-are_in_order.true) c.at.ensures c.at-then-are_in_order.ensures in
     let fits : FitsSigned w32 c.loss.result = search rules in
     let limit : FitsSigned w32 g.loss = search rules in
     let same = to_z-of_z w32 c.loss.result fits ∙ c.loss.ensures in

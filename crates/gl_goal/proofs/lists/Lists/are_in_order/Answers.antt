@@ -1,7 +1,7 @@
 use Rattle.std.proofs.Common.{◌<◌, length, refl, arith}
 use Rattle.gl_box.specs.Tuple.{places_of}
-use Rattle.gl_goal.specs.Rule.{chosen}
-use Rattle.gl_goal.specs.Laws.Order.{length-chosen}
+use Rattle.gl_goal.specs.Goal.{chosen}
+use Rattle.gl_goal.specs.Lemmas.Points.{length-chosen}
 use Rattle.gl_goal.proofs.Listed.{chosen-at, order_broken, order_more, order_whole, place-within}
 use Rattle.gl_goal.proofs.lists.Lists.are_in_order.Goals as goal
 
@@ -13,8 +13,11 @@ pub returns-then-number-before : goal.returns-then-number-before
 returns-then-number-before c =
     let lists = c.args.self.now.lists in
     let below : c.loop-axis.axis < length lists = omega (arith, c.count-axis-end.ensures.count) in
-    let next = chosen-at lists c.args.tuple.now c.loop-axis.axis c.number-number.result c.requires below c.number-number.ensures.value in
-    (λ no. absurd (cc), λ order. absurd (order_broken (chosen lists (places_of c.args.tuple.now)) _ c.loop-axis.axis c.loop-axis.before c.number-number.result next c.if-number-before.true c.loop-axis.invariant order))
+    let next = chosen-at lists c.args.tuple.now c.loop-axis.axis c.number-number.result c.requires below c.number-number.ensures.value in (
+      λ no. absurd (cc),
+      λ order. absurd (order_broken (chosen lists (places_of c.args.tuple.now)) _ c.loop-axis.axis c.loop-axis.before c.number-number.result next c.if-number-before.true
+          c.loop-axis.invariant order),
+    )
 
 pub loop-axis-preserved : goal.loop-axis-preserved
 loop-axis-preserved c =
@@ -25,5 +28,8 @@ loop-axis-preserved c =
 
 pub returns : goal.returns
 returns c =
-    let numbers = chosen c.args.self.now.lists (places_of c.args.tuple.now) in
-    (λ yes. order_whole numbers c.loop-axis.axis c.loop-axis.before (omega (arith, c.count-axis-end.ensures.count, length-chosen c.args.self.now.lists (places_of c.args.tuple.now) c.requires)) c.loop-axis.invariant, λ order. refl)
+    let numbers = chosen c.args.self.now.lists (places_of c.args.tuple.now) in (
+      λ yes. order_whole numbers c.loop-axis.axis c.loop-axis.before (omega (arith, c.count-axis-end.ensures.count, length-chosen c.args.self.now.lists (places_of c.args.tuple.now) c.requires))
+          c.loop-axis.invariant,
+      λ order. refl,
+    )

@@ -1,5 +1,5 @@
 use Rattle.gl_box.specs.Tuple.{places_of}
-use Rattle.gl_goal.specs.Rule.{chosen}
+use Rattle.gl_goal.specs.Goal.{chosen}
 use Rattle.gl_goal.proofs.Listed.{IsSameOrder}
 use Rattle.gl_goal.proofs.lists.Lists.are_in_order.Given as goal
 

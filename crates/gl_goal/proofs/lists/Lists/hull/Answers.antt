@@ -2,13 +2,14 @@ use Rattle.std.proofs.Common.{◌∙◌, ap, length, List, get_or, arith}
 use Rattle.gl_igc.specs.declared.fix.Fix.{Fix}
 use Rattle.gl_box.specs.Cell.{ends}
 use Rattle.gl_hull.specs.Box.{fixes_in, hull_of}
-use Rattle.gl_goal.specs.Lists.{Listed}
+use Rattle.gl_goal.specs.Code.Lists.{Listed}
 use Rattle.gl_goal.proofs.Listed.{hull-at, hull-within}
 use Rattle.gl_goal.proofs.lists.Lists.hull.Goals as goal
 
 pub hull-requires : goal.hull-requires
 hull-requires c =
-    let within = hull-within _ _ _ c.args.cell.now c.args.axis c.index-cell-axis.result c.index.result.now c.self.invariant (ap (λ (l : Listed). l.lists) c.self.view_is) c.index.ensures c.requires.covers c.requires.axis_in in
+    let within = hull-within _ _ _ c.args.cell.now c.args.axis c.index-cell-axis.result c.index.result.now c.self.invariant
+    (ap (λ (l : Listed). l.lists) c.self.view_is) c.index.ensures c.requires.covers c.requires.axis_in in
     omega (arith, within, ap length c.deref.ensures)
 
 pub returns : goal.returns

@@ -1,4 +1,4 @@
-use Rattle.gl_goal.specs.Hulled.{lists_of}
+use Rattle.gl_goal.specs.Code.Lists.{lists_of}
 use Rattle.gl_goal.proofs.Listed.{hulled-more, item-listed, item-taken}
 use Rattle.gl_goal.proofs.lists.Lists.new.Goals as goal
 
@@ -18,6 +18,7 @@ pub loop-numbers-preserved : goal.loop-numbers-preserved
 loop-numbers-preserved c = (
   tt,
   tt,
-  item-taken (λ list. list.items) c.loop-numbers.axes.items _ c.in_ok-new.field-0 _ _ c.in-Some.numbers _ c.in_ok-push.ensures.items c.in_ok-new.ensures.numbers c.loop-numbers.invariant.2 c.in-Some.ensures.steps.0,
+  item-taken (λ list. list.items) c.loop-numbers.axes.items _ c.in_ok-new.field-0 _ _ c.in-Some.numbers _ c.in_ok-push.ensures.items c.in_ok-new.ensures.numbers c.loop-numbers.invariant.2
+      c.in-Some.ensures.steps.0,
   hulled-more c.args.fixes.now c.loop-numbers.axes.items _ c.in_ok-new.field-0 c.in_ok-push.ensures.items c.loop-numbers.invariant.3 c.in_ok-new.ensures.hulled,
 )

@@ -1,7 +1,7 @@
 use Rattle.std.proofs.Common.{◌≡◌, ◌++◌, map}
 use Rattle.std.specs.Prelude.{All}
 use Rattle.std.specs.Vec.Iter.{into_iter_items}
-use Rattle.gl_goal.specs.Hulled.{IsHulled, lists_of}
+use Rattle.gl_goal.specs.Code.Lists.{IsHulled, lists_of}
 use Rattle.gl_goal.proofs.lists.Lists.new.Given as goal
 
 abbrev pub invariant-loop-numbers : goal.invariant-loop-numbers

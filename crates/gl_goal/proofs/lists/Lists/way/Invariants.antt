@@ -1,6 +1,6 @@
 use Rattle.gl_box.specs.Tuple.{places_of}
 use Rattle.gl_goal.specs.Chain.{fixes_at, points_of}
-use Rattle.gl_goal.specs.Rule.{chosen}
+use Rattle.gl_goal.specs.Goal.{chosen}
 use Rattle.gl_goal.proofs.Listed.{IsWay}
 use Rattle.gl_goal.proofs.lists.Lists.way.Given as goal
 

@@ -1,4 +1,4 @@
-use Rattle.gl_goal.specs.Laws.Out.{out_goal-is_goal}
+use Rattle.gl_goal.specs.Lemmas.Out.{out_goal-is_goal}
 use Rattle.gl_goal.proofs.Listed.{made-lists}
 use Rattle.gl_goal.proofs.outlanding.OutGoal.new.Goals as goal
 

@@ -3,7 +3,7 @@ use Rattle.std.specs.Prelude.{◌&&◌, slice_index}
 use Rattle.gl_box.specs.Tuple.{places_of}
 use Rattle.gl_goal.specs.Chain.{distance, fixes_at, points_of}
 use Rattle.gl_goal.specs.Fair.{is_fair}
-use Rattle.gl_goal.specs.Rule.{chosen}
+use Rattle.gl_goal.specs.Goal.{chosen}
 use Rattle.gl_goal.specs.Free.{fixes_between}
 use Rattle.gl_goal.specs.Triangle.{around, closes, triangle_goal}
 use Rattle.gl_goal.proofs.Triangles.{place-in, place-is}

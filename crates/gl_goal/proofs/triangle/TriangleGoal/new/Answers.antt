@@ -1,8 +1,8 @@
 use Rattle.std.proofs.Common.{◌∙◌, ap, subst, [], length, List, get_or, arith}
 use Rattle.gl_igc.specs.declared.fix.Fix.{Fix}
 use Rattle.gl_goal.specs.Chain.{fixes_at}
-use Rattle.gl_goal.specs.Reach.{AreReaches}
-use Rattle.gl_goal.specs.Laws.Triangle.{triangle_goal-is_goal}
+use Rattle.gl_goal.specs.Code.Round.{AreReaches}
+use Rattle.gl_goal.specs.Lemmas.Triangle.{triangle_goal-is_goal}
 use Rattle.gl_goal.specs.Free.{fixes_between}
 use Rattle.gl_goal.proofs.Triangles.{length-between, tell_reach}
 use Rattle.gl_goal.proofs.triangle.TriangleGoal.new.Goals as goal
@@ -11,7 +11,13 @@ pub reaches-requires-clause-most : goal.reaches-requires-clause-most
 reaches-requires-clause-most c =
     let lists = c.in_ok-lists.lists in
     let are = c.hulls.ensures ∙ ap (λ all. fixes_at lists.fixes (get_or all 0 [])) c.in_ok-lists.ensures.lists in
-    omega (arith, ap length are, length-between lists.fixes c.args.first c.args.last c.requires.order (omega (arith, c.requires.within, ap length c.in_ok-lists.ensures.fixes)), c.requires.within, c.requires.most)
+    omega (
+      arith,
+      ap length are,
+      length-between lists.fixes c.args.first c.args.last c.requires.order (omega (arith, c.requires.within, ap length c.in_ok-lists.ensures.fixes)),
+      c.requires.within,
+      c.requires.most,
+    )
 
 pub invariant_of-result : goal.invariant_of-result
 invariant_of-result c =

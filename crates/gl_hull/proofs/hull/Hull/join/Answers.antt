@@ -9,13 +9,15 @@ alt_lo-is : (c : After-max) → to_z w32 (of_z w32 c.min.result) ≡ int_min c.a
 alt_lo-is c =
     let one = c.args.self.now in
     let other = c.args.other.now in
-    lower-kept one.alt_lo other.alt_lo c.min.result (altitude-within _ _ one.lowest one.alt_ordered one.highest).0 (altitude-within _ _ other.lowest other.alt_ordered other.highest).0 c.min.ensures.value
+    lower-kept one.alt_lo other.alt_lo c.min.result (altitude-within _ _ one.lowest one.alt_ordered one.highest).0
+    (altitude-within _ _ other.lowest other.alt_ordered other.highest).0 c.min.ensures.value
 
 alt_hi-is : (c : After-max) → to_z w32 (of_z w32 c.max.result) ≡ int_max c.args.self.now.alt_hi c.args.other.now.alt_hi
 alt_hi-is c =
     let one = c.args.self.now in
     let other = c.args.other.now in
-    higher-kept one.alt_hi other.alt_hi c.max.result (altitude-within _ _ one.lowest one.alt_ordered one.highest).1 (altitude-within _ _ other.lowest other.alt_ordered other.highest).1 c.max.ensures.value
+    higher-kept one.alt_hi other.alt_hi c.max.result (altitude-within _ _ one.lowest one.alt_ordered one.highest).1
+    (altitude-within _ _ other.lowest other.alt_ordered other.highest).1 c.max.ensures.value
 
 pub invariant_of-result : goal.invariant_of-result
 invariant_of-result c =

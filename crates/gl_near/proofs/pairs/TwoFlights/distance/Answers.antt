@@ -1,6 +1,6 @@
 use Rattle.std.proofs.Common.{◌∙◌, sym}
 use Rattle.std.proofs.lemmas.Bool.{false≢true}
-use Rattle.gl_near.specs.Laws.Pairs.{together_near}
+use Rattle.gl_near.proofs.PairsLemmas.{together_near}
 use Rattle.gl_near.proofs.pairs.TwoFlights.distance.Goals as goal
 
 pub returns : goal.returns

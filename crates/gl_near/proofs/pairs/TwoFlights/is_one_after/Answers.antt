@@ -1,6 +1,6 @@
 use Rattle.std.proofs.Common.{arith, rules, FitsSigned, w32}
 use Rattle.std.proofs.lemmas.Int.{ints}
-use Rattle.gl_near.specs.Laws.Pairs.{after_seconds}
+use Rattle.gl_near.proofs.PairsLemmas.{after_seconds}
 use Rattle.gl_near.proofs.pairs.TwoFlights.is_one_after.Goals as goal
 
 pub returns : goal.returns

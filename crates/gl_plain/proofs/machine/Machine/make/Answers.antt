@@ -4,7 +4,7 @@ use Rattle.gl_plain.specs.declared.machine.Machine.{Machine}
 use Rattle.gl_plain.specs.declared.schedule.Step.{Step}
 use Rattle.gl_plain.specs.declared.worker.Worker.{Worker}
 use Rattle.gl_plain.specs.Machine.{Acts, Closes, Looks, Moves, Splits, State, Steals, Takes}
-use Rattle.gl_plain.specs.Workers.{AreCovered, state_of, workers_of}
+use Rattle.gl_plain.specs.Code.Workers.{AreCovered, state_of, workers_of}
 use Rattle.gl_plain.proofs.Turns.{raise_stays, safe_covered, shown_moves}
 use Rattle.gl_plain.proofs.machine.Machine.make.Goals as goal
 
@@ -52,7 +52,8 @@ returns-in_ok-split-in-Split g c =
     let long : length c.split.new.workers ≡ before.workers.len = omega (arith, c.split.auto.workers, ap length c.deref_mut-in-Split.ensures.value, before.workers.ok.0) in
     subst (λ (ws : List Worker). Moves rule c.args.step (state_of before) (after before ws)) (sym (with_items_is before.workers c.split.new.workers long))
     (subst (λ (step : Step). Moves rule step (state_of before) (after before c.split.new.workers)) (sym c.in-Split.is)
-    (shown_moves (Acts Splits c.in-Split.worker) before.workers.items c.deref_mut-in-Split.result.now c.split.new.workers before.word c.deref_mut-in-Split.ensures.value c.in_ok-split-in-Split.ensures))
+    (shown_moves (Acts Splits c.in-Split.worker) before.workers.items c.deref_mut-in-Split.result.now c.split.new.workers before.word c.deref_mut-in-Split.ensures.value
+    c.in_ok-split-in-Split.ensures))
 
 pub returns-in_ok-close-in-Close : goal.returns-in_ok-close-in-Close
 unfolding after
@@ -62,7 +63,8 @@ returns-in_ok-close-in-Close g c =
     let long : length c.close.new.workers ≡ before.workers.len = omega (arith, c.close.auto.workers, ap length c.deref_mut-in-Close.ensures.value, before.workers.ok.0) in
     subst (λ (ws : List Worker). Moves rule c.args.step (state_of before) (after before ws)) (sym (with_items_is before.workers c.close.new.workers long))
     (subst (λ (step : Step). Moves rule step (state_of before) (after before c.close.new.workers)) (sym c.in-Close.is)
-    (shown_moves (Acts (Closes rule) c.in-Close.worker) before.workers.items c.deref_mut-in-Close.result.now c.close.new.workers before.word c.deref_mut-in-Close.ensures.value c.in_ok-close-in-Close.ensures))
+    (shown_moves (Acts (Closes rule) c.in-Close.worker) before.workers.items c.deref_mut-in-Close.result.now c.close.new.workers before.word c.deref_mut-in-Close.ensures.value
+    c.in_ok-close-in-Close.ensures))
 
 pub returns-in-Look : goal.returns-in-Look
 unfolding after
@@ -72,7 +74,8 @@ returns-in-Look g c =
     let long : length c.look.new.workers ≡ before.workers.len = omega (arith, c.look.auto.workers, ap length c.deref_mut-in-Look.ensures.value, before.workers.ok.0) in
     subst (λ (ws : List Worker). Moves rule c.args.step (state_of before) (after before ws)) (sym (with_items_is before.workers c.look.new.workers long))
     (subst (λ (step : Step). Moves rule step (state_of before) (after before c.look.new.workers)) (sym c.in-Look.is)
-    (shown_moves (Acts (Looks c.args.self.now.word) c.in-Look.worker) before.workers.items c.deref_mut-in-Look.result.now c.look.new.workers before.word c.deref_mut-in-Look.ensures.value c.look.ensures))
+    (shown_moves (Acts (Looks c.args.self.now.word) c.in-Look.worker) before.workers.items c.deref_mut-in-Look.result.now c.look.new.workers before.word c.deref_mut-in-Look.ensures.value
+    c.look.ensures))
 
 pub returns-in_default : goal.returns-in_default
 unfolding after

@@ -1,9 +1,9 @@
 use Rattle.std.proofs.Common.{ℕ, ◌≡◌, ◌∙◌, ap, List, [], ◌∷◌, ◌++◌, ◌-◌, replicate, arith}
 use Rattle.std.specs.Prelude.{None}
-use Rattle.gl_goal.specs.Rule.{whole_cell}
+use Rattle.gl_goal.specs.Goal.{whole_cell}
 use Rattle.gl_plain.specs.declared.worker.Worker as code
 use Rattle.gl_plain.specs.Machine.{Worker, idle}
-use Rattle.gl_plain.specs.Workers.{worker_of, workers_of}
+use Rattle.gl_plain.specs.Code.Workers.{worker_of, workers_of}
 use Rattle.gl_plain.proofs.Turns.{first_worker, more_idle, one_worker}
 use Rattle.gl_plain.proofs.machine.Machine.new.Goals as goal
 
@@ -12,7 +12,8 @@ loop-init g c =
     let first : code.Worker = record c.new-first.result { deque = c.push_back.new.self } in
     let list : c.push.new.self.items ≡ first ∷ [] = c.in_ok-push.ensures.items ∙ ap (λ (ws : List code.Worker). ws ++ first ∷ []) c.new-list.ensures.items in
     let whole = whole_cell (g.G.Goal.rule c.args.goal.now).axes in
-    let plain : worker_of first ≡ record idle { deque = whole ∷ [] } = first_worker c.new-first.result c.push_back.new.self c.whole.result whole c.new-first.ensures c.in_ok-push_back.ensures.items c.whole.ensures in
+    let plain : worker_of first ≡ record idle { deque = whole ∷ [] } = first_worker c.new-first.result c.push_back.new.self c.whole.result whole c.new-first.ensures c.in_ok-push_back.ensures.items
+    c.whole.ensures in
     one_worker c.push.new.self.items first (record idle { deque = whole ∷ [] }) list plain
 
 pub loop-preserved : goal.loop-preserved

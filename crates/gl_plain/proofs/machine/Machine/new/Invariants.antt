@@ -1,7 +1,7 @@
 use Rattle.std.proofs.Common.{◌≡◌, ◌-◌, [], ◌∷◌, replicate}
-use Rattle.gl_goal.specs.Rule.{whole_cell}
+use Rattle.gl_goal.specs.Goal.{whole_cell}
 use Rattle.gl_plain.specs.Machine.{idle}
-use Rattle.gl_plain.specs.Workers.{workers_of}
+use Rattle.gl_plain.specs.Code.Workers.{workers_of}
 use Rattle.gl_plain.proofs.machine.Machine.new.Given as goal
 
 -- so many workers so far

@@ -1,7 +1,7 @@
 use Rattle.std.proofs.Common.{drop}
 use Rattle.gl_plain.specs.Machine.{Runs, State}
 use Rattle.gl_plain.specs.Safe.{IsSafe}
-use Rattle.gl_plain.specs.Workers.{state_of}
+use Rattle.gl_plain.specs.Code.Workers.{state_of}
 use Rattle.gl_plain.proofs.machine.Machine.run.Given as goal
 
 -- the machine is safe, and where the other steps lead from here, all steps lead from the beginning

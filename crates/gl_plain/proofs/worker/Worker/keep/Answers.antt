@@ -4,8 +4,8 @@ use Rattle.std.proofs.lemmas.Bool.{false≢true}
 use Rattle.gl_box.specs.declared.cell.Cell.{Cell}
 use Rattle.gl_box.specs.Cell.{Covers, spans_of}
 use Rattle.gl_box.specs.Tuple.{places_of}
-use Rattle.gl_goal.specs.Rule.{whole_cell}
-use Rattle.gl_plain.specs.Workers.{worker_of}
+use Rattle.gl_goal.specs.Goal.{whole_cell}
+use Rattle.gl_plain.specs.Code.Workers.{worker_of}
 use Rattle.gl_plain.proofs.Kept.{illegal_not_kept, keeps_made, less_not_kept, several_not_kept}
 use Rattle.gl_plain.proofs.Places.{lowest_tuple, tuple_along}
 use Rattle.gl_plain.proofs.worker.Worker.keep.Goals as goal
@@ -40,6 +40,7 @@ returns g c =
     let worker = worker_of c.args.self.now in
     let total = c.value-total.result in
     let places = places_of c.lowest-tuple.result in
-    keeps_made (g.G.Goal.rule c.args.goal.now) c.args.self.now _ c.in_ok-cell.cell c.lowest-tuple.result total c.split.result c.in_ok-cell.was c.split.ensures.single.0 (sym c.if-is_some.ensures) c.lowest-tuple.ensures
+    keeps_made (g.G.Goal.rule c.args.goal.now) c.args.self.now _ c.in_ok-cell.cell c.lowest-tuple.result total c.split.result c.in_ok-cell.was c.split.ensures.single.0
+    (sym c.if-is_some.ensures) c.lowest-tuple.ensures
     (c.legal.ensures.0 c.if-not-legal.false) c.value-total.ensures (c.beats.ensures.0 c.if-not-beats.false)
     (ap (λ (seen : Option ℕ). record worker { seen = seen; kept = Some (total, places) }) c.greater-self.ensures)

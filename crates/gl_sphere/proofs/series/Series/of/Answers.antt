@@ -2,7 +2,7 @@ use Rattle.std.proofs.Common.{◌≡◌, ℕ, ◌*◌, ◌/◌, pos, sym, ap, �
 use Rattle.std.specs.Prelude.{unsigned_abs}
 use Rattle.std.proofs.lemmas.Int.{to_z-of_z}
 use Rattle.gl_sphere.specs.Sine.{half_turn_sine, radians}
-use Rattle.gl_sphere.specs.Laws.Series.{sine_term-first, sine_sum-first}
+use Rattle.gl_sphere.specs.Lemmas.Series.{sine_term-first, sine_sum-first}
 use Rattle.gl_sphere.proofs.series.Series.of.Goals as goal
 
 radians-is : (n x : ℕ) → x ≡ n * 31415926535897932 / 1080000000 → x ≡ radians n

@@ -1,6 +1,6 @@
 use Rattle.std.proofs.Common.{◌∙◌, refl}
 use Rattle.gl_sphere.specs.Sine.{radians}
-use Rattle.gl_sphere.specs.Laws.Series.{quarter_sine-sum}
+use Rattle.gl_sphere.specs.Lemmas.Series.{quarter_sine-sum}
 use Rattle.gl_sphere.proofs.series.Series.sine.Goals as goal
 
 pub returns-clause-value : goal.returns-clause-value

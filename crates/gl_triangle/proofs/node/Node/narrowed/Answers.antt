@@ -1,8 +1,8 @@
 use Rattle.std.proofs.Common.{subst, sym, List}
 use Rattle.gl_igc.specs.declared.fix.Fix.{Fix}
-use Rattle.gl_triangle.specs.Legs.{AreLegs}
-use Rattle.gl_triangle.specs.Node.{fixes_of}
-use Rattle.gl_triangle.specs.Spans.{AreWithin}
+use Rattle.gl_triangle.specs.Code.Legs.{AreLegs}
+use Rattle.gl_triangle.specs.Code.Node.{fixes_of}
+use Rattle.gl_triangle.specs.Code.Spans.{AreWithin}
 use Rattle.gl_triangle.proofs.Cells.{none_held, within_ordered, within_with}
 use Rattle.gl_triangle.proofs.node.Node.narrowed.Goals as goal
 

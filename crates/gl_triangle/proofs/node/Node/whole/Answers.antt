@@ -1,8 +1,8 @@
 use Rattle.std.proofs.Common.{◌∙◌, ap, sym, subst, length, List, arith}
 use Rattle.gl_igc.specs.declared.fix.Fix.{Fix}
-use Rattle.gl_triangle.specs.Legs.{AreLegs}
-use Rattle.gl_triangle.specs.Node.{fixes_of}
-use Rattle.gl_triangle.specs.Spans.{AreWithin, all_places}
+use Rattle.gl_triangle.specs.Code.Legs.{AreLegs}
+use Rattle.gl_triangle.specs.Code.Node.{fixes_of}
+use Rattle.gl_triangle.specs.Code.Spans.{AreWithin, all_places}
 use Rattle.gl_triangle.proofs.Cells.{made_cell, made_node, none_held, whole_cell-is, whole_numbered, within_fixes}
 use Rattle.gl_triangle.proofs.Orders.{length-ordered}
 use Rattle.gl_triangle.proofs.Rounds.{length-fixes_of}

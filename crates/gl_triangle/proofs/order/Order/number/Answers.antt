@@ -1,9 +1,9 @@
 use Rattle.std.proofs.Common.{◌<◌, ◌∙◌, ap, sym, subst, length, arith}
 use Rattle.std.proofs.lemmas.List.{get_or_default}
-use Rattle.gl_triangle.specs.Node.{fixes_of}
+use Rattle.gl_triangle.specs.Code.Node.{fixes_of}
 use Rattle.gl_places.specs.ByPlace.{IsByPlace}
 use Rattle.gl_places.proofs.Orders.{numbers_long}
-use Rattle.gl_triangle.specs.Order.{IsOrder, number_at}
+use Rattle.gl_triangle.specs.Code.Order.{IsOrder, number_at}
 use Rattle.gl_triangle.proofs.Orders.{number_below}
 use Rattle.gl_triangle.proofs.order.Order.number.Goals as goal
 

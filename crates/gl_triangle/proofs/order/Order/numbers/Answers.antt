@@ -1,8 +1,8 @@
 use Rattle.std.proofs.Common.{subst, sym, arith}
-use Rattle.gl_triangle.specs.Node.{fixes_of}
+use Rattle.gl_triangle.specs.Code.Node.{fixes_of}
 use Rattle.gl_places.specs.ByPlace.{IsByPlace}
 use Rattle.gl_places.proofs.Orders.{numbers_below, numbers_long}
-use Rattle.gl_triangle.specs.Order.{AreNumbers, IsOrder}
+use Rattle.gl_triangle.specs.Code.Order.{AreNumbers, IsOrder}
 use Rattle.gl_triangle.proofs.Rounds.{at_most_90000}
 use Rattle.gl_triangle.proofs.order.Order.numbers.Goals as goal
 

@@ -1,0 +1,8 @@
+-- Definitions of the code alone: what its loops keep, and views of its types. No promise to a
+-- caller
+-- cites them.
+pub mod Bounds
+pub mod Going
+pub mod Parts
+pub mod Said
+pub mod Volumes

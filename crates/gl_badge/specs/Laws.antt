@@ -1,2 +1,0 @@
--- Lemmas and no definitions: that the gain of height meets the laws of a goal.
-pub mod Gain

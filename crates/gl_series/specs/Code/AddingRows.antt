@@ -1,0 +1,29 @@
+-- How the rows of a day's sheet grow by the row of one more record, and the numbers read so far.
+use Rattle.std.specs.BTreeSet.{contains}
+use Rattle.std.specs.Cmp.Lexicographic.{slice_cmp}
+use Rattle.std.specs.Ordering.{nat_cmp}
+use Rattle.std.specs.Prelude.{ℕ, List, [], ◌∷◌, ◌++◌, ◌≡◌, ◌≢◌, ◌↔◌, All, false}
+use Rattle.gl_series.specs.SheetText.{IsRowOf}
+use Rattle.gl_series.specs.Totals.{IsDay}
+use Rattle.gl_series.specs.declared.day.DayRow.{DayRow}
+use Rattle.gl_series.specs.declared.numbers.Numbers.{Numbers}
+use Rattle.gl_series.specs.declared.sheet.Written.{Written}
+
+-- the row with what a record writes
+abbrev pub row_written : Written → DayRow
+row_written written = record {
+  number = written.number.now;
+  name = written.name.now;
+  points = written.points;
+}
+
+-- the row of a record, which fits to the rows before it
+pub record IsNextRow (rows : List DayRow) (fields : List (List ℕ)) (row : DayRow) : Type 0 where
+  pub is_row : IsRowOf fields row
+  pub fits : IsDay (rows ++ row ∷ [])
+
+-- these are the numbers that are kept: a number isn't kept exactly where it is none of them
+abbrev pub HasNumbers : Numbers → List (List ℕ) → Type 0
+HasNumbers kept numbers = (number : List ℕ)
+    → (contains (slice_cmp nat_cmp) kept.seen number ≡ false)
+    ↔ All (λ other. other ≢ number) numbers

@@ -1,0 +1,9 @@
+-- Definitions of the code alone: what its loops keep, and views of its types. No promise to a
+-- caller
+-- cites them.
+pub mod Legs
+pub mod Node
+pub mod Order
+pub mod Places
+pub mod Search
+pub mod Spans
