@@ -13,10 +13,6 @@ use Rattle.gl_text.specs.Lines.{lines_of}
 use Rattle.gl_sphere.specs.PlaceText.{place_of}
 use Rattle.gl_airspace.proofs.Kept.{with_one, without}
 
-from_zero : (o : Option ℕ) → option_map (λ k. 0 + k) o ≡ o
-from_zero None = refl
-from_zero (Some k) = ap Some (omega arith)
-
 pub one_more : (n : ℕ) (o : Option ℕ) → option_map (λ k. n + k) (option_map suc o) ≡ option_map (λ k. n + 1 + k) o
 one_more n None = refl
 one_more n (Some k) = ap Some (omega arith)
@@ -158,9 +154,6 @@ going_on lines rest line room before after_count part after goes fit says corner
           subst At (sym count) (subst Known (sym is_surplus)
           (surplus_step part.surplus part.lines room gone line (volume_of rest) (corner_at room (volume_of lines)) (corner_of line) refl (subst Rest volume going.surplus)));
     }
-
-none_left : (n : ℕ) (o : Option ℕ) (p : Option ℕ) → p ≡ option_map (λ k. n + k) o → o ≡ None → p ≡ None
-none_left n o p same none = same ∙ ap (option_map (λ (k : ℕ). n + k)) none
 
 surplus_done : (found : Option ℕ) (count room : ℕ) (gone : List Reading) (place : Option ℕ) → IsSurplus found count room gone [] place → place ≡ found
 surplus_done None count room gone place told = told.1

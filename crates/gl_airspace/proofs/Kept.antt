@@ -11,18 +11,18 @@ use Rattle.gl_sphere.specs.Place.{written_vector}
 use Rattle.gl_airspace.specs.declared.draft.Draft.{Draft}
 use Rattle.gl_airspace.specs.declared.volume.Circle.{Circle}
 use Rattle.gl_airspace.specs.Line.{PassedOver, Begins, Names, Floor, Ceiling, Centre, Corner, Circles}
-use Rattle.gl_airspace.specs.Volumes.{Reading, first_of, last_of, floor_of, ceiling_of, centre_of, corner_of, radius_said, centre_in, radius_in, circle_in, circle_after}
+use Rattle.gl_airspace.specs.Volumes.{Reading, first_item, last_item, floor_of, ceiling_of, centre_of, corner_of, radius_said, centre_in, radius_in, circle_in, circle_after}
 use Rattle.gl_airspace.specs.Code.Parts.{Says}
 use Rattle.gl_airspace.specs.Draft.{IsCircle}
 
-first_of-append : {X : Type 0} (xs ys : List X) → first_of (xs ++ ys) ≡ option_or (first_of xs) (first_of ys)
-first_of-append [] ys = refl
-first_of-append (x ∷ xs) ys = refl
+first_item-append : {X : Type 0} (xs ys : List X) → first_item (xs ++ ys) ≡ option_or (first_item xs) (first_item ys)
+first_item-append [] ys = refl
+first_item-append (x ∷ xs) ys = refl
 
-last_of-snoc : {X : Type 0} (xs : List X) (x : X) → last_of (xs ++ x ∷ []) ≡ Some x
-last_of-snoc [] x = refl
-last_of-snoc (y ∷ []) x = refl
-last_of-snoc (y ∷ z ∷ xs) x = last_of-snoc (z ∷ xs) x
+last_item-snoc : {X : Type 0} (xs : List X) (x : X) → last_item (xs ++ x ∷ []) ≡ Some x
+last_item-snoc [] x = refl
+last_item-snoc (y ∷ []) x = refl
+last_item-snoc (y ∷ z ∷ xs) x = last_item-snoc (z ∷ xs) x
 
 -- a line that says nothing of a kind changes nothing of it
 pub without : {X : Type 0} (of : Reading → Option X) (lines : List Reading) (line : Reading) → filter_map of (line ∷ []) ≡ [] → filter_map of (lines ++ line ∷ []) ≡ filter_map of lines
@@ -33,13 +33,13 @@ pub with_one : {X : Type 0} (of : Reading → Option X) (lines : List Reading) (
     → filter_map of (lines ++ line ∷ []) ≡ filter_map of lines ++ x ∷ []
 with_one of lines line x one = filter_map-append of lines (line ∷ []) ∙ ap (λ (xs : List _). filter_map of lines ++ xs) one
 
-first_with : {X : Type 0} (of : Reading → Option X) (lines : List Reading) (line : Reading) (x : X) → filter_map of (line ∷ []) ≡ x ∷ [] → first_of (filter_map of lines) ≡ None
-    → first_of (filter_map of (lines ++ line ∷ [])) ≡ Some x
+first_with : {X : Type 0} (of : Reading → Option X) (lines : List Reading) (line : Reading) (x : X) → filter_map of (line ∷ []) ≡ x ∷ [] → first_item (filter_map of lines) ≡ None
+    → first_item (filter_map of (lines ++ line ∷ [])) ≡ Some x
 first_with of lines line x one none =
-    ap first_of (with_one of lines line x one) ∙ first_of-append (filter_map of lines) (x ∷ []) ∙ ap (λ (o : Option _). option_or o (Some x)) none
+    ap first_item (with_one of lines line x one) ∙ first_item-append (filter_map of lines) (x ∷ []) ∙ ap (λ (o : Option _). option_or o (Some x)) none
 
-last_with : {X : Type 0} (of : Reading → Option X) (lines : List Reading) (line : Reading) (x : X) → filter_map of (line ∷ []) ≡ x ∷ [] → last_of (filter_map of (lines ++ line ∷ [])) ≡ Some x
-last_with of lines line x one = ap last_of (with_one of lines line x one) ∙ last_of-snoc (filter_map of lines) x
+last_with : {X : Type 0} (of : Reading → Option X) (lines : List Reading) (line : Reading) (x : X) → filter_map of (line ∷ []) ≡ x ∷ [] → last_item (filter_map of (lines ++ line ∷ [])) ≡ Some x
+last_with of lines line x one = ap last_item (with_one of lines line x one) ∙ last_item-snoc (filter_map of lines) x
 
 -- a line that makes no circle changes none
 circle_without : (centre : Option (ℤ × ℤ)) (lines : List Reading) (line : Reading) → radius_said line ≡ None → circle_after centre (lines ++ line ∷ []) ≡ circle_after centre lines
@@ -64,9 +64,9 @@ circle_without centre (Some (Circles r) ∷ lines) line none = refl
 
 -- the last centre of all, the given one where the lines have none
 abbrev centre_so_far : Option (ℤ × ℤ) → List Reading → Option (ℤ × ℤ)
-centre_so_far centre lines = option_or (last_of (filter_map centre_of lines)) centre
+centre_so_far centre lines = option_or (last_item (filter_map centre_of lines)) centre
 
-last_or : {X : Type 0} (x : X) (xs : List X) (o : Option X) → option_or (last_of (x ∷ xs)) o ≡ option_or (last_of xs) (Some x)
+last_or : {X : Type 0} (x : X) (xs : List X) (o : Option X) → option_or (last_item (x ∷ xs)) o ≡ option_or (last_item xs) (Some x)
 last_or x [] o = refl
 last_or x (y ∷ []) o = refl
 last_or x (y ∷ z ∷ xs) o = last_or y (z ∷ xs) o ∙ sym (last_or y (z ∷ xs) (Some x))
@@ -100,31 +100,31 @@ pub says_other : (draft : Draft) (lines : List Reading) (line : Reading)
     → filter_map radius_said (line ∷ []) ≡ [] → radius_said line ≡ None
     → Says draft lines → Says draft (lines ++ line ∷ [])
 says_other draft lines line f c p k r none says = record {
-  floor = says.floor ∙ ap first_of (sym (without floor_of lines line f));
-  ceiling = says.ceiling ∙ ap first_of (sym (without ceiling_of lines line c));
-  centre = says.centre ∙ ap last_of (sym (without centre_of lines line p));
+  floor = says.floor ∙ ap first_item (sym (without floor_of lines line f));
+  ceiling = says.ceiling ∙ ap first_item (sym (without ceiling_of lines line c));
+  centre = says.centre ∙ ap last_item (sym (without centre_of lines line p));
   corners = says.corners ∙ sym (without corner_of lines line k);
-  has_circle = says.has_circle ∙ ap (λ (xs : List ℕ). is_some (first_of xs)) (sym (without radius_said lines line r));
+  has_circle = says.has_circle ∙ ap (λ (xs : List ℕ). is_some (first_item xs)) (sym (without radius_said lines line r));
   circle = subst (IsCircle draft.circle) (sym (circle_without None lines line none)) says.circle;
 }
 
 pub says_floor : (draft : Draft) (lines : List Reading) (m : ℤ) → Says draft lines → draft.floor ≡ None → Says (record draft { floor = Some m }) (lines ++ Some (Floor m) ∷ [])
 says_floor draft lines m says none = record {
   floor = sym (first_with floor_of lines (Some (Floor m)) m refl (sym says.floor ∙ none));
-  ceiling = says.ceiling ∙ ap first_of (sym (without ceiling_of lines (Some (Floor m)) refl));
-  centre = says.centre ∙ ap last_of (sym (without centre_of lines (Some (Floor m)) refl));
+  ceiling = says.ceiling ∙ ap first_item (sym (without ceiling_of lines (Some (Floor m)) refl));
+  centre = says.centre ∙ ap last_item (sym (without centre_of lines (Some (Floor m)) refl));
   corners = says.corners ∙ sym (without corner_of lines (Some (Floor m)) refl);
-  has_circle = says.has_circle ∙ ap (λ (xs : List ℕ). is_some (first_of xs)) (sym (without radius_said lines (Some (Floor m)) refl));
+  has_circle = says.has_circle ∙ ap (λ (xs : List ℕ). is_some (first_item xs)) (sym (without radius_said lines (Some (Floor m)) refl));
   circle = subst (IsCircle draft.circle) (sym (circle_without None lines (Some (Floor m)) refl)) says.circle;
 }
 
 pub says_ceiling : (draft : Draft) (lines : List Reading) (m : ℤ) → Says draft lines → draft.ceiling ≡ None → Says (record draft { ceiling = Some m }) (lines ++ Some (Ceiling m) ∷ [])
 says_ceiling draft lines m says none = record {
-  floor = says.floor ∙ ap first_of (sym (without floor_of lines (Some (Ceiling m)) refl));
+  floor = says.floor ∙ ap first_item (sym (without floor_of lines (Some (Ceiling m)) refl));
   ceiling = sym (first_with ceiling_of lines (Some (Ceiling m)) m refl (sym says.ceiling ∙ none));
-  centre = says.centre ∙ ap last_of (sym (without centre_of lines (Some (Ceiling m)) refl));
+  centre = says.centre ∙ ap last_item (sym (without centre_of lines (Some (Ceiling m)) refl));
   corners = says.corners ∙ sym (without corner_of lines (Some (Ceiling m)) refl);
-  has_circle = says.has_circle ∙ ap (λ (xs : List ℕ). is_some (first_of xs)) (sym (without radius_said lines (Some (Ceiling m)) refl));
+  has_circle = says.has_circle ∙ ap (λ (xs : List ℕ). is_some (first_item xs)) (sym (without radius_said lines (Some (Ceiling m)) refl));
   circle = subst (IsCircle draft.circle) (sym (circle_without None lines (Some (Ceiling m)) refl)) says.circle;
 }
 
@@ -132,11 +132,11 @@ pub says_centre : (draft : Draft) (lines : List Reading) (place : Grid) → Says
 says_centre draft lines place says =
     let line : Reading = Some (Centre (place_of place)) in
     record {
-      floor = says.floor ∙ ap first_of (sym (without floor_of lines line refl));
-      ceiling = says.ceiling ∙ ap first_of (sym (without ceiling_of lines line refl));
+      floor = says.floor ∙ ap first_item (sym (without floor_of lines line refl));
+      ceiling = says.ceiling ∙ ap first_item (sym (without ceiling_of lines line refl));
       centre = sym (last_with centre_of lines line (place_of place) refl);
       corners = says.corners ∙ sym (without corner_of lines line refl);
-      has_circle = says.has_circle ∙ ap (λ (xs : List ℕ). is_some (first_of xs)) (sym (without radius_said lines line refl));
+      has_circle = says.has_circle ∙ ap (λ (xs : List ℕ). is_some (first_item xs)) (sym (without radius_said lines line refl));
       circle = subst (IsCircle draft.circle) (sym (circle_without None lines line refl)) says.circle;
     }
 
@@ -147,11 +147,11 @@ pub says_corner : (draft after : Draft) (lines : List Reading) (place : Grid) �
 says_corner draft after lines place says floor ceiling centre circle corners =
     let line : Reading = Some (Corner (place_of place)) in
     record {
-      floor = floor ∙ says.floor ∙ ap first_of (sym (without floor_of lines line refl));
-      ceiling = ceiling ∙ says.ceiling ∙ ap first_of (sym (without ceiling_of lines line refl));
-      centre = ap (option_map place_of) centre ∙ says.centre ∙ ap last_of (sym (without centre_of lines line refl));
+      floor = floor ∙ says.floor ∙ ap first_item (sym (without floor_of lines line refl));
+      ceiling = ceiling ∙ says.ceiling ∙ ap first_item (sym (without ceiling_of lines line refl));
+      centre = ap (option_map place_of) centre ∙ says.centre ∙ ap last_item (sym (without centre_of lines line refl));
       corners = corners ∙ ap (λ (xs : List _). xs ++ place_of place ∷ []) says.corners ∙ sym (with_one corner_of lines line (place_of place) refl);
-      has_circle = ap is_some circle ∙ says.has_circle ∙ ap (λ (xs : List ℕ). is_some (first_of xs)) (sym (without radius_said lines line refl));
+      has_circle = ap is_some circle ∙ says.has_circle ∙ ap (λ (xs : List ℕ). is_some (first_item xs)) (sym (without radius_said lines line refl));
       circle = subst (λ (o : Option Circle). IsCircle o (circle_in (lines ++ line ∷ []))) (sym circle) (subst (IsCircle draft.circle) (sym (circle_without None lines line refl)) says.circle);
     }
 
@@ -168,9 +168,9 @@ says_circle draft lines made grid says none centre at =
     let line : Reading = Some (Circles made.radius) in
     let no : radius_in lines ≡ None = no_radius draft.circle (radius_in lines) says.has_circle none in
     record {
-      floor = says.floor ∙ ap first_of (sym (without floor_of lines line refl));
-      ceiling = says.ceiling ∙ ap first_of (sym (without ceiling_of lines line refl));
-      centre = says.centre ∙ ap last_of (sym (without centre_of lines line refl));
+      floor = says.floor ∙ ap first_item (sym (without floor_of lines line refl));
+      ceiling = says.ceiling ∙ ap first_item (sym (without ceiling_of lines line refl));
+      centre = says.centre ∙ ap last_item (sym (without centre_of lines line refl));
       corners = says.corners ∙ sym (without corner_of lines line refl);
       has_circle = ap is_some (sym (first_with radius_said lines line made.radius refl no));
       circle = is_circle_of made lines made.radius grid no (sym (ap (option_map place_of) centre) ∙ says.centre) at refl;

@@ -6,5 +6,3 @@ pub mod Volumes
 pub mod Draft
 pub mod Parts
 pub mod Airspace
-pub use Rattle.gl_text.specs.Lines
-pub use Rattle.gl_sphere.specs.Distance

@@ -2,8 +2,8 @@
 use Rattle.std.specs.Prelude.{ℕ, ◌+◌, ◌-◌, ◌*◌, ◌/◌, ◌^◌, nat_eq, nat_le, nat_lt, ◌==◌, ◌&&◌, ◌||◌, if◌then◌else◌, Bool, List, [], ◌∷◌, length, drop, take_while, Option, None, Some, option_map, codes, ℤ, pos, neg_ℤ}
 use Rattle.std.specs.List.{starts_with}
 use Rattle.std.specs.Char.{is_ascii_digit, to_ascii_uppercase}
-use Rattle.std.specs.Cmp.Lexicographic.{pointwise}
 use Rattle.gl_text.specs.Digits.{◌>>=◌, number_of}
+use Rattle.gl_text.specs.Forms.{is_text}
 
 -- what a line says: nothing that counts, the beginning of a volume, its name, its floor, its
 -- ceiling, the centre for a circle after it, a corner, or a circle with its radius in centimetres
@@ -32,10 +32,6 @@ abbrev pub squeezed : List ℕ → List ℕ
 squeezed [] = []
 squeezed (b ∷ bs) =
     if is_blank b then blank_before (squeezed bs) else to_ascii_uppercase b ∷ squeezed bs
-
--- two texts are the same
-abbrev pub is_text : List ℕ → List ℕ → Bool
-is_text text other = pointwise nat_eq text other
 
 -- what follows the front of a text, where it has that front
 unfoldable pub after : List ℕ → List ℕ → Option (List ℕ)

@@ -39,31 +39,31 @@ radius_said (Some (Circles radius)) = Some radius
 radius_said line = None
 
 -- the first and the last of some values, if there is one
-abbrev pub first_of : {X : Type 0} → List X → Option X
-first_of [] = None
-first_of (x ∷ xs) = Some x
+abbrev pub first_item : {X : Type 0} → List X → Option X
+first_item [] = None
+first_item (x ∷ xs) = Some x
 
-abbrev pub last_of : {X : Type 0} → List X → Option X
-last_of [] = None
-last_of (x ∷ []) = Some x
-last_of (x ∷ y ∷ xs) = last_of (y ∷ xs)
+abbrev pub last_item : {X : Type 0} → List X → Option X
+last_item [] = None
+last_item (x ∷ []) = Some x
+last_item (x ∷ y ∷ xs) = last_item (y ∷ xs)
 
 -- what the lines of a volume say: its floor, its ceiling, its corners, its last centre, and its
 -- circle
 abbrev pub floor_in : List Reading → Option ℤ
-floor_in lines = first_of (filter_map floor_of lines)
+floor_in lines = first_item (filter_map floor_of lines)
 
 abbrev pub ceiling_in : List Reading → Option ℤ
-ceiling_in lines = first_of (filter_map ceiling_of lines)
+ceiling_in lines = first_item (filter_map ceiling_of lines)
 
 abbrev pub corners_in : List Reading → List (ℤ × ℤ)
 corners_in lines = filter_map corner_of lines
 
 abbrev pub centre_in : List Reading → Option (ℤ × ℤ)
-centre_in lines = last_of (filter_map centre_of lines)
+centre_in lines = last_item (filter_map centre_of lines)
 
 abbrev pub radius_in : List Reading → Option ℕ
-radius_in lines = first_of (filter_map radius_said lines)
+radius_in lines = first_item (filter_map radius_said lines)
 
 -- the circle that lines make, with the last centre before it
 abbrev pub circle_after : Option (ℤ × ℤ) → List Reading → Option ((ℤ × ℤ) × ℕ)

@@ -1,5 +1,6 @@
 ghost use Rattle.std.specs.Prelude.{◌≡◌, ◌<◌, pos};
-ghost use Rattle.gl_airspace.specs.Line.{flight_level_in, height_in, height_of, is_feet, is_metres, is_text, metres, radius_of};
+ghost use Rattle.gl_text.specs.Forms.{is_text};
+ghost use Rattle.gl_airspace.specs.Line.{flight_level_in, height_in, height_of, is_feet, is_metres, metres, radius_of};
 
 use crate::front::{after_space, number_at, thousandths_at};
 

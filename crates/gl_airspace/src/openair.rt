@@ -9,8 +9,7 @@ use crate::air_line::{AirLine, said_by, squeeze};
 use crate::error::AirError;
 use crate::part::{Part, read_part};
 use crate::volume::{Airspace, Volume};
-use gl_igc::Items;
-use gl_text::next_line;
+use gl_text::{Items, next_line};
 use std::alloc::Global;
 
 /// The most volumes of an airspace.

@@ -14,7 +14,7 @@ impl Bounds {
     ghost use Rattle.std.specs.Prelude.{◌≡◌, All};
     ghost use Rattle.gl_sphere.specs.declared.place.Grid.{Grid};
     ghost use Rattle.gl_airspace.specs.Bounds.{IsBounded};
-    ghost use Rattle.gl_airspace.specs.Code.Bounds.{is_beside, is_between, is_level};
+    ghost use Rattle.gl_airspace.specs.Code.Bounds.{is_beside, is_between, is_within_latitudes};
 
     /// The same, widened to a place.
     fn with(self, place: Grid) -> Bounds
@@ -47,8 +47,8 @@ impl Bounds {
 
     /// Whether a place is on a level with the bounds: from the southern one on, and below the
     /// northern one.
-    fn is_level(self, place: Grid) -> bool
-        ensures { result ≡ is_level self place }
+    fn is_within_latitudes(self, place: Grid) -> bool
+        ensures { result ≡ is_within_latitudes self place }
     {
         self.south <= place.lat && place.lat < self.north
     }
@@ -65,7 +65,7 @@ impl Bounds {
     pub(crate) fn is_beside(self, place: Grid) -> bool
         ensures { result ≡ is_beside self place }
     {
-        !(self.is_level(place) && self.is_between(place))
+        !(self.is_within_latitudes(place) && self.is_between(place))
     }
 }
 

@@ -1,8 +1,8 @@
 ghost use Rattle.std.specs.Prelude.{◌≡◌, []};
 
 use crate::polygon::Polygon;
-use gl_igc::Items;
 use gl_sphere::Vec3;
+use gl_text::Items;
 use std::alloc::Global;
 
 /// A circle on the sphere: the point of its centre, and its radius in centimetres.

@@ -95,14 +95,6 @@ HasAppended-reads file a x y z one reads = record {
   faults = reads.faults ∙ one.faults;
 }
 
-pub HasAppendedPart-reads : (file a : List ℕ) (x y z : Told) (stop : DeskError) → HasAppended file a x y → OnlyReads (Some stop) y z → HasAppendedPart file a x z stop
-HasAppendedPart-reads file a x y z stop one reads = record {
-  count = length a;
-  appended = subst (λ (text : List ℕ). IsAppended (Some file) text x z) (append-nil a ∙ sym (take-length a)) (appended_twice file a [] x y z one.appended (reads_appended file (Some stop) y z reads));
-  said = reads.said ∙ one.said;
-  faults = counted stop x.faults y.faults z.faults one.faults reads.faults;
-}
-
 -- memory was wanting, and nothing else changed
 pub HasAppendedPart-memory : (file a : List ℕ) (x y : Told) → HasAppended file a x y → HasAppendedPart file a x y Memory
 HasAppendedPart-memory file a x y one = record {

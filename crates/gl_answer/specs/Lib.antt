@@ -5,5 +5,3 @@ pub mod Given
 pub mod Promise
 pub mod Statuses
 pub mod Texts
-pub use Rattle.gl_desk.specs.Desk
-pub use Rattle.gl_text.specs.Numbers

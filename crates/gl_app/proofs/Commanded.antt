@@ -20,7 +20,7 @@ use Rattle.gl_files.specs.declared.day_files.DayFiles.{DayFiles}
 use Rattle.gl_files.specs.declared.halt.Halt.{Halt}
 use Rattle.gl_files.specs.declared.halt.Halt.TheVariants.{Refused, Stopped}
 use Rattle.gl_files.specs.DayFiles.{IsCheckRead, IsScoreRead, IsScoreSeen, check_tests, score_tests}
-use Rattle.gl_files.specs.FileTests.{HasTested, most_proof_bytes}
+use Rattle.gl_files.specs.FileTests.{HasTested}
 use Rattle.gl_files.specs.Halts.{halt_stop}
 use Rattle.gl_files.proofs.ReadsTwice.{reads_twice}
 use Rattle.gl_answer.specs.Appending.{HasGiven}
@@ -32,7 +32,7 @@ use Rattle.gl_tally.proofs.Flights.{all_texts}
 use Rattle.gl_answer.specs.declared.answer.Answer as code
 use Rattle.gl_answer.specs.declared.status.Status.TheVariants.{Done}
 use Rattle.gl_answer.specs.Answer.{Answer, answer_of, AnswersHalt}
-use Rattle.gl_app.specs.Check.{IsCheck, IsProofChecked, check_promise, checked_answer}
+use Rattle.gl_app.specs.Check.{IsCheck, IsProofChecked, check_promise}
 use Rattle.gl_answer.specs.Given.{HasAnswered, IsStopped}
 use Rattle.gl_app.specs.Score.{IsScore, IsScoreDay, score_promise}
 use Rattle.gl_app.proofs.Badges.{some_text}
@@ -137,16 +137,6 @@ pub proof_checked : (most : ℕ) (folder : Option FilesByName) (names : DayNames
     → HasTested (IsScoreSeen names folder) (check_tests most names) (IsProofChecked folder) (Ok said)
 proof_checked most folder names files proof claims said (seen, is, passes, read) are checked =
     (seen, is, passes, ((files, proof), read, subst (λ (l : List Claim). IsDayChecked folder files (map statement_of l) said) are checked))
-
-pub check_refused : (most : ℕ) (folder : Option FilesByName) (names : DayNames) (halt : Halt)
-    → HasTested {X = DayFiles × Proof} (IsScoreSeen names folder) (check_tests most names) IsCheckRead (Err halt)
-    → HasTested {X = Checked} (IsScoreSeen names folder) (check_tests most names) (IsProofChecked folder) (Err halt)
-check_refused most folder names (Refused refusal) tested = tested
-check_refused most folder names (Stopped stop) tested = tt
-
-pub check_told : (folder : Option FilesByName) (names : DayNames) (said : Checked) (answer : Answer)
-    → HasTested (IsScoreSeen names folder) (check_tests most_proof_bytes names) (IsProofChecked folder) (Ok said) → answer ≡ checked_answer said → IsCheck folder names answer
-check_told folder names said answer (seen, is, passes, found) same = (seen, is, inl (passes, (said, found, same)))
 
 -- `check` has its answer
 pub check_right : (names : DayNames) (x y : Told) (result : Result code.Answer DeskError) → IfOk result (λ answer. IsCheck x.folder names (answer_of answer)) → OnlyReads (stop_of result) x y

@@ -6,7 +6,7 @@ use Rattle.gl_day.specs.declared.fault.Fault.{Fault}
 use Rattle.gl_day.specs.declared.fault.Fault.TheVariants.{Missing, Name, Fixes, Total, Extra, Place, Cell, Open, Surplus}
 use Rattle.gl_day.specs.declared.fault.NotProved.{NotProved}
 use Rattle.gl_day.specs.Fault.{box_of_fault, word_of}
-use Rattle.gl_words.proofs.Unbroken.{is_unbroken}
+use Rattle.gl_text.proofs.Forms.{is_unbroken}
 use Rattle.gl_answer.specs.declared.status.Status.TheVariants.{Done}
 use Rattle.gl_answer.specs.Answer.{Answer}
 use Rattle.gl_app.specs.Check.{checked_answer, not_proved_line}

@@ -29,6 +29,7 @@ use Rattle.gl_task_file.specs.Reading.{IsDocument}
 use Rattle.gl_task_file.specs.Tests.{course_tests, day_tests, entrant_tests, entrants_tests, finish_tests, head_tests, lists_tests, numbered_tests, part_tests, people_tests, pilot_tests, plan_tests, rules_tests, start_tests, tests, way_tests, word_tests, zone_tests, zones_tests}
 use Rattle.gl_task_file.specs.Values.{day_of, file_name, kind_of, list_word_of, recent_day}
 use Rattle.gl_text.specs.Digits.{number_of}
+use Rattle.gl_text.specs.Forms.{is_file_name}
 use Rattle.gl_files.specs.declared.refusal.Refusal.{Refusal}
 use Rattle.gl_files.specs.declared.refusal.Cause.{Cause}
 use Rattle.gl_files.specs.DayFiles.{IsScoreSeen, ScoreSeen, airspace_tests, named_airspace, score_tests, task_tests}
@@ -65,7 +66,7 @@ pub demo_table_passes : first_failed (tests demo_table) ≡ None
 unfolding toml_on_literals task_text demo_table tests plan_tests head_tests course_tests way_tests people_tests numbered_tests day_tests word_tests lists_tests start_tests pilot_tests part_tests
     zone_tests zones_tests finish_tests rules_tests entrant_tests entrants_tests day_of recent_day kind_of list_word_of grid_at grid_of_text is_same_vector other_point number_of day_number
     is_in_calendar angle_of latitude_of longitude_of place_of_text signed_by written_vector written_x written_y written_z product scaled with_sign_of half_turn_sine quarter_sine radians sine_sum
-    sine_term written_cosine written_sine
+    sine_term written_cosine written_sine is_file_name
 demo_table_passes = refl
 
 -- and names no airspace

@@ -10,5 +10,4 @@ pub mod DemoTask
 pub mod Demos
 pub mod OneAnswer
 pub mod Rights
-pub mod Shelves
 pub mod PartOfDay

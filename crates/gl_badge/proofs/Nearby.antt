@@ -7,7 +7,7 @@ use Rattle.std.proofs.lemmas.Option.{slice_get_read}
 use Rattle.std.proofs.lemmas.List.Elements.{All-more, filter-append}
 use Rattle.gl_sphere.specs.declared.place.Vec3.{Vec3}
 use Rattle.gl_igc.specs.declared.fix.Fix.{Fix}
-use Rattle.gl_goal.specs.Chain.{distance}
+use Rattle.gl_sphere.specs.Distance.{distance}
 use Rattle.gl_goal.specs.Free.{numbers_from}
 use Rattle.gl_goal.proofs.FreeLosses.{numbers_from-more}
 use Rattle.gl_badge.specs.Course.{IsMissed, IsReached, is_near, numbers_near}

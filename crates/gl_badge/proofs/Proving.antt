@@ -24,7 +24,7 @@ use Rattle.gl_goal.specs.Lists.{AreLists, AreNamed}
 use Rattle.gl_goal.specs.Goal.{IsGoal, IsOptimum, Goal}
 use Rattle.gl_proof.specs.declared.claim.Claim.{Claim}
 use Rattle.gl_proof.specs.Claim.{IsStatement, Statement, statement_of}
-use Rattle.gl_proof.specs.Number.{is_number}
+use Rattle.gl_text.specs.Forms.{is_number}
 use Rattle.gl_sphere.specs.declared.place.Vec3.{Vec3}
 use Rattle.gl_badge.specs.declared.badge.Badge.{Badge}
 use Rattle.gl_badge.specs.declared.badge.Badge.TheVariants.{Distance, Gain, DeclaredGoal}

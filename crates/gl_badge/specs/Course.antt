@@ -7,7 +7,7 @@ use Rattle.gl_sphere.specs.Place.{written_vector}
 use Rattle.gl_igc.specs.declared.fix.Fix.{Fix}
 use Rattle.gl_igc.specs.declared.recording.Declared.{Declared}
 use Rattle.gl_igc.specs.declared.recording.Recording.{Recording}
-use Rattle.gl_goal.specs.Chain.{distance}
+use Rattle.gl_sphere.specs.Distance.{distance}
 use Rattle.gl_goal.specs.Free.{numbers_from}
 use Rattle.gl_goal.specs.Goal.{IsInTimeOrder}
 use Rattle.gl_badge.specs.declared.shown.Course.{Course}

@@ -8,4 +8,3 @@ pub mod Lemmas
 pub mod Named
 pub mod Proved
 pub mod Text
-pub use Rattle.gl_goal.specs.Goal

@@ -1,5 +1,5 @@
 ghost use Rattle.std.specs.Prelude.{◌≡◌, ◌≤◌, length, nat_le, IfOk};
-ghost use Rattle.gl_goal.specs.Chain.{distance};
+ghost use Rattle.gl_sphere.specs.Distance.{distance};
 ghost use Rattle.gl_badge.specs.Course.{numbers_near};
 
 use gl_igc::Fix;

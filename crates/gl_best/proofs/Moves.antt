@@ -18,15 +18,6 @@ there_is_below [] seat view at = absurd (some-ne-none view (sym at))
 there_is_below (first ∷ views) zero view at = omega arith
 there_is_below (first ∷ views) (suc seat) view at = omega (arith, there_is_below views seat view at)
 
-one_word : (words : List ℕ) (word : ℕ) → length words ≡ 1 → (length (slice_set words 0 word) ≡ 1) × (slice_index (slice_set words 0 word) 0 ≡ word)
-one_word [] word one = absurd (omega arith)
-one_word (first ∷ words) word one = (one, refl)
-
--- the word that is written as it was found is the same
-same_word : (words : List ℕ) → slice_set words 0 (slice_index words 0) ≡ words
-same_word [] = refl
-same_word (word ∷ words) = refl
-
 -- what was heard of a word is heard of one that is no less
 heard_more : (word new : ℕ) (view : View) → word ≤ new → IsHeard word view → IsHeard new view
 heard_more word new view less heard = record { raised = heard.raised; seen = omega (arith, heard.seen); idle = heard.idle }

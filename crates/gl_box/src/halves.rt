@@ -8,13 +8,16 @@ use crate::span::Span;
 
 /// The axis with the widest span, the lowest one among equally wide spans.
 #[inline]
-fn widest(cell: &Cell) -> usize
+pub fn widest(cell: &Cell) -> usize
     ensures { IsWidest (spans_of cell.now) result }
 {
     let mut widest = 0;
+    let mut most = cell.spans[0].width();
     for axis in 1..cell.axes as usize {
-        if cell.spans[axis].width() > cell.spans[widest].width() {
+        let width = cell.spans[axis].width();
+        if width > most {
             widest = axis;
+            most = width;
         }
     }
     widest

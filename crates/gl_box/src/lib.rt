@@ -11,7 +11,7 @@ mod tuple;
 
 pub use cell::Cell;
 pub use closed::{Closed, Why};
-pub use halves::{halve, split};
+pub use halves::{halve, split, widest};
 pub use holding::{covers, has};
 pub use span::Span;
 pub use tuple::{MOST_AXES, Tuple};

@@ -1,11 +1,2 @@
 pub mod Checked
 pub mod Verdict
-pub use Rattle.gl_box.specs.Cell
-pub use Rattle.gl_box.specs.Closed
-pub use Rattle.gl_box.specs.Frontier
-pub use Rattle.gl_box.specs.Tuple
-pub use Rattle.gl_goal.specs.Certificate
-pub use Rattle.gl_goal.specs.Goal
-pub use Rattle.gl_proof.specs.Claim
-pub use Rattle.gl_walk.specs.Boxes
-pub use Rattle.gl_walk.specs.InLists

@@ -1,37 +1,18 @@
 -- The names, the rows and the zones of a task, one by one.
-use Rattle.std.proofs.Common.{◌≡◌, ◌∙◌, refl, ℕ, suc, ◌+◌, ◌<◌, ◌≤◌, arith, option_map, sym, ap, add-one, drop-cons, cond, Bool, true, false, List, [], ◌∷◌, ◌++◌, drop, length, get_or, None, Some, Option, is_none}
+use Rattle.std.proofs.Common.{◌≡◌, ◌∙◌, refl, ℕ, suc, ◌+◌, ◌<◌, ◌≤◌, arith, option_map, sym, ap, add-one, drop-cons, cond, Bool, true, false, List, [], ◌∷◌, drop, length, get_or, None, Some, Option, is_none}
 use Rattle.std.proofs.lemmas.Grind.{common_steps}
 use Rattle.gl_cup.specs.declared.error.CupError.{CupError}
 use Rattle.gl_cup.specs.declared.error.CupError.TheVariants as cup
-use Rattle.gl_cup.specs.Detail.{first_refused, is_refused, zone_at}
+use Rattle.gl_cup.specs.Detail.{zone_at}
 use Rattle.gl_cup.specs.TaskRows.{first_unknown, first_zoneless, place_of}
 use Rattle.gl_cup.specs.declared.row.Row.{Row}
 use Rattle.gl_cup.specs.declared.waypoint.Waypoint.{Waypoint}
 use Rattle.gl_cup.specs.declared.zone.ObsZone.{ObsZone}
 
--- a row that isn't refused leaves the answer to those behind it
-pub passes_row : (points : ℕ) (before : List Row) (row : Row) (rows : List Row) → is_refused points before row ≡ false
-    → first_refused points before (row ∷ rows) ≡ first_refused points (before ++ row ∷ []) rows
-passes_row points before row rows passes = ap (λ (b : Bool). cond b (Some row) (first_refused points (before ++ row ∷ []) rows)) passes
-
-pub stops_at_row : (points : ℕ) (before : List Row) (row : Row) (rows : List Row) → is_refused points before row ≡ true → first_refused points before (row ∷ rows) ≡ Some row
-stops_at_row points before row rows stops = ap (λ (b : Bool). cond b (Some row) (first_refused points (before ++ row ∷ []) rows)) stops
-
 -- the names from one on
 names_at : (names : List (List ℕ)) (n : ℕ) (name : List ℕ) → n < length names → name ≡ get_or names n name → drop n names ≡ name ∷ drop (n + 1) names
 names_at names n name inside is =
     rw add-one (drop-cons names n name inside ∙ ap (λ (x : List ℕ). x ∷ drop (suc n) names) (sym is))
-
--- a name that is known leaves the answer to those behind it
-pub passes_name : (ws : List Waypoint) (n : ℕ) (names : List (List ℕ)) (name : List ℕ) → n < length names → name ≡ get_or names n name → is_none (place_of name ws) ≡ false
-    → first_unknown ws n (drop n names) ≡ first_unknown ws (n + 1) (drop (n + 1) names)
-passes_name ws n names name inside is known =
-    ap (first_unknown ws n) (names_at names n name inside is) ∙ ap (λ (b : Bool). cond b (Some n) (first_unknown ws (n + 1) (drop (n + 1) names))) known
-
-pub stops_at_name : (ws : List Waypoint) (n : ℕ) (names : List (List ℕ)) (name : List ℕ) → n < length names → name ≡ get_or names n name → is_none (place_of name ws) ≡ true
-    → first_unknown ws n (drop n names) ≡ Some n
-stops_at_name ws n names name inside is unknown =
-    ap (first_unknown ws n) (names_at names n name inside is) ∙ ap (λ (b : Bool). cond b (Some n) (first_unknown ws (n + 1) (drop (n + 1) names))) unknown
 
 -- where none is unknown, the first is known, and so are those behind it
 none_known : (b : Bool) (n : ℕ) (rest : Option ℕ) → cond b (Some n) rest ≡ None → (b ≡ false) × (rest ≡ None)

@@ -1,7 +1,7 @@
 -- The rows of waypoints, those of tasks, and those of the chosen task.
 use Rattle.std.specs.Prelude.{ℕ, ◌+◌, ◌-◌, ◌==◌, ◌||◌, not, nat_eq, if◌then◌else◌, codes, Bool, false, List, [], ◌∷◌, take, drop, Option, None, Some, position, Result, Ok, Err}
 use Rattle.std.specs.List.{starts_with}
-use Rattle.gl_cup.specs.Waypoint.{is_same}
+use Rattle.gl_text.specs.Forms.{is_text}
 use Rattle.gl_cup.specs.declared.error.CupError as code
 use Rattle.gl_cup.specs.declared.error.CupError.TheVariants as cup
 use Rattle.gl_cup.specs.declared.row.Row.{Row}
@@ -9,7 +9,7 @@ use Rattle.gl_cup.specs.declared.row.Row.{Row}
 -- the first field is a text, or begins with it
 abbrev pub is_headed : List (List ℕ) → List ℕ → Bool
 is_headed [] text = false
-is_headed (field ∷ fields) text = is_same field text
+is_headed (field ∷ fields) text = is_text field text
 
 abbrev pub begins_with : List (List ℕ) → List ℕ → Bool
 begins_with [] text = false

@@ -10,6 +10,3 @@ pub mod Row
 pub mod TaskRows
 pub mod Waypoint
 pub mod Zone
-pub use Rattle.gl_sphere.specs.PlaceText
-pub use Rattle.gl_text.specs.Digits
-pub use Rattle.gl_text.specs.Lines

@@ -4,7 +4,7 @@ use Rattle.std.specs.List.{find, list_all}
 use Rattle.std.specs.Ordering.{int_eq}
 use Rattle.gl_sphere.specs.declared.place.Grid.{Grid}
 use Rattle.gl_cup.specs.Detail.{first_refused, zone_at}
-use Rattle.gl_cup.specs.Waypoint.{is_same}
+use Rattle.gl_text.specs.Forms.{is_text}
 use Rattle.gl_cup.specs.declared.error.CupError as code
 use Rattle.gl_cup.specs.declared.error.CupError.TheVariants as cup
 use Rattle.gl_cup.specs.declared.row.Row.{Row}
@@ -20,7 +20,7 @@ is_one_place a b = int_eq a.lat b.lat && int_eq a.lon b.lon
 
 -- a waypoint has another name, or this place
 abbrev pub agrees : List ℕ → Grid → Waypoint → Bool
-agrees name place waypoint = not (is_same waypoint.name name) || is_one_place waypoint.place place
+agrees name place waypoint = not (is_text waypoint.name name) || is_one_place waypoint.place place
 
 abbrev pub place_if : Bool → Grid → Option Grid
 place_if test place = if test then Some place else None
@@ -33,7 +33,7 @@ place_with name waypoints (Some first) =
 -- the place of the waypoints with a name; none where there is none, and where two are apart
 unfoldable pub place_of : List ℕ → List Waypoint → Option Grid
 place_of name waypoints =
-    place_with name waypoints (find (λ waypoint. is_same waypoint.name name) waypoints)
+    place_with name waypoints (find (λ waypoint. is_text waypoint.name name) waypoints)
 
 -- the first name without a place, of names that count from a number on
 abbrev pub first_unknown : List Waypoint → ℕ → List (List ℕ) → Option ℕ

@@ -1,6 +1,5 @@
 -- The waypoints of rows.
-use Rattle.std.specs.Prelude.{ℕ, List, Option, Some, option_map, position, is_none, slice_get, codes, Bool, nat_eq, ℤ}
-use Rattle.std.specs.Cmp.Lexicographic.{pointwise}
+use Rattle.std.specs.Prelude.{ℕ, List, Option, Some, option_map, position, is_none, slice_get, codes, Bool, ℤ}
 use Rattle.gl_text.specs.Digits.{◌>>=◌}
 use Rattle.gl_sphere.specs.PlaceText.{place_of}
 use Rattle.gl_cup.specs.declared.error.CupError as code
@@ -9,17 +8,14 @@ use Rattle.gl_cup.specs.declared.row.Row as row
 use Rattle.gl_cup.specs.declared.waypoint.Columns as columns
 use Rattle.gl_cup.specs.declared.waypoint.Waypoint as waypoint
 use Rattle.gl_cup.specs.Angle.{place_by}
-
--- two texts have the same bytes
-abbrev pub is_same : List ℕ → List ℕ → Bool
-is_same a b = pointwise nat_eq a b
+use Rattle.gl_text.specs.Forms.{is_text}
 
 -- where a header has the name, the latitude and the longitude
 unfoldable pub columns_of : List (List ℕ) → Option columns.Columns
 columns_of fields = do
-  name ← position (λ field. is_same field (codes "name")) fields
-  lat ← position (λ field. is_same field (codes "lat")) fields
-  lon ← position (λ field. is_same field (codes "lon")) fields
+  name ← position (λ field. is_text field (codes "name")) fields
+  lat ← position (λ field. is_text field (codes "lat")) fields
+  lon ← position (λ field. is_text field (codes "lon")) fields
   Some (record { name = name; lat = lat; lon = lon })
 
 -- the place of a row, as its latitude and longitude

@@ -4,7 +4,7 @@ use Rattle.std.specs.Str.{byte}
 use Rattle.gl_text.specs.Digits.{◌>>=◌, number_of}
 use Rattle.gl_cup.specs.Decimal.{radius_of, thousandths_of}
 use Rattle.gl_cup.specs.Pair.{are_known, value_of}
-use Rattle.gl_cup.specs.Waypoint.{is_same}
+use Rattle.gl_text.specs.Forms.{is_text}
 use Rattle.gl_cup.specs.declared.pair.Keys.TheVariants as keys
 use Rattle.gl_cup.specs.declared.zone.ObsZone.{ObsZone}
 use Rattle.gl_cup.specs.declared.zone.Style as code
@@ -20,11 +20,11 @@ point_of text =
 -- which way a zone points
 unfoldable pub style_of : List ℕ → Option code.Style
 style_of text =
-    if is_same text (codes "0") then Some style.Fixed
-    else (if is_same text (codes "1") then Some style.Symmetrical
-    else (if is_same text (codes "2") then Some style.ToNext
-    else (if is_same text (codes "3") then Some style.ToPrevious
-    else (if is_same text (codes "4") then Some style.ToStart else None))))
+    if is_text text (codes "0") then Some style.Fixed
+    else (if is_text text (codes "1") then Some style.Symmetrical
+    else (if is_text text (codes "2") then Some style.ToNext
+    else (if is_text text (codes "3") then Some style.ToPrevious
+    else (if is_text text (codes "4") then Some style.ToStart else None))))
 
 -- the metres of a length; 0 where it is left out
 abbrev pub length_or_none : Option (List ℕ) → Option ℕ
@@ -43,8 +43,8 @@ angle_or_none (Some value) = option_and_then within_turn (thousandths_of value)
 -- a key that is set, to 1 or True, or isn't: to 0 or False, or left out
 abbrev pub flag_in : List ℕ → Option Bool
 flag_in value =
-    if is_same value (codes "0") || is_same value (codes "False") then Some false
-    else (if is_same value (codes "1") || is_same value (codes "True") then Some true else None)
+    if is_text value (codes "0") || is_text value (codes "False") then Some false
+    else (if is_text value (codes "1") || is_text value (codes "True") then Some true else None)
 
 abbrev pub flag_of : Option (List ℕ) → Option Bool
 flag_of None = Some false

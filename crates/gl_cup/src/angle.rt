@@ -1,10 +1,10 @@
 ghost use Rattle.std.specs.Prelude.{◌≡◌, ◌-◌, ◌*◌, ◌^◌, ◌<◌, ◌≤◌, length, IfSome, option_map};
-ghost use Rattle.gl_sphere.specs.PlaceText.{place_of, signed_by};
+ghost use Rattle.gl_sphere.specs.PlaceText.{place_of};
 ghost use Rattle.gl_sphere.specs.Range.{IsWithin};
 ghost use Rattle.gl_sphere.specs.Sphere.{half_turn, quarter_turn};
 ghost use Rattle.gl_cup.specs.Angle.{angle_in, angle_of, latitude_of, longitude_of, place_by, size_of};
 
-use gl_sphere::{Grid, HALF_TURN, QUARTER_TURN};
+use gl_sphere::{Grid, HALF_TURN, QUARTER_TURN, signed};
 use gl_text::read_digits;
 
 /// A degree and a minute in 1/100,000 minute.
@@ -75,23 +75,6 @@ fn angle_of(limit: u32, digits: usize, text: &[u8]) -> Option<u32>
         &text[digits..digits + 2],
         &text[digits + 3..],
     )
-}
-
-/// A size with the sign of a letter: plus for the first letter, minus for the second.
-#[tactic(auto, unfolding(gl_sphere::specs::PlaceText::signed_by))]
-fn signed(plus: u8, minus: u8, letter: u8, size: u32) -> Option<i32>
-    requires { size ≤ half_turn }
-    ensures value { result ≡ signed_by plus minus (Some letter) size }
-    ensures bound { IfSome result (IsWithin size) }
-{
-    let size = size as i32;
-    if letter == plus {
-        Some(size)
-    } else if letter == minus {
-        Some(-size)
-    } else {
-        None
-    }
 }
 
 /// The latitude in 1/100,000 minute, north positive, that `DDMM.mmm` and `N` or `S` say.

@@ -1,6 +1,6 @@
 ghost use Rattle.std.specs.Prelude.{◌≡◌, ◌==◌, option_map, position};
 ghost use Rattle.gl_cup.specs.Pair.{are_known, behind_key, has_key, is_key, is_options_key, is_zone_key, key_of, value_of};
-ghost use Rattle.gl_cup.specs.Waypoint.{is_same};
+ghost use Rattle.gl_text.specs.Forms.{is_text};
 ghost use Rattle.std.specs.List.{find, list_any};
 ghost use Rattle.std.specs.Str.{byte};
 
@@ -26,7 +26,7 @@ fn key_of(field: &[u8]) -> &[u8]
 /// The first field with a key.
 fn field_with<'a>(fields: &'a [Field], key: &[u8]) -> Option<&'a Field>
     ensures { option_map (λ field. field.now) result
-        ≡ find (λ field. is_same (key_of field) key.now) fields.now }
+        ≡ find (λ field. is_text (key_of field) key.now) fields.now }
 {
     fields.iter().find(|field| key_of(field.as_slice()) == key)
 }
@@ -60,8 +60,8 @@ pub enum Keys {
 }
 
 /// Whether two texts are the same.
-pub fn is_same(one: &[u8], other: &[u8]) -> bool
-    ensures { result ≡ is_same one.now other.now }
+pub fn is_text(one: &[u8], other: &[u8]) -> bool
+    ensures { result ≡ is_text one.now other.now }
 {
     one == other
 }
@@ -70,35 +70,35 @@ pub fn is_same(one: &[u8], other: &[u8]) -> bool
 fn is_zone_key(key: &[u8]) -> bool
     ensures { result ≡ is_zone_key key.now }
 {
-    is_same(key, b"ObsZone")
-        || is_same(key, b"Style")
-        || is_same(key, b"R1")
-        || is_same(key, b"A1")
-        || is_same(key, b"R2")
-        || is_same(key, b"A2")
-        || is_same(key, b"A12")
-        || is_same(key, b"Line")
-        || is_same(key, b"AAT")
-        || is_same(key, b"Move")
-        || is_same(key, b"Reduce")
+    is_text(key, b"ObsZone")
+        || is_text(key, b"Style")
+        || is_text(key, b"R1")
+        || is_text(key, b"A1")
+        || is_text(key, b"R2")
+        || is_text(key, b"A2")
+        || is_text(key, b"A12")
+        || is_text(key, b"Line")
+        || is_text(key, b"AAT")
+        || is_text(key, b"Move")
+        || is_text(key, b"Reduce")
 }
 
 /// Whether a key is one of the line of options.
 fn is_options_key(key: &[u8]) -> bool
     ensures { result ≡ is_options_key key.now }
 {
-    is_same(key, b"Options")
-        || is_same(key, b"NoStart")
-        || is_same(key, b"TaskTime")
-        || is_same(key, b"WpDis")
-        || is_same(key, b"NearDis")
-        || is_same(key, b"NearAlt")
-        || is_same(key, b"MinDis")
-        || is_same(key, b"RandomOrder")
-        || is_same(key, b"MaxPts")
-        || is_same(key, b"BeforePts")
-        || is_same(key, b"AfterPts")
-        || is_same(key, b"Bonus")
+    is_text(key, b"Options")
+        || is_text(key, b"NoStart")
+        || is_text(key, b"TaskTime")
+        || is_text(key, b"WpDis")
+        || is_text(key, b"NearDis")
+        || is_text(key, b"NearAlt")
+        || is_text(key, b"MinDis")
+        || is_text(key, b"RandomOrder")
+        || is_text(key, b"MaxPts")
+        || is_text(key, b"BeforePts")
+        || is_text(key, b"AfterPts")
+        || is_text(key, b"Bonus")
 }
 
 /// Whether a key is one of those that a line may have.
@@ -117,7 +117,7 @@ fn has_key(fields: &[Field], key: &[u8]) -> bool
 {
     fields
         .iter()
-        .any(|field| is_same(key_of(field.as_slice()), key))
+        .any(|field| is_text(key_of(field.as_slice()), key))
 }
 
 /// Whether the keys of fields are all known, and each comes once.

@@ -1,7 +1,7 @@
 use crate::field::Field;
 use crate::zone::ObsZone;
-use gl_igc::Items;
 use gl_sphere::Grid;
+use gl_text::Items;
 
 /// A point of a task, with its zone and the line that says the zone.
 #[derive(Debug, Drop)]

@@ -5,7 +5,7 @@ ghost use Rattle.gl_cup.specs.Detail.{options_among, zone_at};
 ghost use Rattle.gl_cup.specs.Reading.{ArePoints, IsHeader, IsPoint, IsTaskOf};
 ghost use Rattle.gl_cup.specs.Refusal.{IsRefusalOf, header_refused};
 ghost use Rattle.gl_cup.specs.TaskRows.{agrees, first_unknown, first_zoneless, is_one_place, names_in, place_of, refused_points, refused_task};
-ghost use Rattle.gl_cup.specs.Waypoint.{is_same};
+ghost use Rattle.gl_text.specs.Forms.{is_text};
 
 use crate::choice::{choose, split_at_mark};
 use crate::detail::{options_among, test_details, zone_at};
@@ -14,8 +14,8 @@ use crate::field::Field;
 use crate::point::{CupPoint, CupTask};
 use crate::row::{Row, read_rows};
 use crate::waypoint::{Columns, Waypoint, read_columns, read_waypoints};
-use gl_igc::Items;
 use gl_sphere::Grid;
+use gl_text::Items;
 use std::alloc::Global;
 
 /// The columns of the header, which is the first row, and the rows below it.
@@ -35,7 +35,7 @@ fn read_header(rows: &[Row]) -> Result<(Columns, &[Row]), CupError>
 /// The first waypoint with a name.
 fn first_named<'a>(waypoints: &'a [Waypoint], name: &[u8]) -> Option<&'a Waypoint>
     ensures { option_map (λ waypoint. waypoint.now) result
-        ≡ find (λ waypoint. is_same waypoint.name name.now) waypoints.now }
+        ≡ find (λ waypoint. is_text waypoint.name name.now) waypoints.now }
 {
     waypoints
         .iter()

@@ -10,8 +10,7 @@ ghost use Rattle.gl_cup.specs.Row.{fields_of_line, first_broken, has_return, is_
 use crate::error::CupError;
 use crate::field::Field;
 use csv::{ByteRecord, Error, ReaderBuilder};
-use gl_igc::Items;
-use gl_text::next_line;
+use gl_text::{Items, next_line};
 use std::alloc::{AllocError, Global};
 
 /// A line that isn't empty: its number, from 1, and its fields.

@@ -1,7 +1,8 @@
 ghost use Rattle.std.specs.Prelude.{◌≡◌, ◌≢◌, Some, None, IfOk, IfErr, map, option_map, position, find, is_none, slice_get};
 ghost use Rattle.gl_sphere.specs.PlaceText.{place_of};
 ghost use Rattle.gl_cup.specs.declared.error.CupError.TheVariants.{Memory};
-ghost use Rattle.gl_cup.specs.Waypoint.{columns_of, is_same, is_unread, place_in, refused_waypoint, seen_of, waypoint_of};
+ghost use Rattle.gl_text.specs.Forms.{is_text};
+ghost use Rattle.gl_cup.specs.Waypoint.{columns_of, is_unread, place_in, refused_waypoint, seen_of, waypoint_of};
 
 use crate::angle::read_place;
 use crate::error::CupError;
@@ -27,7 +28,7 @@ pub struct Waypoint {
 
 /// Where a column stands.
 fn column_of(fields: &[Field], title: &[u8]) -> Option<usize>
-    ensures { result ≡ position (λ field. is_same field title.now) fields.now }
+    ensures { result ≡ position (λ field. is_text field title.now) fields.now }
 {
     fields.iter().position(|field| field.as_slice() == title)
 }

@@ -4,7 +4,7 @@ ghost use Rattle.gl_cup.specs.Zone.{angle_or_none, angles_of, flag_in, flag_of, 
 
 use crate::decimal::{read_radius, read_thousandths};
 use crate::field::Field;
-use crate::pair::{Keys, are_known, is_same, value_of};
+use crate::pair::{Keys, are_known, is_text, value_of};
 use gl_text::read_digits;
 
 /// Which way the middle of a zone points.
@@ -54,15 +54,15 @@ fn read_point(text: &[u8]) -> Option<u64>
 fn read_style(text: &[u8]) -> Option<Style>
     ensures { result ≡ style_of text.now }
 {
-    if is_same(text, b"0") {
+    if is_text(text, b"0") {
         Some(Style::Fixed)
-    } else if is_same(text, b"1") {
+    } else if is_text(text, b"1") {
         Some(Style::Symmetrical)
-    } else if is_same(text, b"2") {
+    } else if is_text(text, b"2") {
         Some(Style::ToNext)
-    } else if is_same(text, b"3") {
+    } else if is_text(text, b"3") {
         Some(Style::ToPrevious)
-    } else if is_same(text, b"4") {
+    } else if is_text(text, b"4") {
         Some(Style::ToStart)
     } else {
         None
@@ -100,9 +100,9 @@ fn angle_at(fields: &[Field], key: &[u8]) -> Option<u32>
 fn flag_in(value: &[u8]) -> Option<bool>
     ensures { result ≡ flag_in value.now }
 {
-    if is_same(value, b"0") || is_same(value, b"False") {
+    if is_text(value, b"0") || is_text(value, b"False") {
         Some(false)
-    } else if is_same(value, b"1") || is_same(value, b"True") {
+    } else if is_text(value, b"1") || is_text(value, b"True") {
         Some(true)
     } else {
         None

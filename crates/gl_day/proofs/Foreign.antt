@@ -1,7 +1,7 @@
 -- The text of a proof is no recording.
 use Rattle.std.proofs.Common.{◌≡◌, refl, List, Option, ℤ}
 use Rattle.std.specs.Prelude.{Err}
-use Rattle.gl_igc.specs.Lines.{lines_of}
+use Rattle.gl_text.specs.Lines.{lines_of}
 use Rattle.gl_igc.specs.declared.error.IgcError.TheVariants.{NotIgc}
 use Rattle.gl_igc.specs.Reading.{opening_of_line, reading_of_opening, recording_of, recording_of_lines}
 use Rattle.gl_proof.specs.Claim.{Statement}

@@ -19,7 +19,7 @@ use Rattle.gl_goal.specs.Goal.{IsGoal, IsTuple, Goal, chosen, whole_cell}
 use Rattle.gl_proof.specs.declared.claim.ClaimKind.{ClaimKind}
 use Rattle.gl_proof.specs.Claim.{IsStatement, Statement}
 use Rattle.gl_proof.specs.Line.{AreFixes, AreSpans, IsSpan}
-use Rattle.gl_proof.specs.Number.{is_number}
+use Rattle.gl_text.specs.Forms.{is_number}
 use Rattle.gl_day.specs.Expected.{Proves}
 
 -- the lists of fixes to choose from name numbers of 32 bits

@@ -10,7 +10,7 @@ use Rattle.gl_goal.specs.Lists.{AreNamed}
 use Rattle.gl_judge.specs.Claims.{AreExpected}
 use Rattle.gl_judge.proofs.ExpectedGoals.{AreGoalsOver, IsGoalOver, expected_over}
 use Rattle.gl_proof.specs.Claim.{IsStatement, Statement}
-use Rattle.gl_proof.specs.Number.{is_number}
+use Rattle.gl_text.specs.Forms.{is_number}
 use Rattle.gl_task.specs.declared.task.Task.{Task}
 use Rattle.gl_day.specs.Expected.{Proves, expected_of}
 use Rattle.gl_day.proofs.Statements.{AreShort, certificate_statement}

@@ -4,7 +4,7 @@ ghost use Rattle.gl_goal.specs.Goal.{IsLegal, IsOptimum};
 ghost use Rattle.gl_plain.specs.Found.{IsCertified};
 ghost use Rattle.gl_plain.specs.Search.{IsSound, fixes_of, total_of};
 ghost use Rattle.gl_proof.specs.Claim.{IsWritable, statement_of};
-ghost use Rattle.gl_proof.specs.Number.{is_number};
+ghost use Rattle.gl_text.specs.Forms.{is_number};
 ghost use Rattle.gl_day.specs.Expected.{Proves};
 
 use crate::search::Search;

@@ -8,19 +8,11 @@ use Rattle.gl_deal.specs.declared.view.HandView.{HandView}
 use Rattle.gl_deal.specs.declared.view.PassView.{PassView}
 use Rattle.gl_deal.specs.declared.view.View.{View}
 use Rattle.gl_deal.specs.declared.view.View.TheVariants.{OfHand, OfPass}
-use Rattle.gl_deal.specs.Views.{as_hand, as_pass, is_hand, is_pass}
+use Rattle.gl_deal.specs.Views.{as_hand, as_pass, is_hand}
 
 -- the views of a hand and its passes
 abbrev pub seated : HandView → List PassView → List View
 seated hand passes = OfHand hand ∷ map (λ pass. OfPass pass) passes
-
-pub is_of_hand : (view : View) → is_hand view ≡ true → view ≡ OfHand (as_hand view)
-is_of_hand (OfHand hand) is = refl
-is_of_hand (OfPass pass) is = absurd (true≢false (sym is))
-
-pub is_of_pass : (view : View) → is_pass view ≡ true → view ≡ OfPass (as_pass view)
-is_of_pass (OfHand hand) is = absurd (true≢false (sym is))
-is_of_pass (OfPass pass) is = refl
 
 no_hand : (passes : List PassView) (at : ℕ) (hand : HandView) → get_elem? (map (λ pass. OfPass pass) passes) at ≡ some (OfHand hand) → ⊥
 no_hand [] at hand is = some-ne-none (OfHand hand) (sym is)

@@ -89,3 +89,7 @@ FileTakes before after name part =
 -- some first part of the piece meets the fact
 abbrev pub TakesPrefix : List ℕ → (List ℕ → Type 0) → Type 0
 TakesPrefix piece P = (n : ℕ) × P (take n piece)
+
+-- each of the names has a file, as far as is told
+abbrev pub HaveFiles : Option FilesByName → List (List ℕ) → Type 0
+HaveFiles folder names = (name : List ℕ) → Contains names name → HasFile folder name

@@ -1,7 +1,7 @@
 -- What the words ask for.
 use Rattle.std.specs.Prelude.{ℕ, nat_lt, ◌==◌, ◌||◌, if◌then◌else◌, slice_index, List, [], ◌∷◌, length, Option, None, Some, option_map}
 use Rattle.std.specs.Str.{byte}
-use Rattle.gl_task.specs.Forms.{is_file_name}
+use Rattle.gl_text.specs.Forms.{is_file_name}
 use Rattle.gl_text.specs.Digits.{number_of}
 
 -- the number of a task: one to six digits, the first of which isn't 0

@@ -1,8 +1,8 @@
 ghost use Rattle.std.specs.Prelude.{◌≡◌, ◌≢◌, ◌↔◌, None, Some, IfOk, IfErr, IsNone};
 ghost use Rattle.gl_desk.specs.Answers.{OnlyReads, stop_of};
-ghost use Rattle.gl_desk.specs.Desk.{FilesByName, IsSeenIn};
+ghost use Rattle.gl_desk.specs.Desk.{FilesByName, IsSeenIn, HaveFiles};
 ghost use Rattle.gl_draft.specs.Causes.{IsNoFault, stop_at};
-ghost use Rattle.gl_draft.specs.Code.Run.{stop_in, HaveFiles, IsAnswer, asked_by};
+ghost use Rattle.gl_draft.specs.Code.Run.{stop_in, IsAnswer, asked_by};
 ghost use Rattle.gl_draft.specs.Taken.{IsDraftOf, IsMade, IsTaskIn, IsTextOf};
 ghost use Rattle.gl_draft.specs.Run.{IsRun};
 ghost use Rattle.std.specs.Prelude.{Option};
@@ -19,7 +19,7 @@ use crate::text::draft_text;
 use crate::words::{USAGE, Words, read_words};
 use gl_cup::{CupTask, read_cup};
 use gl_desk::{Desk, DeskError, MOST_BYTES, Name, ReadError, read_all};
-use gl_igc::Items;
+use gl_text::Items;
 use std::alloc::{AllocError, Global};
 
 /// The bytes of the task's file, which has to be one of the folder's.

@@ -1,7 +1,7 @@
 use crate::entrant::Entrant;
 use gl_cup::Field;
-use gl_igc::Items;
 use gl_sphere::Grid;
+use gl_text::Items;
 
 /// The kind of a task; the minimum of an area task in seconds, if it is known.
 #[derive(Clone, Copy, Debug, PartialEq, Eq)]

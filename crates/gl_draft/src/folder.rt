@@ -1,14 +1,14 @@
 ghost use Rattle.std.specs.Prelude.{◌≡◌, IfOk};
 ghost use Rattle.gl_desk.specs.Answers.{OnlyReads};
-ghost use Rattle.gl_desk.specs.Desk.{HasFile};
-ghost use Rattle.gl_draft.specs.Code.Run.{stop_in, HaveFiles};
+ghost use Rattle.gl_desk.specs.Desk.{HasFile, HaveFiles};
+ghost use Rattle.gl_draft.specs.Code.Run.{stop_in};
 
 use crate::entrant::Entrant;
 use crate::heading::{Heading, read_heading};
 use crate::refusal::Cause;
 use gl_desk::{Desk, DeskError, MOST_BYTES, Name, ReadError, read_all};
 use gl_igc::{IgcError, read_igc};
-use gl_task_file::{is_file_name, is_name, is_number};
+use gl_text::{is_file_name, is_name, is_number};
 use std::alloc::{AllocError, Global};
 
 /// What the recordings of a folder say.

@@ -1,6 +1,5 @@
 use gl_desk::Name;
-use gl_task_file::{is_name, is_number};
-use gl_text::next_line;
+use gl_text::{is_name, is_number, next_line};
 use std::alloc::{AllocError, Global};
 use std::str;
 

@@ -3,7 +3,7 @@ ghost use Rattle.gl_draft.specs.Code.Run.{asked_by};
 ghost use Rattle.gl_draft.specs.Words.{file_alone, number_in, pair_of, words_of};
 
 use gl_desk::Name;
-use gl_task_file::is_file_name;
+use gl_text::is_file_name;
 
 /// The line for words of another form.
 pub const USAGE: &str = "usage: TASK.CUP | TASK.CUP NUMBER\n";

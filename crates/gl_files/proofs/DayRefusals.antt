@@ -1,41 +1,27 @@
 -- The files of a day have names without an LF.
-use Rattle.std.proofs.Common.{◌≡◌, refl, subst, ℕ, Bool, true, false, not, if◌then◌else◌, List, Option, None, Some, codes, arith}
-use Rattle.std.specs.List.{list_all}
-use Rattle.std.specs.Cmp.{first_so, second_so}
+use Rattle.std.proofs.Common.{◌≡◌, refl, subst, ℕ, Bool, true, false, if◌then◌else◌, List, Option, None, Some, codes}
 use Rattle.std.specs.Option.{option_and_then}
-use Rattle.std.proofs.lemmas.List.Sums.{AllPass-from_list_all, list_all-from_AllPass}
-use Rattle.std.proofs.lemmas.List.Elements.{All-weaker}
 use Rattle.toml.specs.Data.{Data, Members, as_str, get_member}
 use Rattle.toml.specs.Parse.{parse_document}
-use Rattle.gl_task.specs.Forms as forms
+use Rattle.gl_text.specs.Forms.{is_file_name}
 use Rattle.gl_task_file.specs.Keys.{said}
 use Rattle.gl_task_file.specs.Values.{file_name, in_form}
 use Rattle.gl_words.specs.Words.{DayNames}
-use Rattle.gl_words.proofs.Unbroken.{is_inside, is_unbroken, AreUnbroken}
+use Rattle.gl_text.proofs.Forms.{is_unbroken, is_unbroken-file}
+use Rattle.gl_words.proofs.Unbroken.{AreUnbroken}
 use Rattle.gl_files.specs.DayFiles.{ScoreSeen, TaskSeen, airspace_file, airspace_tests, check_tests, named_airspace, score_tests, task_tests}
 use Rattle.gl_files.specs.FileTests.{ProofText, text_tests}
 use Rattle.gl_files.proofs.FileTests.{AreNamed, all_named}
 
--- the name of the airspace file of a task has none
-inside-file_byte : (b : ℕ) → forms.is_in_file_name b ≡ true → is_inside b ≡ true
-inside-file_byte b named = grind arith
-
-file_unbroken : (file : List ℕ) → forms.is_file_name file ≡ true → is_unbroken file ≡ true
-file_unbroken file named =
-    let but_folder = first_so _ (not (forms.is_text file (codes ".."))) named in
-    let but_own = first_so _ (not (forms.is_text file (codes "."))) but_folder in
-    let bytes : list_all forms.is_in_file_name file ≡ true = second_so _ _ but_own in
-    list_all-from_AllPass is_inside file (All-weaker (λ b. forms.is_in_file_name b ≡ true) (λ b. is_inside b ≡ true) inside-file_byte file (AllPass-from_list_all forms.is_in_file_name file bytes))
-
-form_is : (text file : List ℕ) (fits : Bool) → forms.is_file_name text ≡ fits → (if fits then Some text else None) ≡ Some file → is_unbroken file ≡ true
+form_is : (text file : List ℕ) (fits : Bool) → is_file_name text ≡ fits → (if fits then Some text else None) ≡ Some file → is_unbroken file ≡ true
 form_is text file true fits same =
     let e : text ≡ file = cc in
-    file_unbroken file (subst (λ (t : List ℕ). forms.is_file_name t ≡ true) e fits)
+    is_unbroken-file file (subst (λ (t : List ℕ). is_file_name t ≡ true) e fits)
 form_is text file false fits same = absurd (cc)
 
-text_is : (text : Option (List ℕ)) (file : List ℕ) → option_and_then (in_form forms.is_file_name) text ≡ Some file → is_unbroken file ≡ true
+text_is : (text : Option (List ℕ)) (file : List ℕ) → option_and_then (in_form is_file_name) text ≡ Some file → is_unbroken file ≡ true
 text_is None file same = absurd (cc)
-text_is (Some text) file same = form_is text file (forms.is_file_name text) refl same
+text_is (Some text) file same = form_is text file (is_file_name text) refl same
 
 value_is : (value : Option Data) (file : List ℕ) → option_and_then file_name value ≡ Some file → is_unbroken file ≡ true
 value_is None file same = absurd (cc)

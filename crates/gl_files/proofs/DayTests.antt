@@ -6,39 +6,24 @@ use Rattle.std.specs.Cmp.Lexicographic.{pointwise}
 use Rattle.std.specs.Option.{option_and_then}
 use Rattle.std.proofs.lemmas.Map.Views.{Contains-from_any}
 use Rattle.gl_airspace.specs.Airspace.{IsAirspace}
-use Rattle.gl_airspace.specs.Parts.{Tells}
-use Rattle.gl_airspace.specs.Volumes.{readings_of, refusal_of}
-use Rattle.gl_airspace.specs.declared.error.AirError.{AirError}
 use Rattle.gl_airspace.specs.declared.volume.Airspace.{Airspace}
 use Rattle.gl_desk.specs.Desk.{FilesByName, HasFile, IsSeenIn, ListsNames}
 use Rattle.gl_desk.specs.Limits.{most_bytes}
 use Rattle.gl_proof.specs.declared.proof.Proof.{Proof}
 use Rattle.gl_task.specs.declared.task.Task.{Task}
 use Rattle.gl_task_file.specs.Keys.{said}
-use Rattle.gl_task_file.specs.Reading.{IsReadFrom, IsRefusalOf}
+use Rattle.gl_task_file.specs.Reading.{IsReadFrom}
 use Rattle.gl_task_file.specs.Values.{file_name}
-use Rattle.gl_task_file.specs.declared.error.TaskError.{TaskError}
 use Rattle.gl_words.specs.Words.{DayNames}
 use Rattle.gl_files.specs.declared.day_files.DayFiles.{DayFiles}
 use Rattle.gl_files.specs.declared.halt.Halt.{Halt}
 use Rattle.gl_files.specs.declared.halt.Halt.TheVariants.{Refused, Stopped}
 use Rattle.gl_files.specs.declared.refusal.Refusal.{Refusal}
 use Rattle.gl_files.specs.DayFiles.{IsAirspaceRead, IsAirspaceSeen, IsCheckRead, IsDayRead, IsScoreRead, IsScoreSeen, IsTaskSeen, airspace_file, airspace_tests, check_tests, named_airspace, score_tests, task_tests}
-use Rattle.gl_files.specs.FileTests.{AirspaceText, HasTested, IsProofOfText, ProofText, Reads, TaskText, airspace_cause, task_cause, text_tests}
-use Rattle.gl_files.specs.Code.FileTests.{HasRead, HasReadFile, IsNeeded, IsUnused}
-use Rattle.gl_files.specs.Code.Halts.{RefusesFor}
-use Rattle.gl_files.proofs.FileTests.{all_pass, fails_behind, fails_in_front, small_fails, small_passes, some_text_fails, some_text_passes, text_refused}
+use Rattle.gl_files.specs.FileTests.{AirspaceText, HasTested, IsProofOfText, ProofText, Reads, TaskText, text_tests}
+use Rattle.gl_files.specs.Code.FileTests.{HasReadFile, IsNeeded, IsUnused}
+use Rattle.gl_files.proofs.FileTests.{all_pass, fails_behind, fails_in_front, small_fails, small_passes, some_text_fails, some_text_passes}
 use Rattle.gl_desk.proofs.DeskLemmas.{HasFile-from_names}
-
--- a text that gives no task, and one that gives no airspace
-pub task_text_refused : (file text : List ℕ) (error : TaskError) (halt : Halt) → IsRefusalOf text error → RefusesFor file (task_cause error) halt → HasRead TaskText file text IsReadFrom (Err halt)
-task_text_refused file text error halt told refused =
-    text_refused TaskText file text (task_cause error) halt IsReadFrom (λ cause why. (error, told, why)) refused
-
-pub airspace_text_refused : (file text : List ℕ) (error : AirError) (halt : Halt) → Tells (refusal_of (readings_of text)) error → RefusesFor file (airspace_cause error) halt
-    → HasRead AirspaceText file text IsAirspace (Err halt)
-airspace_text_refused file text error halt told refused =
-    text_refused AirspaceText file text (airspace_cause error) halt IsAirspace (λ cause why. (error, told, why)) refused
 
 -- a file that isn't among the names is none of the folder's
 none_seen : (seen : Option (List ℕ)) → (IsSome seen → ⊥) → seen ≡ None

@@ -1,24 +1,21 @@
 -- What holds of any tests of files.
-use Rattle.std.proofs.Common.{◌≡◌, ◌≢◌, ◌∙◌, refl, sym, ap, subst, ℕ, inl, inr, true, arith, List, [], ◌∷◌, ◌++◌, Option, None, Some, Result, Ok, Err, Vec}
+use Rattle.std.proofs.Common.{◌≡◌, ◌∙◌, refl, sym, ap, subst, ℕ, inl, inr, true, arith, List, [], ◌∷◌, ◌++◌, Option, None, Some, Result, Ok, Err, Vec}
 use Rattle.std.specs.Prelude.{IsSome}
 use Rattle.std.specs.declared.alloc.Global.{Global}
 use Rattle.gl_desk.specs.Desk.{FilesByName}
-use Rattle.gl_igc.specs.Reading.{Reading, recording_of}
+use Rattle.gl_igc.specs.Reading.{Reading}
 use Rattle.gl_igc.specs.declared.error.IgcError.{IgcError}
-use Rattle.gl_igc.specs.declared.error.IgcError.TheVariants as igc
-use Rattle.gl_lines.specs.declared.error.ProofError.{ProofError}
 use Rattle.gl_near.proofs.Reading as near
 use Rattle.gl_plain.proofs.StepLines.{schedule_told}
 use Rattle.gl_proof.proofs.Unique as proof
-use Rattle.gl_proof.specs.Refusal.{IsRefused}
 use Rattle.gl_series.proofs.Lines.{list_told}
 use Rattle.gl_series.proofs.Sheets.{sheet_told}
-use Rattle.gl_words.proofs.Unbroken.{is_unbroken}
+use Rattle.gl_text.proofs.Forms.{is_unbroken}
 use Rattle.gl_files.specs.declared.halt.Halt.{Halt}
 use Rattle.gl_files.specs.declared.halt.Halt.TheVariants.{Refused, Stopped}
 use Rattle.gl_files.specs.declared.refusal.Cause.{Cause}
 use Rattle.gl_files.specs.declared.refusal.Refusal.{Refusal}
-use Rattle.gl_files.specs.FileTests.{AirspaceText, AllPass, Fails, NearProofText, ProofText, SeriesListText, SheetText, TaskText, airspace_cause, list_cause, near_proof_cause, proof_cause, sheet_cause, task_cause, FileTest, FirstFails, IsNoText, IsProofOfText, IsText, Kind, Listed, Passes, Reads, RecordingText, ScheduleText, Small, Unlisted, file_of, recording_cause, schedule_cause, text_tests}
+use Rattle.gl_files.specs.FileTests.{AirspaceText, AllPass, Fails, NearProofText, ProofText, SeriesListText, SheetText, TaskText, airspace_cause, list_cause, near_proof_cause, proof_cause, sheet_cause, task_cause, FileTest, FirstFails, IsNoText, IsText, Kind, Listed, Passes, Reads, RecordingText, ScheduleText, Small, Unlisted, file_of, schedule_cause, text_tests}
 use Rattle.gl_files.specs.Code.FileTests.{HasRead, HasReadFile}
 use Rattle.gl_files.specs.Code.Halts.{AreBytes, RefusesFor}
 use Rattle.gl_files.proofs.Readings.{airspace_refused, task_refused}
@@ -112,27 +109,6 @@ text_refused kind file text None (Stopped stop) IsOf isnt wanting = tt
 text_refused kind file text (Some cause) (Refused refusal) IsOf isnt same =
     (ap (λ (r : Refusal). r.file) same, subst (IsNoText kind text) (ap (λ (r : Refusal). r.cause) (sym same)) (isnt cause refl))
 text_refused kind file text (Some cause) (Stopped stop) IsOf isnt same = tt
-
--- want of memory says nothing of a recording
-caused : (error : IgcError) (cause : Cause) → recording_cause error ≡ Some cause → error ≢ igc.Memory
-caused error cause why memory =
-    let e : ◌≡◌ {A = Option Cause} None (Some cause) = sym (ap recording_cause memory) ∙ why in cc
-
-pub recording_refused : {X : Type 0} (day : _) (file text : List ℕ) (error : IgcError) (halt : Halt) (IsOf : List ℕ → X → Type 0)
-    → (error ≢ igc.Memory → recording_of text day ≡ Err error) → RefusesFor file (recording_cause error) halt → HasRead (RecordingText day) file text IsOf (Err halt)
-recording_refused day file text error halt IsOf told refused =
-    text_refused (RecordingText day) file text (recording_cause error) halt IsOf (λ cause why. (error, told (caused error cause why), why)) refused
-
-pub proof_refused : (file text : List ℕ) (error : ProofError) (halt : Halt) → IsRefused text error → RefusesFor file (proof_cause error) halt → HasRead ProofText file text IsProofOfText (Err halt)
-proof_refused file text error halt told refused =
-    text_refused ProofText file text (proof_cause error) halt IsProofOfText (λ cause why. (error, told, why)) refused
-
--- a file whose bytes weren't read
-pub bytes_refused : {X : Type 0} (folder : Option FilesByName) (kind : Kind) (file : List ℕ) (most : ℕ) (halt : Halt) (IsOf : List ℕ → X → Type 0)
-    → AreBytes folder file most (Err halt) → HasReadFile kind most folder file IsOf (Err halt)
-bytes_refused folder kind file most (Refused refusal) IsOf refused =
-    (Some refused.0.0, refused.0.2, inl (ap (λ (r : Refusal). r.file) refused.1, (refused.0.1, ap (λ (r : Refusal). r.cause) refused.1)))
-bytes_refused folder kind file most (Stopped stop) IsOf refused = tt
 
 -- a file whose bytes were read
 pub bytes_read : {X : Type 0} (folder : Option FilesByName) (kind : Kind) (file : List ℕ) (most : ℕ) (bytes : Vec ℕ Global) (result : Result X Halt) (IsOf : List ℕ → X → Type 0)

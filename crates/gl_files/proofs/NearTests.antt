@@ -3,29 +3,19 @@ use Rattle.std.proofs.Common.{◌≡◌, refl, sym, ap, subst, ℕ, ℤ, inl, in
 use Rattle.std.specs.Prelude.{Contains, IsSomeAnd}
 use Rattle.gl_desk.specs.Desk.{FilesByName, HasFile, ListsNames}
 use Rattle.gl_igc.specs.declared.recording.Recording.{Recording}
-use Rattle.gl_lines.specs.Refusal.{IsRefusal}
-use Rattle.gl_lines.specs.declared.error.ProofError.{ProofError}
-use Rattle.gl_near.specs.Line.{near_grammar}
 use Rattle.gl_near.specs.declared.claim.NearClaim.{NearClaim}
 use Rattle.gl_desk.specs.Limits.{most_bytes}
 use Rattle.gl_words.specs.Words.{NearWords}
 use Rattle.gl_files.specs.declared.halt.Halt.{Halt}
 use Rattle.gl_files.specs.declared.halt.Halt.TheVariants.{Refused, Stopped}
 use Rattle.gl_files.specs.declared.refusal.Refusal.{Refusal}
-use Rattle.gl_files.specs.FileTests.{AllPass, FileTest, FirstFails, HasTested, IsRecordingOf, Listed, NearProofText, Passes, RecordingText, Unlisted, most_proof_bytes, near_proof_cause, text_tests}
-use Rattle.gl_files.specs.Code.FileTests.{HasRead, HasReadFile, IsNeeded, IsUnused}
-use Rattle.gl_files.specs.Code.Halts.{RefusesFor}
+use Rattle.gl_files.specs.FileTests.{AllPass, FileTest, FirstFails, HasTested, IsRecordingOf, Listed, NearProofText, Passes, RecordingText, Unlisted, most_proof_bytes, text_tests}
+use Rattle.gl_files.specs.Code.FileTests.{HasReadFile, IsNeeded, IsUnused}
 use Rattle.gl_files.specs.Code.NearFiles.{AreFlightsSeen, flights_tests}
 use Rattle.gl_files.specs.NearFiles.{AreNearCheckRead, AreNearRead, IsClaimOf, IsNearSeen, NearSeen, day_of, day_read, near_check_tests, near_tests, recording_tests}
 use Rattle.gl_files.proofs.DayTests.{is_listed, not_listed, seen_some}
-use Rattle.gl_files.proofs.FileTests.{all_pass, fails_behind, fails_in_front, some_text_fails, some_text_passes, text_refused}
+use Rattle.gl_files.proofs.FileTests.{all_pass, fails_behind, fails_in_front, some_text_fails, some_text_passes}
 use Rattle.gl_desk.proofs.DeskLemmas.{HasFile-from_names}
-
--- a text that is no proof of a closest approach
-pub claim_refused : (file text : List ℕ) (error : ProofError) (halt : Halt) → IsRefusal near_grammar text error → RefusesFor file (near_proof_cause error) halt
-    → HasRead NearProofText file text IsClaimOf (Err halt)
-claim_refused file text error halt told refused =
-    text_refused NearProofText file text (near_proof_cause error) halt IsClaimOf (λ cause why. (error, told, why)) refused
 
 -- the day of a recording that was read
 day_is : (seen : Option (List ℕ)) (recording : Recording) → IsSomeAnd seen (λ text. IsRecordingOf None text recording) → day_of seen ≡ Some recording.date

@@ -1,5 +1,5 @@
 -- A text that reads isn't refused, and has one reading.
-use Rattle.std.proofs.Common.{◌≡◌, ◌∙◌, refl, sym, subst, ℕ, List, Option, None, Some, codes}
+use Rattle.std.proofs.Common.{◌≡◌, ◌∙◌, refl, sym, subst, ℕ, List, Option, None, Some}
 use Rattle.toml.specs.Data.{Members}
 use Rattle.gl_airspace.specs.Airspace.{IsAirspace}
 use Rattle.gl_airspace.specs.Parts.{Tells}
@@ -7,8 +7,7 @@ use Rattle.gl_airspace.specs.Volumes.{Refusal, readings_of, refusal_of}
 use Rattle.gl_airspace.specs.declared.error.AirError.{AirError}
 use Rattle.gl_airspace.specs.declared.error.AirError.TheVariants as air
 use Rattle.gl_airspace.specs.declared.volume.Airspace.{Airspace}
-use Rattle.gl_task_file.specs.Keys.{Test, first_failed, said}
-use Rattle.gl_task_file.specs.Values.{file_name}
+use Rattle.gl_task_file.specs.Keys.{Test, first_failed}
 use Rattle.gl_task_file.specs.Reading.{FailsFirst, IsDocument, IsReadFrom, IsRefusalOf}
 use Rattle.gl_task_file.specs.Tests.{tests}
 use Rattle.gl_task_file.specs.declared.error.TaskError.{TaskError}
@@ -44,12 +43,6 @@ table_refused text file task.Memory document passes refused = refl
 -- so is a text that gives a task
 pub task_refused : (text : List ℕ) (read : Task) (error : TaskError) → IsReadFrom text read → IsRefusalOf text error → error ≡ task.Memory
 task_refused text read error reads refused = table_refused text reads.file error reads.document reads.passes refused
-
--- the tasks of a text name one airspace file
-pub task_airspace_same : (text : List ℕ) (a b : Task) → IsReadFrom text a → IsReadFrom text b → a.airspace ≡ b.airspace
-task_airspace_same text a b is_a is_b =
-    sym is_a.says.airspace ∙ subst (λ (file : Members). said (codes "airspace") file_name file ≡ b.airspace)
-    (sym (document_same text is_a.file is_b.file is_a.document is_b.document)) is_b.says.airspace
 
 -- a text that gives airspace is refused for want of memory alone
 pub airspace_refused : (text : List ℕ) (read : Airspace) (error : AirError) → IsAirspace text read → Tells (refusal_of (readings_of text)) error → error ≡ air.Memory

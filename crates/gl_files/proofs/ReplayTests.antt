@@ -3,26 +3,17 @@ use Rattle.std.proofs.Common.{refl, ap, ℕ, inl, inr, List, Option, None, Some,
 use Rattle.std.specs.declared.alloc.Global.{Global}
 use Rattle.gl_desk.specs.Desk.{FilesByName, HasFile, ListsNames}
 use Rattle.gl_igc.specs.declared.recording.Recording.{Recording}
-use Rattle.gl_plain.specs.Schedule.{IsRefused}
-use Rattle.gl_plain.specs.declared.error.StepError.{StepError}
 use Rattle.gl_plain.specs.declared.schedule.Step.{Step}
 use Rattle.gl_desk.specs.Limits.{most_bytes}
 use Rattle.gl_words.specs.Words.{ReplayWords}
 use Rattle.gl_files.specs.declared.halt.Halt.{Halt}
 use Rattle.gl_files.specs.declared.halt.Halt.TheVariants.{Refused, Stopped}
 use Rattle.gl_files.specs.declared.refusal.Refusal.{Refusal}
-use Rattle.gl_files.specs.Code.FileTests.{HasRead, HasReadFile, IsNeeded}
-use Rattle.gl_files.specs.FileTests.{HasTested, IsRecordingOf, RecordingText, ScheduleText, schedule_cause, text_tests}
-use Rattle.gl_files.specs.Code.Halts.{RefusesFor}
+use Rattle.gl_files.specs.Code.FileTests.{HasReadFile, IsNeeded}
+use Rattle.gl_files.specs.FileTests.{HasTested, IsRecordingOf, RecordingText, ScheduleText, text_tests}
 use Rattle.gl_files.specs.ReplayFiles.{AreReplayRead, AreStepsOf, IsReplaySeen, replay_tests}
 use Rattle.gl_files.proofs.DayTests.{is_listed, not_listed, seen_some}
-use Rattle.gl_files.proofs.FileTests.{all_pass, fails_behind, fails_in_front, some_text_fails, some_text_passes, text_refused}
-
--- a text that is no schedule
-pub schedule_refused : (file text : List ℕ) (error : StepError) (halt : Halt) → IsRefused text error → RefusesFor file (schedule_cause error) halt
-    → HasRead ScheduleText file text AreStepsOf (Err halt)
-schedule_refused file text error halt told refused =
-    text_refused ScheduleText file text (schedule_cause error) halt AreStepsOf (λ cause why. (error, told, why)) refused
+use Rattle.gl_files.proofs.FileTests.{all_pass, fails_behind, fails_in_front, some_text_fails, some_text_passes}
 
 -- the recording isn't listed: the first test
 pub flight_missing : (folder : Option FilesByName) (names : List (List ℕ)) (words : ReplayWords) (halt : Halt)

@@ -23,11 +23,11 @@ use Rattle.gl_task.specs.declared.task.LocalRules.{LocalRules}
 use Rattle.gl_task.specs.declared.task.PilotStart.{PilotStart}
 use Rattle.gl_task.specs.declared.task.Start.{Start}
 use Rattle.gl_task.specs.declared.task.Task.{Task}
-use Rattle.gl_task.specs.Forms.{is_file_name, is_number, is_name}
+use Rattle.gl_text.specs.Forms.{is_file_name, is_number, is_name}
 use Rattle.gl_task_file.specs.Keys.{table_at, table_of}
 use Rattle.gl_task.specs.Limits.{first_day, greatest_altitude, greatest_handicap, greatest_noise, last_day, last_second, longest_wait, most_entrants, most_points, most_zones, widest_window}
 use Rattle.gl_task_file.specs.Meaning.{Each, IsEntrant, IsFinishOf, IsKind, IsLine, IsPart, IsPilotStart, IsRulesOf, IsSector, IsStart, IsTask, IsZone}
-use Rattle.gl_task.specs.Numbers.{all_differ}
+use Rattle.gl_task.specs.Numbers.{none_repeats}
 use Rattle.gl_task.specs.Ranges.{has_minimum, has_width_and_way, is_in_range, is_round_its_centre}
 use Rattle.gl_task_file.specs.Reading.{IsReadFrom}
 use Rattle.gl_files.proofs.Readings.{document_same}
@@ -228,7 +228,7 @@ task_one file v w is_v is_w =
       finish_in_range = is_prop→PathP (λ j. IsTrue (is_in_range (finish j))) (λ j. hlevel props) v.finish_in_range w.finish_in_range i;
       some_entrant = is_prop→PathP (λ j. 1 ≤ length (entrants j)) (λ j. hlevel props) v.some_entrant w.some_entrant i;
       at_most_200_entrants = is_prop→PathP (λ j. length (entrants j) ≤ most_entrants) (λ j. hlevel props) v.at_most_200_entrants w.at_most_200_entrants i;
-      numbers_differ = is_prop→PathP (λ j. IsTrue (all_differ (map (λ (entrant : Entrant). entrant.number) (entrants j)))) (λ j. hlevel props) v.numbers_differ w.numbers_differ i;
+      numbers_differ = is_prop→PathP (λ j. IsTrue (none_repeats (map (λ (entrant : Entrant). entrant.number) (entrants j)))) (λ j. hlevel props) v.numbers_differ w.numbers_differ i;
     }
 
 -- a text has one task

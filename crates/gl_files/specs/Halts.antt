@@ -1,19 +1,11 @@
 -- What ends a command before its answer.
-use Rattle.std.specs.Prelude.{Option, None, Some, Result, Ok, Err, ⊤}
+use Rattle.std.specs.Prelude.{Option, None, Some, Result, Ok, Err}
 use Rattle.gl_desk.specs.declared.error.DeskError.{DeskError}
 use Rattle.gl_files.specs.declared.halt.Halt.{Halt}
 use Rattle.gl_files.specs.declared.halt.Halt.TheVariants.{Refused, Stopped}
-use Rattle.gl_files.specs.declared.refusal.Refusal.{Refusal}
 
 -- what stopped a call, if something did; a refusal stops nothing
 abbrev pub halt_stop : {X : Type 0} → Result X Halt → Option DeskError
 halt_stop (Ok x) = None
 halt_stop (Err (Refused refusal)) = None
 halt_stop (Err (Stopped stop)) = Some stop
-
--- what passes the tests of files and what is refused meets a fact; what stops a call says nothing
--- of the files
-abbrev pub IsTested : {X : Type 0} → (Result X Refusal → Type 0) → Result X Halt → Type 0
-IsTested P (Ok x) = P (Ok x)
-IsTested P (Err (Refused refusal)) = P (Err refusal)
-IsTested P (Err (Stopped stop)) = ⊤

@@ -18,7 +18,8 @@ use Rattle.gl_near.specs.declared.answer.NearVerdict.TheVariants.{Yes, Pair, Tot
 use Rattle.gl_near.specs.declared.found.NearBest.{NearBest}
 use Rattle.gl_near.specs.declared.found.NearWhy.{NearWhy}
 use Rattle.gl_words.specs.Words.{NearWords}
-use Rattle.gl_words.proofs.Unbroken.{is_unbroken, HasUnbrokenNear}
+use Rattle.gl_text.proofs.Forms.{is_unbroken}
+use Rattle.gl_words.proofs.Unbroken.{HasUnbrokenNear}
 use Rattle.gl_files.specs.declared.refusal.Refusal.{Refusal}
 use Rattle.gl_files.specs.FileTests.{AllPass, FirstFails, IsRecordingOf, most_proof_bytes}
 use Rattle.gl_files.specs.NearFiles.{AreNearRead, IsNearSeen, NearSeen, near_check_tests, near_tests}

@@ -5,9 +5,7 @@ use Rattle.gl_desk.specs.Answers.{OnlyReads, stop_of}
 use Rattle.gl_desk.specs.Desk.{FilesByName, Told}
 use Rattle.gl_desk.specs.declared.error.DeskError.{DeskError}
 use Rattle.gl_igc.specs.declared.recording.Recording.{Recording}
-use Rattle.gl_near.specs.Certificate.{IsCertificate, total_of}
 use Rattle.gl_near.specs.Line.{IsTextOf}
-use Rattle.gl_near.specs.Pairing.{IsLeast, Pairing}
 use Rattle.gl_near.specs.Verdict.{IsCheckedAs}
 use Rattle.gl_near.specs.declared.answer.NearVerdict.{NearVerdict}
 use Rattle.gl_near.specs.declared.claim.NearClaim.{NearClaim}
@@ -28,22 +26,9 @@ use Rattle.gl_answer.proofs.Appended.{part_after}
 use Rattle.gl_answer.specs.declared.answer.Answer as code
 use Rattle.gl_answer.specs.declared.status.Status.TheVariants.{Done}
 use Rattle.gl_answer.specs.Answer.{Answer, answer_of, AnswersHalt}
-use Rattle.gl_flights.specs.Near.{IsNear, IsNearCheck, IsNearestFix, IsNearestSaid, IsPointText, near_check_promise, near_promise, point_promise, pair_text, pairs_of, verdict_answer}
+use Rattle.gl_flights.specs.Near.{IsNear, IsNearCheck, IsNearestFix, IsNearestSaid, IsPointText, near_check_promise, near_promise, point_promise, pairs_of, verdict_answer}
 use Rattle.gl_flights.specs.OfFile.{IsOfFile}
 use Rattle.gl_answer.specs.Given.{HasAnswered, IsStopped}
-
--- what a search says of the pairs of two recordings
-pub nearest_said : (one pairing : Pairing) (best : Option NearBest) (boxes : List (List (ℕ × ℕ) × NearWhy)) (said proof : List ℕ) → one ≡ pairing → IsLeast one (total_of best)
-    → IsCertificate one best boxes → said ≡ pair_text best → IsTextOf proof best boxes → IsNearestSaid pairing (record { status = Done; said = said; appended = proof })
-nearest_said one pairing best boxes said proof same least certificate says is = record {
-  best = best;
-  boxes = boxes;
-  least = subst (λ (p : Pairing). IsLeast p (total_of best)) same least;
-  certificate = subst (λ (p : Pairing). IsCertificate p best boxes) same certificate;
-  ended = refl;
-  said = says;
-  appended = is;
-}
 
 -- the answer of `near` where its files passed
 near_is : (words : NearWords) (x m : Told) (flights : Recording × Recording) (said proof : List ℕ) → OnlyReads None x m

@@ -2,7 +2,7 @@
 use Rattle.std.proofs.Common.{◌≡◌, refl, ap, ℕ, inl, true, List, Option, Ok}
 use Rattle.gl_desk.specs.Desk.{FilesByName, IsSeenIn}
 use Rattle.gl_igc.specs.declared.recording.Recording.{Recording}
-use Rattle.gl_words.proofs.Unbroken.{is_unbroken}
+use Rattle.gl_text.proofs.Forms.{is_unbroken}
 use Rattle.gl_files.specs.FileTests.{HasTested}
 use Rattle.gl_files.specs.FlightFile.{IsFlightRead, flight_tests}
 use Rattle.gl_answer.specs.declared.status.Status.TheVariants.{Done}

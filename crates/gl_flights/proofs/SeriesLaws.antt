@@ -1,39 +1,22 @@
 -- The laws of `series`.
-use Rattle.std.proofs.Common.{◌≡◌, ◌≢◌, ◌∙◌, refl, sym, ap, subst, ℕ, inl, inr, true, List, [], ◌∷◌, Option, None, Some, Ok, Vec, arith, codes}
-use Rattle.std.specs.Prelude.{not}
-use Rattle.std.specs.Cmp.{first_so, second_so}
-use Rattle.std.specs.List.{AllZip, flat_map, list_all}
-use Rattle.std.specs.declared.alloc.Global.{Global}
-use Rattle.std.proofs.lemmas.List.Elements.{All-weaker}
-use Rattle.std.proofs.lemmas.List.Sums.{AllPass-from_list_all, list_all-from_AllPass}
+use Rattle.std.proofs.Common.{◌≡◌, ◌≢◌, ◌∙◌, sym, ap, subst, ℕ, inl, inr, true, List, [], ◌∷◌, Option, None, Some}
+use Rattle.std.specs.List.{AllZip, flat_map}
 use Rattle.gl_desk.specs.Desk.{FilesByName}
-use Rattle.gl_series.specs.Forms as forms
 use Rattle.gl_series.specs.SeriesList.{IsLineOf, IsList, day_of}
-use Rattle.gl_series.specs.declared.day.DaySheet.{DaySheet}
 use Rattle.gl_series.specs.declared.entry.Entry.{Entry}
 use Rattle.gl_series.specs.declared.entry.Entry.TheVariants.{Day, Team}
 use Rattle.gl_series.specs.declared.series.Series.{Series}
 use Rattle.gl_words.specs.Words.{SeriesWords}
-use Rattle.gl_words.proofs.Unbroken.{is_inside, is_unbroken}
-use Rattle.gl_files.specs.FileTests.{HasTested}
-use Rattle.gl_files.specs.SeriesFiles.{AreDaysSeen, AreSeriesRead, DaySeen, IsDaySeen, IsListRead, IsSeriesSeen, SeriesSeen, day_tests, series_tests}
+use Rattle.gl_text.proofs.Forms.{is_unbroken, is_unbroken-file}
+use Rattle.gl_files.specs.SeriesFiles.{AreDaysSeen, DaySeen, IsDaySeen, IsListRead, IsSeriesSeen, SeriesSeen, day_tests, series_tests}
 use Rattle.gl_files.proofs.FileTests.{AreNamed, refusal_named}
 use Rattle.gl_answer.specs.declared.status.Status.TheVariants.{Done}
-use Rattle.gl_answer.specs.Answer.{Answer, saying}
-use Rattle.gl_flights.specs.Series.{IsAddedUp, IsSeries, IsStandingText, series_promise}
+use Rattle.gl_answer.specs.Answer.{Answer}
+use Rattle.gl_flights.specs.Series.{IsAddedUp, IsSeries, series_promise}
 use Rattle.gl_answer.specs.Texts.{IsLine}
 use Rattle.gl_answer.proofs.ByTests.{by_tests_passes, by_tests_result}
 use Rattle.gl_answer.proofs.LineTexts.{said_by}
 use Rattle.gl_answer.proofs.Promises.{IsLawful, done_no_refusal, reading_lawful}
-
--- the name of a day's file has no LF
-inside_name : (c : ℕ) → forms.is_in_file_name c ≡ true → is_inside c ≡ true
-inside_name c named = grind arith
-
-day_unbroken : (name : List ℕ) → forms.is_file_name name ≡ true → is_unbroken name ≡ true
-day_unbroken name named =
-    let bytes : list_all forms.is_in_file_name name ≡ true = second_so _ _ (first_so _ (not (forms.is_text name (codes "."))) (first_so _ (not (forms.is_text name (codes ".."))) named)) in
-    list_all-from_AllPass is_inside name (All-weaker (λ b. forms.is_in_file_name b ≡ true) (λ b. is_inside b ≡ true) inside_name name (AllPass-from_list_all forms.is_in_file_name name bytes))
 
 abbrev AreUnbrokenDays : List (List ℕ) → Type 0
 AreUnbrokenDays [] = Unit {0}
@@ -43,7 +26,7 @@ entries_unbroken : (lines : List (List ℕ)) (entries : List Entry) → AllZip I
 entries_unbroken [] [] each = tt
 entries_unbroken [] (entry ∷ entries) each = absurd each
 entries_unbroken (line ∷ lines) [] each = absurd each
-entries_unbroken (line ∷ lines) (Day name ∷ entries) each = (day_unbroken name each.0.is_entry.1, entries_unbroken lines entries each.1)
+entries_unbroken (line ∷ lines) (Day name ∷ entries) each = (is_unbroken-file name each.0.is_entry.1, entries_unbroken lines entries each.1)
 entries_unbroken (line ∷ lines) (Team member ∷ entries) each = entries_unbroken lines entries each.1
 
 list_unbroken : (text : List ℕ) (series : Series) → IsList text series → AreUnbrokenDays series.days
@@ -82,9 +65,3 @@ series_lawful folder words named =
     (by_tests_result (IsSeriesSeen words folder) (series_tests words) (IsAddedUp words) (λ seen answer is. inl (added_done words seen answer is)))
     (by_tests_passes folder (IsSeriesSeen words) (series_tests words) (IsAddedUp words) (λ seen answer is. done_no_refusal answer.status (inl (added_done words seen answer is))))
     (series_line folder words named)
-
--- the answer for files that passed
-pub series_answered : (folder : Option FilesByName) (words : SeriesWords) (series : Series) (sheets : Vec DaySheet Global) (text : List ℕ)
-    → HasTested (IsSeriesSeen words folder) (series_tests words) AreSeriesRead (Ok (series, sheets)) → IsStandingText series sheets.items words.left_out text → IsSeries folder words (saying Done text)
-series_answered folder words series sheets text (seen, is, passes, read) says =
-    (seen, is, inl (passes, (series, read.0, sheets.items, read.1, text, says, refl)))

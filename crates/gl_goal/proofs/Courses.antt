@@ -7,7 +7,8 @@ use Rattle.gl_hull.specs.Box.{Box, point_box}
 use Rattle.gl_box.specs.Cell.{Covers}
 use Rattle.gl_box.proofs.Held.{length-covers}
 use Rattle.gl_goal.specs.Goal.{IsTuple, chosen, whole_cell}
-use Rattle.gl_goal.specs.Chain.{distance, fixes_at, greatest_distance, greatest_legs, hulls_of, last_of, least_distance, legs, points_of}
+use Rattle.gl_sphere.specs.Distance.{distance}
+use Rattle.gl_goal.specs.Chain.{fixes_at, greatest_distance, greatest_legs, hulls_of, last_of, least_distance, legs, points_of}
 use Rattle.gl_goal.specs.Lists.{AreLists}
 use Rattle.gl_goal.specs.Out.{all_but_last, greatest_way_out, way_out}
 use Rattle.gl_goal.specs.Lemmas.Chain.{greatest_legs-last, legs-last, length-points}

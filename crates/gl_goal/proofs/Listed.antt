@@ -19,7 +19,8 @@ use Rattle.gl_box.specs.declared.span.Span.{Span}
 use Rattle.gl_box.specs.declared.tuple.Tuple.{Tuple}
 use Rattle.gl_goal.specs.declared.axis.Axis.{Axis}
 use Rattle.gl_goal.specs.Goal.{IsDisordered, IsInTimeOrder, IsTuple, chosen, fix_at, whole_cell}
-use Rattle.gl_goal.specs.Chain.{distance, fixes_at, greatest_distance, greatest_legs, hulls_of, last_of, legs, points_of}
+use Rattle.gl_sphere.specs.Distance.{distance}
+use Rattle.gl_goal.specs.Chain.{fixes_at, greatest_distance, greatest_legs, hulls_of, last_of, legs, points_of}
 use Rattle.gl_goal.specs.Lists.{AreLists, AreNamed}
 use Rattle.gl_goal.specs.Code.Lists.{Listed, AreHulled, IsHulled, lists_of}
 use Rattle.gl_goal.specs.Lemmas.Chain.{fixes_at-cons, greatest_legs-last, legs-last, length-fixes_at, named_at}

@@ -4,7 +4,7 @@
 use Rattle.std.specs.Prelude.{ℕ, ◌+◌, List, [], ◌∷◌, map, slice_get}
 use Rattle.std.specs.List.{filter_map}
 use Rattle.gl_sphere.specs.declared.place.Vec3.{Vec3}
-use Rattle.gl_sphere.specs.Distance.{squared_chord, written_distance}
+use Rattle.gl_sphere.specs.Distance.{written_distance, distance}
 use Rattle.gl_igc.specs.declared.fix.Fix.{Fix}
 use Rattle.gl_hull.specs.Box.{Box, fixes_in, hull_of}
 use Rattle.gl_hull.specs.Chords.{greatest_chord, least_chord}
@@ -13,10 +13,6 @@ use Rattle.gl_hull.specs.Chords.{greatest_chord, least_chord}
 abbrev pub last_of : {X : Type 0} → X → List X → X
 last_of first [] = first
 last_of first (next ∷ others) = last_of next others
-
--- the distance of two points along the sphere, in centimetres
-abbrev pub distance : Vec3 → Vec3 → ℕ
-distance a b = written_distance (squared_chord a b)
 
 -- the legs from each point to the next
 abbrev pub legs : List Vec3 → ℕ

@@ -17,8 +17,3 @@ pub mod OutGoal
 pub mod Reach
 pub mod Triangle
 pub mod TriangleGoal
-pub use Rattle.gl_box.specs.Cell
-pub use Rattle.gl_box.specs.Closed
-pub use Rattle.gl_box.specs.Frontier
-pub use Rattle.gl_box.specs.Halves
-pub use Rattle.gl_box.specs.Tuple

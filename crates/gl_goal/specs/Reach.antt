@@ -1,7 +1,7 @@
 -- How far a flight that closes can reach.
 use Rattle.std.specs.Prelude.{◌≡◌, ℕ, ◌≤◌, ◌<◌, List, length, Some, slice_get}
 use Rattle.gl_igc.specs.declared.fix.Fix.{Fix}
-use Rattle.gl_goal.specs.Chain.{distance}
+use Rattle.gl_sphere.specs.Distance.{distance}
 
 -- A flight over some fixes closes from the place `a` or an earlier one to the place `c` or a later
 -- one: the fixes at two such places are at most `closing` centimetres apart.

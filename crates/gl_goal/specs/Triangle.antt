@@ -5,7 +5,8 @@ use Rattle.std.specs.Prelude.{ℕ, ◌+◌, ◌-◌, Bool, not, ◌&&◌, ◌||�
 use Rattle.std.specs.List.{list_any, sum}
 use Rattle.gl_box.specs.Halves.{span_at}
 use Rattle.gl_igc.specs.declared.fix.Fix.{Fix}
-use Rattle.gl_goal.specs.Chain.{distance, fixes_at, greatest_distance, hulls_of, least_distance, points_of}
+use Rattle.gl_sphere.specs.Distance.{distance}
+use Rattle.gl_goal.specs.Chain.{fixes_at, greatest_distance, hulls_of, least_distance, points_of}
 use Rattle.gl_goal.specs.Fair.{is_fair, is_none_fair, most_of_fair}
 use Rattle.gl_goal.specs.Free.{fixes_between, numbers_between}
 use Rattle.gl_goal.specs.Goal.{Goal}

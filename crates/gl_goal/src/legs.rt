@@ -1,6 +1,7 @@
 ghost use Rattle.std.specs.Prelude.{◌≡◌, ◌<◌, ◌^◌};
 ghost use Rattle.gl_hull.specs.Hull.{box_of};
-ghost use Rattle.gl_goal.specs.Chain.{distance, greatest_distance, least_distance};
+ghost use Rattle.gl_sphere.specs.Distance.{distance};
+ghost use Rattle.gl_goal.specs.Chain.{greatest_distance, least_distance};
 
 use gl_hull::{Hull, max_sq, min_sq};
 use gl_sphere::{Vec3, dist, sq};

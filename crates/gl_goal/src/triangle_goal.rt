@@ -2,7 +2,8 @@ ghost use Rattle.std.specs.Prelude.{◌≡◌, ◌-◌, ◌≤◌, ◌<◌, [], 
 ghost use Rattle.gl_box.specs.Cell.{Covers, spans_of};
 ghost use Rattle.gl_box.specs.Tuple.{places_of};
 ghost use Rattle.gl_hull.specs.Hull.{box_of};
-ghost use Rattle.gl_goal.specs.Chain.{distance, fixes_at, greatest_distance, hulls_of, least_distance, points_of};
+ghost use Rattle.gl_sphere.specs.Distance.{distance};
+ghost use Rattle.gl_goal.specs.Chain.{fixes_at, greatest_distance, hulls_of, least_distance, points_of};
 ghost use Rattle.gl_goal.specs.Free.{fixes_between};
 ghost use Rattle.gl_goal.specs.Reach.{IsReach};
 ghost use Rattle.gl_goal.specs.Code.Round.{legs_of};

@@ -4,4 +4,3 @@ pub mod Code
 pub mod Hull
 pub mod Near
 pub mod Table
-pub use Rattle.gl_box.specs.Cell

@@ -159,10 +159,6 @@ read-stop count lines points line read room damaged more =
     tested places none false = refl
     tested places none true = none
 
--- a damaged declaration stays so
-pub damaged-stays : (lines : Lines) (line : List ℕ) → ((more : Lines) → declared_by (lines ++ more) ≡ None) → (more : Lines) → declared_by ((lines ++ line ∷ []) ++ more) ≡ None
-damaged-stays lines line damaged more = ap declared_by (append_assoc lines (line ∷ []) more) ∙ damaged (line ∷ more)
-
 pub damaged-declares : (lines : Lines) → ((more : Lines) → declared_by (lines ++ more) ≡ None) → declared_by lines ≡ None
 damaged-declares lines damaged = ap declared_by (sym (append-nil lines)) ∙ damaged []
 

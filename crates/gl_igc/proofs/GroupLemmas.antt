@@ -1,5 +1,5 @@
 -- Groups of an I line, read one by one.
-use Rattle.std.proofs.Common.{◌≡◌, ap, ℕ, zero, suc, ◌<◌, List, [], ◌∷◌, length, drop, Bool, true, false, Option, None, Some, arith, refl, leb, cond}
+use Rattle.std.proofs.Common.{◌≡◌, ap, ℕ, suc, ◌<◌, List, ◌∷◌, length, drop, Bool, true, false, Option, None, Some, arith, refl, leb, cond}
 use Rattle.std.specs.Prelude.{option_map, codes}
 use Rattle.std.specs.Option.{option_or}
 use Rattle.std.proofs.lemmas.Bool.Decides.{nat_tests}
@@ -17,10 +17,6 @@ with_groups fields groups = record {
   enl = option_or fields.enl (span_of (codes "ENL") groups);
 }
 
-or_none : (first : Option Span) → option_or first None ≡ first
-or_none None = refl
-or_none (Some span) = refl
-
 or_group : (code : List ℕ) (first : Option Span) (group : Group) (groups : List Group)
     → option_or first (span_of code (group ∷ groups)) ≡ option_or (option_or first (span_if code group)) (span_of code groups)
 or_group code (Some span) group groups = refl
@@ -30,17 +26,9 @@ or_group code None group groups = tested (starts_with nat_eq group.code code)
     tested true = refl
     tested false = refl
 
-with_groups-nil : (fields : Extension) → with_groups fields [] ≡ fields
-with_groups-nil fields = rw (or_none fields.lad, or_none fields.lod, or_none fields.enl) refl
-
 with_groups-cons : (fields : Extension) (group : Group) (groups : List Group) → with_groups fields (group ∷ groups) ≡ with_groups (with_group fields group) groups
 with_groups-cons fields group groups =
     rw (or_group (codes "LAD") fields.lad group groups, or_group (codes "LOD") fields.lod group groups, or_group (codes "ENL") fields.enl group groups) refl
-
--- no group is left
-pub groups-done : (fields : Extension) (n : ℕ) (text : List ℕ) → n ≡ 0 → option_map (with_groups fields) (groups_of n text) ≡ Some fields
-groups-done fields zero text none = ap Some (with_groups-nil fields)
-groups-done fields (suc n) text none = absurd (omega arith)
 
 -- one group more
 pub groups-more : (fields : Extension) (n m : ℕ) (text : List ℕ) (group : Group) → n ≡ suc m → group_of text ≡ Some group

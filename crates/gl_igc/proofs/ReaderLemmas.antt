@@ -1,5 +1,5 @@
 -- The answer for the lines of a whole text.
-use Rattle.std.proofs.Common.{◌≡◌, ◌≢◌, ◌∙◌, sym, ap, subst, ℕ, ℤ, List, [], ◌++◌, drop, append-nil, Option}
+use Rattle.std.proofs.Common.{◌≡◌, ◌≢◌, ◌∙◌, sym, ap, subst, ℕ, ℤ, List, Option}
 use Rattle.std.specs.Prelude.{Ok, Err, Result, MatchResult, IfOk, IfErr, map}
 use Rattle.gl_text.specs.Lines.{lines_of}
 use Rattle.gl_igc.specs.Reading.{recording_of, recording_of_lines}
@@ -12,11 +12,6 @@ use Rattle.gl_igc.proofs.LawLemmas.{fixes_are_seen}
 
 abbrev pub Lines : Type 0
 Lines = List (List ℕ)
-
--- no line is left
-pub whole : (text : List ℕ) (at : ℕ) (lines : Lines) → lines ++ lines_of (drop at text) ≡ lines_of text → lines_of (drop at text) ≡ [] → lines ≡ lines_of text
-whole text at lines split over =
-    sym (append-nil lines) ∙ ap (λ (rest : Lines). lines ++ rest) (sym over) ∙ split
 
 abbrev pub IsAnswer : Lines → Option ℤ → Result Recording IgcError → Type 0
 IsAnswer lines task_day result =

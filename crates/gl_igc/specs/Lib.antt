@@ -14,8 +14,3 @@ pub mod Recording
 pub mod Refusals
 pub mod Seconds
 pub mod UsedFixes
-pub use Rattle.gl_sphere.specs.Place
-pub use Rattle.gl_sphere.specs.PlaceText
-pub use Rattle.gl_sphere.specs.Range
-pub use Rattle.gl_text.specs.Digits
-pub use Rattle.gl_text.specs.Lines

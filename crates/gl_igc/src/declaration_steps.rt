@@ -8,10 +8,9 @@ ghost use Rattle.gl_igc.specs.declared.declaration.Heading.TheVariants.{Awaited,
 
 use crate::declaration::{Count, Declaration, Heading};
 use crate::fix_line::are_digits;
-use crate::items::Items;
 use crate::recording::Declared;
 use gl_sphere::{Grid, read_place};
-use gl_text::read_digits;
+use gl_text::{Items, read_digits};
 use std::alloc::AllocError;
 
 /// The columns of a heading that hold digits end here.

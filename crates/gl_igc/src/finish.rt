@@ -9,10 +9,10 @@ ghost use Rattle.gl_igc.specs.declared.error.IgcError.TheVariants.{WrongDay};
 
 use crate::declaration_steps::declared;
 use crate::error::IgcError;
-use crate::items::Items;
 use crate::progress::Progress;
 use crate::recording::Recording;
 use crate::shift::{day_shift, shift_events, shift_fixes};
+use gl_text::Items;
 
 /// The recording of the lines, where its day and the shift of its seconds are known.
 fn finish_fixes(progress: Progress, date: i32, shift: i32) -> Result<Recording, IgcError>

@@ -3,8 +3,8 @@ ghost use Rattle.gl_igc.specs.Reading.{most_fixes};
 ghost use Rattle.gl_igc.specs.Seconds.{is_rising};
 
 use crate::fix::Fix;
-use crate::items::Items;
 use gl_sphere::Grid;
+use gl_text::Items;
 
 /// The places that a pilot declared before the flight: take-off, start, turn points, finish and
 /// landing, in order.

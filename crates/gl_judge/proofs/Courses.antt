@@ -6,7 +6,8 @@ use Rattle.std.proofs.Math.ListN.{drop_of_length-le}
 use Rattle.std.proofs.Math.Seq.{drop-cons}
 use Rattle.gl_sphere.specs.declared.place.Vec3.{Vec3}
 use Rattle.gl_zone.specs.declared.zone.Zone.{Zone}
-use Rattle.gl_goal.specs.Chain.{distance, legs}
+use Rattle.gl_sphere.specs.Distance.{distance}
+use Rattle.gl_goal.specs.Chain.{legs}
 
 -- from a point through the centres of zones to a finish point
 abbrev pub course_from : Vec3 → List Zone → Vec3 → List Vec3

@@ -1,10 +1,9 @@
 -- Numbers of fixes from one on, and those of them in a zone.
-use Rattle.std.proofs.Common.{◌≡◌, ◌∙◌, sym, ap, refl, subst, ℕ, zero, suc, ◌+◌, ◌-◌, ◌<◌, ◌≤◌, Bool, true, false, List, [], ◌∷◌, ◌++◌, length, map, take, get_or, Option, None, Some, slice_get, ◌⊎◌, ⊎_elim, arith, inl, inr}
+use Rattle.std.proofs.Common.{◌≡◌, ◌∙◌, sym, ap, refl, subst, ℕ, zero, suc, ◌+◌, ◌-◌, ◌<◌, ◌≤◌, Bool, true, false, List, [], ◌∷◌, ◌++◌, length, get_or, Option, None, Some, slice_get, ◌⊎◌, ⊎_elim, arith, inl, inr}
 use Rattle.std.specs.Prelude.{All, IsTrue, IsSomeAnd}
 use Rattle.std.specs.List.{filter}
 use Rattle.std.specs.List.Sorted.{IsStrictlyIncreasing}
 use Rattle.std.proofs.lemmas.Bool.{cases_Bool}
-use Rattle.std.proofs.lemmas.List.{map-append, take_more}
 use Rattle.std.proofs.lemmas.List.Elements.{All-filter, filter-append}
 use Rattle.std.proofs.lemmas.List.Kept.{IsStrictlyIncreasing-filter}
 use Rattle.gl_igc.specs.declared.fix.Fix.{Fix}
@@ -13,7 +12,7 @@ use Rattle.gl_zone.specs.Zones.{is_in_zone}
 use Rattle.gl_goal.specs.Free.{numbers_from}
 use Rattle.gl_goal.specs.Lemmas.Free.{get_or-numbers_from, length-numbers_from, numbers_from-rises}
 use Rattle.gl_goal.proofs.FreeLosses.{numbers_from-more}
-use Rattle.gl_judge.specs.Choices.{lies_in, numbers_before, numbers_in_zone, zone_lists}
+use Rattle.gl_judge.specs.Choices.{lies_in, numbers_before, numbers_in_zone}
 
 -- one number more
 pub number-more : (first i : ℕ) (numbers pushed : List ℕ) → first ≤ i → pushed ≡ numbers ++ i ∷ [] → numbers ≡ numbers_from first (i - first) → pushed ≡ numbers_from first (i + 1 - first)
@@ -63,15 +62,6 @@ zone-same fixes zone first i numbers after here before =
     plus-none : (xs : List ℕ) → xs ++ [] ≡ xs
     plus-none [] = refl
     plus-none (x ∷ xs) = ap (λ (ys : List ℕ). x ∷ ys) (plus-none xs)
-
--- the list of one zone more
-pub lists-more : (fixes : List Fix) (zones : List Zone) (first behind k : ℕ) (zone : Zone) (lists pushed : List (List ℕ)) (list : List ℕ) → k < length zones → zone ≡ get_or zones k zone
-    → list ≡ numbers_in_zone fixes first behind zone → lists ≡ zone_lists fixes (take k zones) first behind → pushed ≡ lists ++ list ∷ [] → pushed ≡ zone_lists fixes (take (k + 1) zones) first behind
-lists-more fixes zones first behind k zone lists pushed list within at list_is before is =
-    let longer : take (k + 1) zones ≡ take k zones ++ zone ∷ [] = take_more zones k zone within ∙ ap (λ (z : Zone). take k zones ++ z ∷ []) (sym at) in
-    let f : Zone → List ℕ = numbers_in_zone fixes first behind in
-    is ∙ ap (λ (ls : List (List ℕ)). ls ++ list ∷ []) before ∙ ap (λ (l : List ℕ). zone_lists fixes (take k zones) first behind ++ l ∷ []) list_is
-    ∙ sym (map-append f (take k zones) (zone ∷ [])) ∙ ap (map f) (sym longer)
 
 -- the list of a zone rises strictly, and its numbers name fixes
 pub zone-rises : (fixes : List Fix) (first behind : ℕ) (zone : Zone) → IsStrictlyIncreasing (numbers_in_zone fixes first behind zone)

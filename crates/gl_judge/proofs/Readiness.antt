@@ -123,9 +123,6 @@ ready-last finish fixes judged f time h last =
           omega arith;
     }
 
-pub ready-no_finish : (finish : Finish) (fixes : List Fix) (judged : Stretch) → ((g : ℕ) (time : ℤ) → IsAtFinish finish fixes judged g time → ⊥) → (b : ℕ) → CanFinish finish fixes judged [] b → ⊥
-ready-no_finish finish fixes judged none b c = none c.f c.time c.finishes.finished.at_finish
-
 -- where nothing finishes a flight, no visit can be finished
 pub unfinishable : (finish : Finish) (fixes : List Fix) (judged : Stretch) (zones : List Zone) → ((b : ℕ) → CanFinish finish fixes judged [] b → ⊥) → (b : ℕ) → CanFinish finish fixes judged zones b
     → ⊥

@@ -3,7 +3,8 @@ use Rattle.std.proofs.Common.{◌≡◌, ℕ, zero, suc, ◌≤◌, List, [], �
 use Rattle.gl_igc.specs.declared.fix.Fix.{Fix}
 use Rattle.gl_zone.specs.declared.zone.Zone.{Zone}
 use Rattle.gl_judge.specs.declared.stretch.Stretch.{Stretch}
-use Rattle.gl_judge.specs.Visits.{IsInZone, IsVisit, last_of, HasVisit}
+use Rattle.gl_goal.specs.Chain.{last_of}
+use Rattle.gl_judge.specs.Visits.{IsInZone, IsVisit, HasVisit}
 
 -- a visit from a fix on is one from an earlier fix on, too
 visit-earlier : (fixes : List Fix) (judged : Stretch) (zones : List Zone) (from earlier : ℕ) (visit : List ℕ) → earlier ≤ from → IsVisit fixes judged zones from visit

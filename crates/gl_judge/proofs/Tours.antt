@@ -20,7 +20,8 @@ use Rattle.gl_goal.specs.Lists.{AreLists, AreNamed}
 use Rattle.gl_goal.specs.Goal.{IsInTimeOrder, IsLegal, IsTuple, Goal, chosen}
 use Rattle.gl_goal.specs.Lemmas.Free.{numbers_from-rises}
 use Rattle.gl_judge.specs.Choices.{numbers_before, numbers_in_zone, zone_lists}
-use Rattle.gl_judge.specs.Visits.{HasVisit, IsVisit, VisitsFirst, last_of}
+use Rattle.gl_goal.specs.Chain.{last_of}
+use Rattle.gl_judge.specs.Visits.{HasVisit, IsVisit, VisitsFirst}
 use Rattle.gl_judge.proofs.Numbers.{before-named, before-placed, zone-named, zone-placed, zone-rises}
 use Rattle.gl_judge.proofs.Routes.{last-after}
 use Rattle.gl_judge.proofs.Times.{finish-judged}

@@ -7,6 +7,7 @@ use Rattle.gl_zone.specs.Zones.{is_in_zone}
 use Rattle.gl_judge.specs.declared.stretch.Stretch.{Stretch}
 use Rattle.gl_judge.specs.Finishes.{IsFinish}
 use Rattle.gl_judge.specs.JudgedFixes.{IsInRange}
+use Rattle.gl_goal.specs.Chain.{last_of}
 
 -- the fix of this number is judged, and in a zone
 pub record IsInZone (fixes : List Fix) (judged : Stretch) (zone : Zone) (i : ℕ) : Type 0 where
@@ -21,11 +22,6 @@ IsVisit fixes judged [] from (z ∷ zs) = ⊥
 IsVisit fixes judged (zone ∷ zones) from [] = ⊥
 IsVisit fixes judged (zone ∷ zones) from (z ∷ zs) =
     (from ≤ z) × IsInZone fixes judged zone z × IsVisit fixes judged zones z zs
-
--- the last fix of a visit from a fix on; that fix itself where no zone is visited
-abbrev pub last_of : ℕ → List ℕ → ℕ
-last_of from [] = from
-last_of from (z ∷ zs) = last_of z zs
 
 -- some zones have a visit from a fix on that ends with this fix
 pub record HasVisit (fixes : List Fix) (judged : Stretch) (zones : List Zone) (from last : ℕ)

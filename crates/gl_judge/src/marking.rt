@@ -1,5 +1,6 @@
 ghost use Rattle.std.specs.Prelude.{◌≡◌, ◌≤◌, IsSome, IsTrue, unwrap_or};
-ghost use Rattle.gl_goal.specs.Chain.{distance, legs};
+ghost use Rattle.gl_sphere.specs.Distance.{distance};
+ghost use Rattle.gl_goal.specs.Chain.{legs};
 ghost use Rattle.gl_judge.specs.Marking.{IsMarked, course_of, distance_of, finish_point, is_chosen, marking_time, metres_of, racing_distance, ring_radius};
 ghost use Rattle.gl_judge.specs.Outcome.{OnFinished};
 ghost use Rattle.gl_task.specs.Ranges.{has_minimum};

@@ -47,10 +47,6 @@ no_more above line none =
     fixes-up (above ++ line ∷ []) ∙ ap reverse (up-more above line ∙ ap (λ (seen : Option Observation). with_line (length above + 1) seen (up above)) none
     ∙ with_line-none (length above + 1) (up above)) ∙ sym (fixes-up above)
 
--- the own second of a good line
-own_of : Lines → Observation → ℕ
-own_of above seen = own_second (last_own (up above)) seen.time
-
 may : Lines → Observation → Bool
 may above seen = may_follow (last_own (up above)) (own_second (last_own (up above)) seen.time)
 

@@ -5,4 +5,3 @@ pub mod Kept
 pub mod Misfit
 pub mod Refusal
 pub mod Words
-pub use Rattle.gl_box.specs.Cell

@@ -4,6 +4,7 @@ ghost use Rattle.gl_box.specs.Cell.{ends};
 ghost use Rattle.gl_lines.specs.Words.{span_word, spaced};
 
 use gl_box::Span;
+use gl_text::write_digits;
 
 /// The most bytes of a span behind its space: two numbers of ten digits, a hyphen and the space.
 pub const SPAN_ROOM: usize = 22;
@@ -30,16 +31,7 @@ fn write_number(buffer: &mut [u8], end: usize, number: u32) -> usize
     ensures most { end ≤ result + 10 }
     ensures written { drop result buffer.new ≡ decimal number ++ drop end buffer.old }
 {
-    let mut at = end;
-    let mut rest = number;
-    while rest >= 10 {
-        at -= 1;
-        buffer[at] = b'0' + (rest % 10) as u8;
-        rest /= 10;
-    }
-    at -= 1;
-    buffer[at] = b'0' + rest as u8;
-    at
+    write_digits(buffer, end, u64::from(number))
 }
 
 /// Writes a span behind its space so that it ends before the place `end`, and answers where it

@@ -12,6 +12,6 @@ mod told;
 
 pub use backwards::{SPAN_ROOM, write_spans};
 pub use error::ProofError;
-pub use front::{behind, number_at, short_number_at, span_at, total_at};
+pub use front::{behind, short_number_at, span_at, total_at};
 pub use push::{push_number, push_total, push_word};
 pub use told::{later, misfit};

@@ -1,11 +1,11 @@
 -- The lines of the text of a claim: what is spelled at the front of a text can be spelled in no other way.
-use Rattle.std.proofs.Common.{◌≡◌, ◌∙◌, sym, ap, refl, subst, ℕ, ◌^◌, ◌<◌, List, [], ◌∷◌, ◌++◌, length, get_or, map, append_assoc, Option, None, Some, arith}
+use Rattle.std.proofs.Common.{◌≡◌, ◌∙◌, sym, ap, refl, ℕ, ◌^◌, ◌<◌, List, [], ◌∷◌, ◌++◌, length, get_or, map, append_assoc, Option, None, Some, arith}
 use Rattle.std.proofs.Common.{Bor}
 use Rattle.std.specs.Char.{is_ascii_digit}
 use Rattle.std.specs.Fmt.{decimal}
 use Rattle.std.specs.Prelude.{All, codes}
 use Rattle.std.proofs.lemmas.List.{append-nil, append_cancel_left}
-use Rattle.std.proofs.lemmas.List.Elements.{All-cons, All-head, All-nil, All-tail}
+use Rattle.std.proofs.lemmas.List.Elements.{All-head, All-tail}
 use Rattle.gl_lines.specs.Fronts.{IsNumberAt, IsSpanAt, IsTotalAt, Reads, Stops}
 use Rattle.gl_lines.specs.Code.Grammar.{IsPlain}
 use Rattle.gl_lines.specs.Words.{IsSpan, spaced, span_word, total_word}
@@ -14,7 +14,7 @@ use Rattle.gl_lines.proofs.Words.{feed_first, no_word, span_once, total_there, t
 use Rattle.gl_near.specs.declared.found.NearWhy.{NearWhy}
 use Rattle.gl_near.specs.declared.found.NearWhy.TheVariants.{Time, Near}
 use Rattle.gl_near.specs.Code.Fronts.{IsBoxAt, IsLeastAt, IsPairAt, IsReasonAt}
-use Rattle.gl_near.specs.Line.{AreTwoSpans, Line, HeadingLine, LeastLine, PairLine, BoxLine, EndLine, IsLine, ended, near_grammar, reason_word}
+use Rattle.gl_near.specs.Line.{Line, HeadingLine, LeastLine, PairLine, BoxLine, EndLine, IsLine, ended, near_grammar, reason_word}
 
 -- the byte with which a line begins
 tag : Line → ℕ
@@ -160,18 +160,3 @@ reason_passed text after why box more at parts =
 pub span_passed : (text rest more : List ℕ) (read span : ℕ × ℕ) → IsSpanAt text read rest → IsSpan span → Stops is_ascii_digit more → text ≡ span_word span ++ more → rest ≡ more
 span_passed text rest more read span at is_span stops is =
     (span_unique read span rest more at.is_span is_span at.stops stops (sym at.is ∙ is)).1
-
--- a box, part by part
-pub box_read : (text after rest behind last end : List ℕ) (why : NearWhy) (first second : ℕ × ℕ) (spans : List (ℕ × ℕ)) → IsReasonAt text why after → IsSpanAt after first rest → rest ≡ 32 ∷ behind
-    → IsSpanAt behind second last → last ≡ 10 ∷ end → spans ≡ first ∷ second ∷ [] → IsBoxAt text (spans, why) end
-box_read text after rest behind last end why first second spans reason one space other feed are = (
-  subst AreTwoSpans (sym are) (record {
-    two = omega arith;
-    each = All-cons IsSpan first (second ∷ []) one.is_span (All-cons IsSpan second [] other.is_span (All-nil IsSpan));
-  }),
-  reason
-      ∙ ap (λ (l : List ℕ). codes "BOX " ++ (reason_word why ++ 32 ∷ l)) (one.is
-      ∙ ap (λ (l : List ℕ). span_word first ++ l) (space ∙ ap (λ (l : List ℕ). 32 ∷ l) (other.is ∙ ap (λ (l : List ℕ). span_word second ++ l) feed)))
-      ∙ sym (two_box_is why first second end)
-      ∙ ap (λ (s : List (ℕ × ℕ)). ended (BoxLine why s) ++ end) (sym are),
-)

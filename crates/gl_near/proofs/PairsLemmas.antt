@@ -8,7 +8,7 @@ use Rattle.std.proofs.lemmas.Int.{int_max_is, ints}
 use Rattle.std.proofs.lemmas.Option.{get_or_from_slice_get}
 use Rattle.gl_sphere.proofs.Arcs.{written_distance-mono}
 use Rattle.gl_sphere.specs.declared.place.Vec3.{Vec3}
-use Rattle.gl_sphere.specs.Distance.{squared_chord, written_distance}
+use Rattle.gl_sphere.specs.Distance.{squared_chord, written_distance, distance}
 use Rattle.gl_igc.specs.declared.fix.Fix.{Fix}
 use Rattle.gl_igc.proofs.SecondsLemmas.{later}
 use Rattle.gl_hull.specs.Box.{Box, IsInside, fixes_in, hull_of, point_box}
@@ -19,7 +19,7 @@ use Rattle.gl_hull.proofs.Held.{fix_box, hull_of-holds, hull_of-single, named, p
 use Rattle.gl_box.specs.Cell.{Covers, Holds, point}
 use Rattle.gl_box.specs.Halves.{span_at}
 use Rattle.gl_box.proofs.Held.{covers_at, holds_at, holds_whole, length-covers}
-use Rattle.gl_near.specs.Pairing.{AreApart, AreFixesAt, AreRising, Fits, IsAfter, IsApart, IsPairing, IsReached, Pairing, distance, flights, least, least_distance, place, whole_cell}
+use Rattle.gl_near.specs.Pairing.{AreApart, AreFixesAt, AreRising, Fits, IsAfter, IsApart, IsPairing, IsReached, Pairing, flights, least, least_distance, place, whole_cell}
 
 pub slice_get_below : (fixes : List Fix) (k : ℕ) (fix : Fix) → slice_get fixes k ≡ Some fix → k < length fixes
 slice_get_below [] k fix there = absurd (cc)

@@ -5,9 +5,3 @@ pub mod Certificate
 pub mod Search
 pub mod Verdict
 pub mod Line
-pub use Rattle.gl_box.specs.Cell
-pub use Rattle.gl_box.specs.Frontier
-pub use Rattle.gl_lines.specs.Grammar
-pub use Rattle.gl_lines.specs.Refusal
-pub use Rattle.gl_lines.specs.Words
-pub use Rattle.gl_walk.specs.Boxes

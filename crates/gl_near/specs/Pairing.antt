@@ -2,7 +2,7 @@
 -- the two tests of a cell of pairs. No search, no order of work.
 use Rattle.std.specs.Prelude.{◌≡◌, ℕ, ◌-◌, ◌≤◌, ◌<◌, ◌⊎◌, IsTrue, List, [], ◌∷◌, length, map, Option, None, Some, slice_get, pos, ◌-ℤ◌, ◌<ℤ◌, unsigned_abs}
 use Rattle.gl_sphere.specs.declared.place.Vec3.{Vec3}
-use Rattle.gl_sphere.specs.Distance.{squared_chord, written_distance}
+use Rattle.gl_sphere.specs.Distance.{written_distance, distance}
 use Rattle.gl_igc.specs.declared.fix.Fix.{Fix}
 use Rattle.gl_igc.specs.Seconds.{is_rising}
 use Rattle.gl_hull.specs.Box.{Box, fixes_in, hull_of, point_box}
@@ -18,10 +18,6 @@ pub data Pairing : Type 0 where
 -- the seconds of fixes rise
 abbrev pub AreRising : List Fix → Type 0
 AreRising fixes = IsTrue (is_rising (map (λ fix. fix.second) fixes))
-
--- the distance of two points along the sphere, in centimetres
-abbrev pub distance : Vec3 → Vec3 → ℕ
-distance a b = written_distance (squared_chord a b)
 
 -- the fixes with these numbers differ by at most `apart` seconds, and so many centimetres lie
 -- between them

@@ -2,7 +2,8 @@ ghost use Rattle.std.specs.Prelude.{◌≡◌, ◌≤◌, ◌<◌, ◌↔◌, le
 ghost use Rattle.gl_box.specs.Cell.{Covers, ends, spans_of};
 ghost use Rattle.gl_box.specs.Halves.{span_at};
 ghost use Rattle.gl_hull.specs.Hull.{box_of};
-ghost use Rattle.gl_near.specs.Pairing.{AreApart, AreFixesAt, Fits, IsAfter, IsApart, IsFixAt, IsReached, distance, least, least_distance, whole_cell};
+ghost use Rattle.gl_sphere.specs.Distance.{distance};
+ghost use Rattle.gl_near.specs.Pairing.{AreApart, AreFixesAt, Fits, IsAfter, IsApart, IsFixAt, IsReached, least, least_distance, whole_cell};
 ghost use Rattle.gl_near.specs.Pairs.{pairing_of};
 
 use crate::pairs::{FlightAndPlace, Pairs, TwoFlights};

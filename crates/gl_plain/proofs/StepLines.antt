@@ -1,16 +1,16 @@
 -- The line of a step is that of no other step, and the first line that reads as no step is the one
 -- that is told.
-use Rattle.std.proofs.Common.{◌≡◌, ◌≢◌, ◌∙◌, sym, ap, refl, ℕ, ◌+◌, ◌%◌, ◌^◌, ◌<◌, ◌≤◌, List, [], ◌∷◌, ◌++◌, length, get_or, take, drop, map, append_assoc, arith}
+use Rattle.std.proofs.Common.{◌≡◌, ◌≢◌, ◌∙◌, sym, ap, refl, ℕ, ◌+◌, ◌%◌, ◌^◌, ◌<◌, ◌≤◌, List, [], ◌∷◌, ◌++◌, length, get_or, drop, map, append_assoc, arith}
 use Rattle.std.specs.Prelude.{All, MatchOption, Option, Some, None, codes}
 use Rattle.std.specs.Fmt.{decimal}
 use Rattle.std.proofs.lemmas.Fmt.{decimal_by_steps, decimal_injective}
-use Rattle.std.proofs.lemmas.List.{append-nil, append_cancel_left, drop_more, get_or-take, length-take-le, take-append-drop, length-append, length-map}
-use Rattle.std.proofs.lemmas.List.Elements.{All-cons, All-from_get_or, All-head, All-nil, All-push, All-tail}
+use Rattle.std.proofs.lemmas.List.{append-nil, append_cancel_left, length-append, length-map}
+use Rattle.std.proofs.lemmas.List.Elements.{All-cons, All-head, All-nil, All-push, All-tail}
 use Rattle.gl_plain.specs.declared.error.StepError.{StepError}
 use Rattle.gl_plain.specs.declared.error.StepError.TheVariants.{Line, TooMany, Memory}
 use Rattle.gl_plain.specs.declared.schedule.Step.{Step}
 use Rattle.gl_plain.specs.declared.schedule.Step.TheVariants.{Take, Steal, Split, Close, Look, Raise}
-use Rattle.gl_plain.specs.Code.Schedule.{IsFirstSpace, IsSpaced}
+use Rattle.gl_text.specs.Spaces.{IsSpaced}
 use Rattle.gl_plain.specs.Schedule.{IsRefused, IsSchedule, IsStep, ReadsNot, line_of}
 use Rattle.gl_text.proofs.Characters.{first_space}
 
@@ -152,15 +152,6 @@ refused_unique text (Line n) Memory some too a b = absurd (too refl)
 refused_unique text TooMany Memory some too a b = absurd (too refl)
 
 -- how the code reads a line
-
--- a text with a space in it, cut there
-pub spaced_at : (text : List ℕ) (place : ℕ) → IsFirstSpace text place → IsSpaced text (take place text) (drop (place + 1) text)
-spaced_at text place first = record {
-  is = sym (take-append-drop place text) ∙ ap (λ (l : List ℕ). take place text ++ l) (drop_more text place 0 first.inside ∙ ap (λ (b : ℕ). b ∷ drop (place + 1) text) first.is);
-  none = All-from_get_or (λ byte. byte ≢ 32) (take place text) 0 (λ k below same.
-      let inside : k < place = omega (arith, below, length-take-le place text (omega (arith, first.inside))) in
-      first.none k inside (sym (get_or-take place text k 0 inside) ∙ same));
-}
 
 abbrev IsNoWorker : List ℕ → Type 0
 IsNoWorker text = (worker : ℕ) → worker < 2 ^ 32 → text ≢ decimal worker

@@ -1,13 +1,13 @@
-ghost use Rattle.std.specs.Prelude.{◌≡◌, ◌≢◌, ◌⊎◌, ◌^◌, ◌++◌, ◌∷◌, ◌<◌, ℕ, List, IfOk, IfErr, IsErrOf, MatchOption, MatchResult, length, slice_index};
+ghost use Rattle.std.specs.Prelude.{◌≡◌, ◌≢◌, ◌⊎◌, ◌^◌, ◌++◌, ◌∷◌, ◌<◌, ℕ, List, IfOk, IfErr, IsErrOf, MatchOption, MatchResult};
 ghost use Rattle.std.specs.Fmt.{decimal};
 ghost use Rattle.gl_plain.specs.declared.error.StepError.{StepError};
 ghost use Rattle.gl_plain.specs.declared.error.StepError.TheVariants.{Memory};
 ghost use Rattle.gl_plain.specs.declared.schedule.Step.{Step};
-ghost use Rattle.gl_plain.specs.Code.Schedule.{IsFirstSpace, IsLineOf, IsSpaced};
+ghost use Rattle.gl_plain.specs.Code.Schedule.{IsLineOf};
 ghost use Rattle.gl_plain.specs.Schedule.{IsRefused, IsSchedule, ReadsNot};
 
 use crate::error::StepError;
-use gl_text::{next_line, read_u64};
+use gl_text::{next_line, part_at_space, read_u64};
 use std::alloc::Global;
 
 /// The most steps of a schedule.
@@ -60,25 +60,6 @@ fn worker_behind(line: &[u8], front: &[u8]) -> Option<u32>
     worker_in(behind(line, front)?)
 }
 
-/// The place of the first space of a text.
-fn space_in(text: &[u8]) -> Option<usize>
-    ensures { MatchOption result
-        ((k : ℕ) → k < length text.now → slice_index text.now k ≢ 32)
-        (IsFirstSpace text.now) }
-{
-    text.iter().position(|byte| *byte == b' ')
-}
-
-/// What stands before the first space of a text, and what stands behind it.
-fn parted(text: &[u8]) -> Option<(&[u8], &[u8])>
-    ensures { MatchOption result
-        ((front back : List ℕ) → text.now ≢ front ++ 32 ∷ back)
-        (λ parts. IsSpaced text.now parts.0.now parts.1.now) }
-{
-    let space = space_in(text)?;
-    Some((&text[..space], &text[space + 1..]))
-}
-
 /// The numbers of two workers with a space between them, behind a front.
 fn workers_behind(line: &[u8], front: &[u8]) -> Option<(u32, u32)>
     ensures { MatchOption result
@@ -87,7 +68,7 @@ fn workers_behind(line: &[u8], front: &[u8]) -> Option<(u32, u32)>
         (λ workers. line.now
         ≡ front.now ++ decimal workers.0 ++ 32 ∷ decimal workers.1) }
 {
-    let (worker, other) = parted(behind(line, front)?)?;
+    let (worker, other) = part_at_space(behind(line, front)?)?;
     Some((worker_in(worker)?, worker_in(other)?))
 }
 

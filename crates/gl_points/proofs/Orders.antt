@@ -43,10 +43,6 @@ plus_at_most a b c d first second =
     let right : (a.den * b.den) * (c.num * d.den) ≤ (a.den * b.den) * (d.num * c.den) = mul-le-mul_left (a.den * b.den) second in
     omega arith
 
-pub plus_same : (a b c d : Fraction) → IsSame a b → IsSame c d → IsSame (a ⊕ c) (b ⊕ d)
-plus_same a b c d first second =
-    same_from (a ⊕ c) (b ⊕ d) (plus_at_most a b c d (omega arith) (omega arith)) (plus_at_most b a d c (omega arith) (omega arith))
-
 -- the greater of two fractions rounds to no less
 pub rounded_at_most : (a b : Fraction) → 0 < a.den → 0 < b.den → IsAtMost a b → rounded a ≤ rounded b
 rounded_at_most a b left right low =

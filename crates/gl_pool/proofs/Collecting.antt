@@ -2,7 +2,7 @@
 use Rattle.std.proofs.Common.{◌≡◌, ◌∙◌, sym, ap, refl, ℕ, List, [], ◌∷◌, ◌++◌, map, reverse, append_assoc, Result, Ok, arith}
 use Rattle.std.specs.Prelude.{All}
 use Rattle.std.specs.declared.alloc.AllocError.{AllocError}
-use Rattle.std.proofs.lemmas.List.{reverse-append, reverse-reverse}
+use Rattle.std.proofs.lemmas.List.{reverse-append}
 use Rattle.std.proofs.lemmas.List.Elements.{All-head, All-tail}
 use Rattle.std.proofs.lemmas.List.Sums.{sum_by-cons}
 use Rattle.gl_goal.specs.Goal.{Goal}
@@ -13,7 +13,7 @@ use Rattle.gl_best.proofs.Numbers.{times-append}
 use Rattle.gl_deal.specs.declared.place.Place.{Place}
 use Rattle.gl_pool.specs.declared.crew.Worker.{Worker}
 use Rattle.gl_pool.specs.declared.tally.Tally.{Tally}
-use Rattle.gl_pool.specs.Code.Crew.{Collects, closed_by, times_seated}
+use Rattle.gl_pool.specs.Code.Crew.{closed_by, times_seated}
 use Rattle.gl_pool.specs.Code.Tally.{Gathers, IsTally}
 use Rattle.gl_pool.specs.Listed.{listed_in}
 
@@ -53,15 +53,4 @@ collecting_more word worked rest less places more tally after worker is one gath
       let sum = sum_by-cons (λ (w : Worker). times number (view_of w.tally.seat).numbers) worker so_far.workers in
       let both = times-append number (view_of tally.seat).numbers (view_of worker.tally.seat).numbers in
       omega (arith, so_far.numbers number, ap (times number) gathers.numbers);
-}
-
-pub collects : (word : BestWord) (worked rest : List (Result Worker AllocError)) (places all : List Place) (tally : Tally) → rest ≡ [] → all ≡ reverse places → Collecting word worked rest places tally
-    → Collects word worked all tally
-collects word worked rest places all tally none turned so_far = record {
-  workers = so_far.workers;
-  all_worked = so_far.rest_is ∙ ap (λ (l : List (Result Worker AllocError)). l ++ map Ok so_far.workers) none;
-  places_are = turned ∙ ap reverse so_far.places_are ∙ reverse-reverse (map place_in so_far.workers);
-  is_tally = so_far.is_tally;
-  closed = so_far.closed;
-  numbers = so_far.numbers;
 }

@@ -17,7 +17,7 @@ use Rattle.gl_lines.proofs.Refused.{follow_append, last-append, runs_more, told_
 use Rattle.gl_proof.specs.Claim.{IsStatement, Statement, box_line, claim_lines, claim_text, fix_lines, spelled}
 use Rattle.gl_proof.specs.Code.Fronts.{IsClaimAt}
 use Rattle.gl_proof.specs.Line.{AreFixes, AreSpans, Line, HeadingLine, ClaimLine, FixLine, BoxLine, EndLine, IsLine, ended, goes_on, may_follow, proof_grammar}
-use Rattle.gl_proof.specs.Number.{is_number}
+use Rattle.gl_text.specs.Forms.{is_number}
 use Rattle.gl_proof.specs.Code.Passage.{AreBoxesAt, AreClaimedAt, IsClaimRead, LacksClaim, NoBox, NoClaim, NoFixes}
 use Rattle.gl_proof.specs.Refusal.{IsRefused}
 

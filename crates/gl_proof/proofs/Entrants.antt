@@ -9,7 +9,7 @@ use Rattle.std.proofs.lemmas.Bool.Decides.{nat_tests}
 use Rattle.gl_lines.specs.Fronts.{Stops}
 use Rattle.gl_lines.proofs.Codes.{front_unique}
 use Rattle.gl_proof.specs.Code.Fronts.{IsEntrantAt}
-use Rattle.gl_proof.specs.Number.{is_number}
+use Rattle.gl_text.specs.Forms.{is_number}
 
 pub is_number_parts : (number : List ℕ) → is_number number ≡ true → (1 ≤ length number) × (length number ≤ 8) × (list_all is_ascii_alphanumeric number ≡ true)
 is_number_parts number is =

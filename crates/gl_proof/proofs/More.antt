@@ -2,7 +2,7 @@
 use Rattle.std.proofs.Common.{◌≡◌, ◌≢◌, ◌∙◌, sym, ap, refl, subst, ℕ, ◌+◌, ◌≤◌, List, [], ◌∷◌, ◌++◌, length, map, append_assoc, Option, Some, None, arith}
 use Rattle.std.specs.List.{flat_map}
 use Rattle.std.specs.Prelude.{All, min}
-use Rattle.std.proofs.lemmas.List.{append-nil, get_or_append_left, length-append, length-map, map-append, map_push}
+use Rattle.std.proofs.lemmas.List.{append-nil, get_or_append_left, length-append, length-map, map-append}
 use Rattle.std.proofs.lemmas.List.Concat.{flat_map-append}
 use Rattle.std.proofs.lemmas.List.Elements.{All-append, All-push, All-tail}
 use Rattle.gl_box.specs.declared.closed.Closed.{Closed}
@@ -12,7 +12,6 @@ use Rattle.gl_lines.proofs.Refused.{told_on}
 use Rattle.gl_proof.specs.declared.claim.ClaimKind.{ClaimKind}
 use Rattle.gl_proof.specs.declared.version.Version.{Version}
 use Rattle.gl_proof.specs.Claim.{IsStatement, Statement, box_line, claim_lines, claim_text, fix_lines, front_text, spelled}
-use Rattle.gl_proof.specs.Code.Fronts.{IsBoxAt}
 use Rattle.gl_proof.specs.Line.{AreSpans, EndLine, HeadingLine, ended}
 use Rattle.gl_proof.specs.Code.Passage.{IsClaimRead, AddsBoxes}
 use Rattle.gl_proof.specs.Reading.{AreClaimsAt, IsReadTo}
@@ -29,20 +28,6 @@ all_back P (x ∷ xs) ys h = all_back P xs ys (All-tail P x (xs ++ ys) h)
 
 abbrev HasSpans : List (ℕ × ℕ) × Why → Type 0
 HasSpans box = AreSpans box.0
-
--- a box more
-pub box_read : (text rest more : List ℕ) (before cells : List Closed) (closed : Closed) → spelled (map box_line (map box_of before)) ++ text ≡ spelled (map box_line (map box_of cells)) ++ rest
-    → IsBoxAt rest (box_of closed) more → spelled (map box_line (map box_of before)) ++ text ≡ spelled (map box_line (map box_of (cells ++ closed ∷ []))) ++ more
-box_read text rest more before cells closed is at =
-    is
-    ∙ ap (λ (l : List ℕ). boxes_text cells ++ l) (at.1 ∙ ap (λ (l : List ℕ). l ++ more) (sym (append-nil (ended (box_line (box_of closed))))))
-    ∙ sym (append_assoc (boxes_text cells) (boxes_text (closed ∷ [])) more)
-    ∙ ap (λ (l : List ℕ). l ++ more) (sym (boxes_text-append cells (closed ∷ [])))
-
-pub box_kept : (before cells : List Closed) (closed : Closed) (rest more : List ℕ) → (All HasSpans (map box_of before) → All HasSpans (map box_of cells)) → IsBoxAt rest (box_of closed) more
-    → All HasSpans (map box_of before) → All HasSpans (map box_of (cells ++ closed ∷ []))
-box_kept before cells closed rest more each at some =
-    subst (All HasSpans) (sym (map_push box_of cells closed)) (All-push HasSpans (map box_of cells) (box_of closed) (each some) at.0)
 
 -- the heading alone
 pub begun : (v : Version) (text rest : List ℕ) → text ≡ ended (HeadingLine v) ++ rest → AreClaimsAt v text [] rest 2
@@ -133,16 +118,6 @@ pub front_read : (o : Option Version) (text : List ℕ) (said more : List Statem
 front_read None text said more rest items left kept line next some same keeps on at = absurd (some refl)
 front_read (Some v) text said more rest items left kept line next some same keeps on at =
     subst (λ (r : List ℕ). AreClaimsAt v text more r next) (sym keeps) (on v text (subst (λ (r : List ℕ). AreClaimsAt v text said r line) (sym same) at))
-
--- a piece more behind what isn't read yet
-pub longer : (version : Option Version) (text : List ℕ) (said : List Statement) (rest : List ℕ) (line : ℕ) (piece : List ℕ) → IsReadTo version text said rest line
-    → IsReadTo version (text ++ piece) said (rest ++ piece) line
-longer None text said rest line piece at = (ap (λ (l : List ℕ). l ++ piece) at.0, at.1, at.2)
-longer (Some v) text said rest line piece at = record {
-  each = at.each;
-  is = ap (λ (l : List ℕ). l ++ piece) at.is ∙ append_assoc (spelled (HeadingLine v ∷ flat_map claim_lines said)) rest piece;
-  counted = at.counted;
-}
 
 -- the end behind the claims, and nothing behind it
 pub text_ended : (v : Version) (whole : List ℕ) (said : List Statement) (rest after : List ℕ) (line : ℕ) → AreClaimsAt v whole said rest line → rest ≡ ended EndLine ++ after → length rest ≤ 4

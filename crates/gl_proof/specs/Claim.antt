@@ -6,7 +6,7 @@ use Rattle.gl_box.specs.Closed.{box_of}
 use Rattle.gl_walk.specs.InLists.{boxes_in}
 use Rattle.gl_proof.specs.declared.claim.ClaimKind.{ClaimKind}
 use Rattle.gl_proof.specs.declared.claim.Claim.{Claim}
-use Rattle.gl_proof.specs.Number.{is_number}
+use Rattle.gl_text.specs.Forms.{is_number}
 use Rattle.gl_proof.specs.Line.{Line, ClaimLine, FixLine, BoxLine, AreFixes, AreSpans, ended}
 
 -- the number of the entrant, the kind, the greatest total in centimetres, the numbers of the fixes

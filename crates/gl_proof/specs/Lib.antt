@@ -1,14 +1,6 @@
 pub mod Claim
 pub mod Code
 pub mod Line
-pub mod Number
 pub mod Reading
 pub mod Refusal
 pub mod Text
-pub use Rattle.gl_box.specs.Cell
-pub use Rattle.gl_box.specs.Closed
-pub use Rattle.gl_lines.specs.Grammar
-pub use Rattle.gl_lines.specs.Kept
-pub use Rattle.gl_lines.specs.Misfit
-pub use Rattle.gl_lines.specs.Words
-pub use Rattle.gl_walk.specs.InLists

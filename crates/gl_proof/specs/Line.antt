@@ -9,7 +9,7 @@ use Rattle.gl_proof.specs.declared.claim.ClaimKind.{ClaimKind}
 use Rattle.gl_proof.specs.declared.claim.ClaimKind.TheVariants.{Area, Out, Free, Triangle}
 use Rattle.gl_proof.specs.declared.version.Version.{Version}
 use Rattle.gl_proof.specs.declared.version.Version.TheVariants.{One, Two}
-use Rattle.gl_proof.specs.Number.{is_number}
+use Rattle.gl_text.specs.Forms.{is_number}
 
 -- What a line says: that the text is a proof, and of which version; whose claim follows, of which
 -- kind and of which total; the numbers of its fixes; a box, by which reason it is closed and its

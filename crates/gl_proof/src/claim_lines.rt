@@ -1,7 +1,7 @@
 ghost use Rattle.std.specs.Prelude.{◌≡◌, ◌+◌, ℕ, List, length, map, IfOk, IfErr, IsTrue};
 ghost use Rattle.gl_box.specs.Closed.{box_of};
 ghost use Rattle.gl_proof.specs.Claim.{fix_lines, statement_of};
-ghost use Rattle.gl_proof.specs.Number.{is_number};
+ghost use Rattle.gl_text.specs.Forms.{is_number};
 ghost use Rattle.gl_lines.specs.Misfit.{OrMemory};
 ghost use Rattle.gl_proof.specs.Code.Passage.{AreBoxesAt, AreClaimedAt, IsClaimRead, LacksClaim, LacksFixes, AddsBoxes};
 

@@ -4,8 +4,9 @@ ghost use Rattle.std.specs.Prelude.{◌≡◌, ◌<◌, ◌≤◌};
 ghost use Rattle.gl_sphere.specs.Range.{IsWithin};
 ghost use Rattle.gl_zone.specs.Limits.{greatest_length, most_parts, whole_turn};
 
-use gl_igc::{Fix, Items};
+use gl_igc::Fix;
 use gl_sphere::{Grid, east, north, vector};
+use gl_text::Items;
 use gl_zone::{Cylinder, Line, MOST_PARTS, Part, Sector, WHOLE_TURN, Zone, crossing, holds, side};
 use std::test::Fail;
 

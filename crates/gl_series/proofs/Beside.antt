@@ -7,7 +7,7 @@ use Rattle.std.proofs.lemmas.List.Elements.{All-head, All-tail}
 use Rattle.gl_series.specs.declared.day.DayRow.{DayRow}
 use Rattle.gl_series.specs.declared.standing.Total.{Total}
 use Rattle.gl_series.specs.Choices.{points_beside}
-use Rattle.gl_series.specs.Forms.{is_text}
+use Rattle.gl_text.specs.Forms.{is_text}
 use Rattle.gl_series.specs.Totals.{total_beside}
 use Rattle.gl_series.proofs.Growing.{pairs_tail}
 

@@ -7,7 +7,7 @@ use Rattle.std.proofs.lemmas.List.Concat.{flat_map-append}
 use Rattle.std.proofs.lemmas.List.Elements.{All-cons, All-head, All-nil, All-push, All-tail}
 use Rattle.std.proofs.lemmas.List.Kept.{AllPairs-cons}
 use Rattle.gl_series.specs.declared.entry.Entry.{Entry}
-use Rattle.gl_series.specs.declared.entry.Entry.TheVariants.{Day, Team}
+use Rattle.gl_series.specs.declared.entry.Entry.TheVariants.{Team}
 use Rattle.gl_series.specs.declared.series.Member.{Member}
 use Rattle.gl_series.specs.Code.Adding.{with_entry}
 use Rattle.gl_series.specs.SeriesList.{Fit, IsSeries, day_of, member_of, series_of}
@@ -51,20 +51,6 @@ days_apart one other = one ≢ other
 
 abbrev numbers_apart : Member → Member → Type 0
 numbers_apart one other = one.number ≢ other.number
-
--- a day more
-pub day_fits : (days : List (List ℕ)) (teams : List Member) (name : List ℕ) → IsSeries (record { days = days; teams = teams }) → length days < 30 → All (λ day. day ≢ name) days
-    → IsSeries (with_entry days teams (Day name))
-day_fits days teams name is room new = record {
-  few_days = omega (arith, length-append days (name ∷ []), room);
-  days_differ = pairs_push days_apart days name is.days_differ new;
-  few_members = subst (λ (ms : List Member). length ms ≤ 1_000) (sym (append-nil teams)) is.few_members;
-  numbers_differ = subst (AllPairs numbers_apart) (sym (append-nil teams)) is.numbers_differ;
-}
-
-pub day_room : (days : List (List ℕ)) (teams : List Member) (name : List ℕ) → IsSeries (with_entry days teams (Day name)) → (length days < 30) × All (λ day. day ≢ name) days
-day_room days teams name fits =
-    (omega (arith, fits.few_days, length-append days (name ∷ [])), pairs_last days_apart days name fits.days_differ)
 
 -- a member more
 pub member_fits : (days : List (List ℕ)) (teams : List Member) (member : Member) → IsSeries (record { days = days; teams = teams }) → length teams < 1_000

@@ -1,12 +1,12 @@
 -- The members for whose teams no later one flies: each team stands among them once.
-use Rattle.std.proofs.Common.{◌≡◌, ◌∙◌, sym, ap, subst, refl, ℕ, suc, ◌≤◌, Bool, true, false, ◌||◌, List, [], ◌∷◌, ◌++◌, length, get_or, append_assoc, arith, ⊎_elim}
+use Rattle.std.proofs.Common.{◌≡◌, ◌∙◌, sym, ap, subst, refl, ℕ, suc, ◌≤◌, Bool, true, false, ◌||◌, List, [], ◌∷◌, ◌++◌, length, get_or, arith, ⊎_elim}
 use Rattle.std.specs.Prelude.{All, Contains, cond, count_by}
 use Rattle.std.proofs.lemmas.Bool.{cases_Bool}
 use Rattle.std.proofs.lemmas.List.Elements.{All-cons, All-nil, All-weaker}
 use Rattle.std.proofs.lemmas.List.Folds.{list_any_at}
 use Rattle.std.proofs.lemmas.List.Sums.{sum_by-cons}
 use Rattle.gl_series.specs.declared.series.Member.{Member}
-use Rattle.gl_series.specs.Forms.{is_text}
+use Rattle.gl_text.specs.Forms.{is_text}
 use Rattle.gl_series.specs.Code.Tallies.{has_team, last_members}
 use Rattle.gl_series.proofs.Beside.{text_is, text_same}
 
@@ -74,11 +74,3 @@ module _ (team : List ℕ) where
 pub team_found : (members : List Member) (member : Member) → Contains members member → has_team member.team members ≡ true
 team_found members member has = list_any_at (λ other. is_text member.team other.team) members has.0 member has.1
     (text_is member.team (get_or members has.0 member).team (ap (λ (m : Member). m.team) (sym has.2)))
-
-pub members_more : (front more : List Member) (rest later members : List Member) (member : Member) → front ++ last_members rest ≡ last_members members → rest ≡ member ∷ later
-    → more ≡ front ++ cond (has_team member.team later) [] (member ∷ []) → more ++ last_members later ≡ last_members members
-members_more front more rest later members member so_far here grown =
-    ap (λ (l : List Member). l ++ last_members later) grown
-    ∙ append_assoc front (cond (has_team member.team later) [] (member ∷ [])) (last_members later)
-    ∙ ap (λ (ms : List Member). front ++ last_members ms) (sym here)
-    ∙ so_far

@@ -1,5 +1,5 @@
 -- The rows whose numbers no later day has: each number of the days stands among them once.
-use Rattle.std.proofs.Common.{◌≡◌, ◌≢◌, ◌∙◌, sym, ap, subst, refl, ℕ, suc, ◌+◌, ◌*◌, ◌<◌, ◌≤◌, Bool, true, false, ◌||◌, List, [], ◌∷◌, ◌++◌, length, map, get_or, take, append_assoc, arith, ⊎_elim}
+use Rattle.std.proofs.Common.{◌≡◌, ◌≢◌, ◌∙◌, sym, ap, subst, refl, ℕ, suc, ◌+◌, ◌*◌, ◌<◌, ◌≤◌, Bool, true, false, ◌||◌, List, [], ◌∷◌, ◌++◌, length, map, get_or, take, arith, ⊎_elim}
 use Rattle.std.specs.Prelude.{All, AllPairs, Contains, cond, count_by, filter, not}
 use Rattle.std.proofs.lemmas.Bool.{cases_Bool, false≢true, or_parts}
 use Rattle.std.proofs.lemmas.List.{length-append, map_push, take_more}
@@ -8,7 +8,7 @@ use Rattle.std.proofs.lemmas.List.Folds.{list_any_at}
 use Rattle.std.proofs.lemmas.List.Sums.{count_by-le-length, length-filter, sum_by-append, sum_by-cons}
 use Rattle.gl_series.specs.declared.day.DayRow.{DayRow}
 use Rattle.gl_series.specs.declared.day.DaySheet.{DaySheet}
-use Rattle.gl_series.specs.Forms.{is_text}
+use Rattle.gl_text.specs.Forms.{is_text}
 use Rattle.gl_series.specs.Code.Tallies.{has_number, is_in_days, last_rows}
 use Rattle.gl_series.specs.Totals.{IsDay, IsLastName}
 use Rattle.gl_series.proofs.Beside.{text_apart, text_is, text_not, text_same}
@@ -18,14 +18,6 @@ use Rattle.gl_series.proofs.Growing.{pairs_head, pairs_tail}
 pub map_more : {X Y : Type 0} (f : X → Y) (xs : List X) (i : ℕ) (x : X) → i < length xs → x ≡ get_or xs i x → map f (take (i + 1) xs) ≡ map f (take i xs) ++ f x ∷ []
 map_more f xs i x inside at =
     ap (map f) (take_more xs i x inside ∙ ap (λ y. take i xs ++ y ∷ []) (sym at)) ∙ map_push f (take i xs) x
-
-pub last_more : (front more : List DayRow) (rest later days : List DaySheet) (day : DaySheet) → front ++ last_rows rest ≡ last_rows days → rest ≡ day ∷ later
-    → more ≡ front ++ filter (λ row. not (is_in_days row.number later)) day.rows → more ++ last_rows later ≡ last_rows days
-last_more front more rest later days day so_far here grown =
-    ap (λ (l : List DayRow). l ++ last_rows later) grown
-    ∙ append_assoc front (filter (λ row. not (is_in_days row.number later)) day.rows) (last_rows later)
-    ∙ ap (λ (ds : List DaySheet). front ++ last_rows ds) (sym here)
-    ∙ so_far
 
 not_true : (b : Bool) → not b ≡ true → b ≡ false
 not_true false is = refl

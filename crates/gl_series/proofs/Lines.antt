@@ -3,7 +3,6 @@
 use Rattle.std.proofs.Common.{◌≡◌, ◌∙◌, sym, ap, subst, refl, inl, inr, ℕ, suc, ◌+◌, List, [], ◌∷◌, ◌++◌, length, get_or, drop, append_assoc, Result, Ok, Err, arith}
 use Rattle.std.specs.Prelude.{IfOk, IfErr, IsErrOf, ◌⊎◌}
 use Rattle.std.specs.List.{AllZip, flat_map}
-use Rattle.std.proofs.lemmas.List.{append-nil}
 use Rattle.gl_text.specs.Lines.{lines_of}
 use Rattle.gl_series.specs.declared.entry.Entry.{Entry}
 use Rattle.gl_series.specs.declared.entry.Entry.TheVariants.{Day, Team}
@@ -11,7 +10,7 @@ use Rattle.gl_series.specs.declared.error.ListError.{ListError}
 use Rattle.gl_series.specs.declared.error.ListError.TheVariants.{Heading, Line, Memory}
 use Rattle.gl_series.specs.declared.series.Member.{Member}
 use Rattle.gl_series.specs.declared.series.Series.{Series}
-use Rattle.gl_series.specs.Code.Adding.{IsBehindHeading, IsNext, IsStopped, Says, SaysUpTo, StopsAt, with_entry}
+use Rattle.gl_series.specs.Code.Adding.{IsBehindHeading, IsNext, IsStopped, SaysUpTo, StopsAt, with_entry}
 use Rattle.gl_series.specs.OneByOne.{Reads, StopsBehind}
 use Rattle.gl_series.specs.SeriesList.{Fit, IsLineOf, IsList, IsRefused, IsSeries, day_of, heading, line_of, member_of, series_of}
 use Rattle.gl_series.proofs.Growing.{fit_begins, series_push}
@@ -55,26 +54,6 @@ next_fits : (days : List (List ℕ)) (teams : List Member) (entries : List Entry
 next_fits days teams entries entry says =
     series_push entries entry ∙ ap (λ (s : Series). with_entry s.days s.teams entry) (sym says)
 
-pub says_none : (lines : List (List ℕ)) → SaysUpTo lines lines (record { days = []; teams = [] })
-says_none lines = record {
-  front = [];
-  parts = refl;
-  says = record {
-    entries = [];
-    reads = record {
-      each = tt;
-      fit = record {
-        few_days = omega arith;
-        days_differ = λ i j d below within. absurd (omega (arith, below, within));
-        few_members = omega arith;
-        numbers_differ =
-            λ i j d below within. absurd (omega (arith, below, within));
-      };
-    };
-    says = refl;
-  };
-}
-
 pub says_more : (lines rest behind : List (List ℕ)) (line : List ℕ) (days : List (List ℕ)) (teams : List Member) (entry : Entry) (series : Series)
     → SaysUpTo lines rest (record { days = days; teams = teams }) → rest ≡ line ∷ behind → IsNext days teams line entry → series ≡ with_entry days teams entry → SaysUpTo lines behind series
 says_more lines rest behind line days teams entry series far here next is =
@@ -115,20 +94,6 @@ stops_here lines rest behind line days teams number far here none is =
       };
       number_is = omega (arith, is, many, kinds, ap length said_days, ap length said_teams);
     }
-
-pub says_all : (lines : List (List ℕ)) (series : Series) → SaysUpTo lines [] series → Says lines series
-says_all lines series far =
-    subst (λ (l : List (List ℕ)). Says l series) (sym (far.parts ∙ append-nil far.front)) far.says
-
--- behind the heading
-pub list_says : (text : List ℕ) (place : ℕ) (series : Series) → IsBehindHeading text place → Says (lines_of (drop place text)) series → IsList text series
-list_says text place series head says = record {
-  entries = says.entries;
-  rest = lines_of (drop place text);
-  lines = head.lines;
-  reads = says.reads;
-  says = says.says;
-}
 
 pub list_stops : (text : List ℕ) (place : ℕ) (error : ListError) → IsBehindHeading text place → IsStopped (lines_of (drop place text)) error → IsRefused text error
 list_stops text place Heading head stopped = absurd stopped

@@ -1,25 +1,16 @@
 -- How the line of a member of a team reads.
-use Rattle.std.proofs.Common.{◌≡◌, ◌≢◌, ◌∙◌, sym, ap, refl, ℕ, zero, suc, ◌+◌, ◌<◌, true, List, [], ◌∷◌, ◌++◌, length, get_or, take, drop, arith}
+use Rattle.std.proofs.Common.{◌≡◌, ◌≢◌, ◌∙◌, sym, ap, refl, ℕ, zero, suc, ◌+◌, true, List, [], ◌∷◌, ◌++◌, length, get_or}
 use Rattle.std.specs.Prelude.{All, IsTrue}
 use Rattle.std.specs.Char.{is_ascii_alphanumeric}
 use Rattle.std.specs.List.{list_all}
 use Rattle.std.specs.Str.{IsAscii}
 use Rattle.std.proofs.lemmas.Bool.{false≢true, and_parts}
 use Rattle.std.proofs.lemmas.Bool.Decides.{nat_tests}
-use Rattle.std.proofs.lemmas.List.{drop_more, get_or-take, get_or_at, length-take-le, take-append-drop, length-append}
-use Rattle.std.proofs.lemmas.List.Elements.{All-cons, All-from_get_or, All-nil, All-tail}
-use Rattle.gl_series.specs.Code.Adding.{IsFirstSpace, IsSpaced}
-use Rattle.gl_series.specs.Forms.{is_number, is_short}
+use Rattle.std.proofs.lemmas.List.{get_or_at, length-append}
+use Rattle.std.proofs.lemmas.List.Elements.{All-cons, All-nil, All-tail}
+use Rattle.gl_text.specs.Spaces.{IsSpaced}
+use Rattle.gl_text.specs.Forms.{is_number, is_short}
 use Rattle.gl_text.proofs.Characters.{first_space, letters_ascii}
-
--- a text with a space in it, cut there
-pub spaced_at : (text : List ℕ) (place : ℕ) → IsFirstSpace text place → IsSpaced text (take place text) (drop (place + 1) text)
-spaced_at text place first = record {
-  is = sym (take-append-drop place text) ∙ ap (λ (l : List ℕ). take place text ++ l) (drop_more text place 0 first.inside ∙ ap (λ (b : ℕ). b ∷ drop (place + 1) text) first.is);
-  none = All-from_get_or (λ byte. byte ≢ 32) (take place text) 0 (λ k below same.
-      let inside : k < place = omega (arith, below, length-take-le place text (omega (arith, first.inside))) in
-      first.none k inside (sym (get_or-take place text k 0 inside) ∙ same));
-}
 
 -- a number has no space, and is ASCII
 letters_spaceless : (text : List ℕ) → list_all is_ascii_alphanumeric text ≡ true → All (λ byte. byte ≢ 32) text

@@ -14,7 +14,7 @@ use Rattle.gl_series.specs.declared.standing.Standing.{Standing}
 use Rattle.gl_series.specs.declared.standing.TeamTotal.{TeamTotal}
 use Rattle.gl_series.specs.declared.standing.Total.{Total}
 use Rattle.gl_series.specs.Choices.{IsTotal, points_on}
-use Rattle.gl_series.specs.Forms.{is_text}
+use Rattle.gl_text.specs.Forms.{is_text}
 use Rattle.gl_series.specs.Totals.{AreDays, ArePilots, AreTeams, IsDay, IsLastName, IsPilot, IsStanding, IsTeam, pilot_cmp, points_for, rank_of, team_cmp}
 use Rattle.gl_series.proofs.OneList.{counted_some, from_map, keys_apart, one_list}
 use Rattle.gl_series.proofs.Orders.{pilot_cmp_total, team_cmp_total}

@@ -21,7 +21,7 @@ use Rattle.gl_series.specs.Code.AddingRows.{IsNextRow}
 use Rattle.gl_series.specs.OneByOne.{Reads, StopsBehind}
 use Rattle.gl_series.specs.SheetText.{Begins, IsRefusedSheet, IsRowOf, IsSheetOf, IsWrongRecord, field_of, sheet_heading}
 use Rattle.gl_series.specs.Totals.{IsDay}
-use Rattle.gl_series.specs.Forms.{is_text}
+use Rattle.gl_text.specs.Forms.{is_text}
 use Rattle.gl_series.proofs.Beside.{text_apart, text_same}
 use Rattle.gl_series.proofs.Growing.{all_begin, pairs_begin, pairs_last, pairs_nil, pairs_push}
 use Rattle.gl_series.proofs.Lines.{zip_long}

@@ -4,7 +4,7 @@ use Rattle.std.specs.Prelude.{All, AllPairs, Contains, MatchBool, cond, count_by
 use Rattle.std.specs.List.Sorted.{IsPermutation, IsSorted}
 use Rattle.std.specs.Ordering.{is_lt}
 use Rattle.std.proofs.lemmas.Bool.{cases_Bool, false≢true}
-use Rattle.std.proofs.lemmas.List.{append-nil, drop_more, get_or-map, length-append, length-map, map_push, take_more}
+use Rattle.std.proofs.lemmas.List.{drop_more, get_or-map, length-append, length-map, map_push, take_more}
 use Rattle.std.proofs.lemmas.List.Elements.{All-cons, All-head, All-map, All-nil, All-push, All-tail, All-weaker}
 use Rattle.std.proofs.lemmas.List.Sorted.{All-permutation, Contains-permutation, length_permutation, IsPermutation-map, IsPermutation-sym, IsPermutation-trans, sum_by-IsPermutation}
 use Rattle.std.proofs.lemmas.List.Sums.{sum_by-append, sum_by-cons}
@@ -13,7 +13,7 @@ use Rattle.gl_series.specs.declared.shares.Share.{Share}
 use Rattle.gl_series.specs.declared.standing.TeamTotal.{TeamTotal}
 use Rattle.gl_series.specs.declared.standing.Total.{Total}
 use Rattle.gl_series.specs.declared.teams.TeamSum.{TeamSum}
-use Rattle.gl_series.specs.Forms.{is_text}
+use Rattle.gl_text.specs.Forms.{is_text}
 use Rattle.gl_series.specs.Code.Tallies.{AreRankedTeams, AreShares, AreSharesOf, AreTeamSums, has_team, last_members, share_cmp, share_for, starts_with_team, team_of, text_cmp, total_of_sum}
 use Rattle.gl_series.specs.Totals.{AreTeams, IsTeam, points_for, total_beside}
 use Rattle.gl_series.proofs.Beside.{text_apart, text_is, text_not, text_same}
@@ -182,21 +182,6 @@ sums_further shares front later share sums more sum total begun rising low far w
           running = λ other after here. is ∙ sym (nothing_for (team_name other) (front ++ share ∷ []) (before_apart shares front behind share other after rising so.parts ends here));
           low = omega (arith, is);
         }
-
-pub sums_none : (shares : List Share) → SumsUpTo shares [] shares [] 0
-sums_none shares = record {
-  parts = refl;
-  members_are = refl;
-  each = All-nil (λ one. one.total ≡ sum_by (share_for one.member.now.team) shares);
-  running = λ share later here. refl;
-  low = omega arith;
-}
-
-pub sums_all : (shares : List Share) (sums : List TeamSum) (total : ℕ) → SumsUpTo shares shares [] sums total → AreTeamSums shares sums
-sums_all shares sums total far = record {
-  members_are = sym (append-nil (map member_of sums)) ∙ far.members_are;
-  each = far.each;
-}
 
 -- the same at a place of the list
 pub sums_at : (shares : List Share) (place : ℕ) (share : Share) (sums more : List TeamSum) (sum : TeamSum) (total begun : ℕ) → IsSorted share_cmp shares → All (λ one. one.points ≤ 30_000) shares

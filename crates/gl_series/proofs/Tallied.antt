@@ -11,7 +11,7 @@ use Rattle.gl_series.specs.declared.day.DaySheet.{DaySheet}
 use Rattle.gl_series.specs.declared.ordered.Ordered.{Ordered}
 use Rattle.gl_series.specs.declared.pilots.Tally.{Tally}
 use Rattle.gl_series.specs.declared.standing.Total.{Total}
-use Rattle.gl_series.specs.Forms.{is_text}
+use Rattle.gl_text.specs.Forms.{is_text}
 use Rattle.gl_series.specs.Code.Tallies.{AreOrdered, AreRanked, AreTallies, AreTotals, IsTally, days_of, last_rows, pilot_of}
 use Rattle.gl_series.specs.Totals.{AreDays, ArePilots, IsLastName, IsPilot, rank_of}
 use Rattle.gl_series.proofs.LastRows.{last_few, last_named, map_more, number_counted, row_found}

@@ -3,7 +3,7 @@ use Rattle.std.specs.Prelude.{◌≡◌, ℕ, ◌<◌, ◌≤◌, List, [], ◌�
 use Rattle.std.specs.List.Sorted.{IsPermutation}
 use Rattle.gl_series.specs.declared.day.DayRow.{DayRow}
 use Rattle.gl_series.specs.declared.day.DaySheet.{DaySheet}
-use Rattle.gl_series.specs.Forms.{is_text}
+use Rattle.gl_text.specs.Forms.{is_text}
 
 -- the points beside a number in some rows, 0 where it isn't there
 abbrev pub points_beside : List ℕ → List DayRow → ℕ

@@ -1,41 +1,7 @@
--- The forms of names and numbers in a list and in a sheet.
-use Rattle.std.specs.Prelude.{ℕ, nat_le, nat_eq, ◌==◌, ◌&&◌, not, codes, length, List, Bool}
-use Rattle.std.specs.Char.{is_ascii_alphanumeric}
-use Rattle.std.specs.Cmp.Lexicographic.{pointwise}
-use Rattle.std.specs.List.{list_all}
-use Rattle.std.specs.Str.{byte}
-
--- the two texts have the same bytes
-abbrev pub is_text : List ℕ → List ℕ → Bool
-is_text a b = pointwise nat_eq a b
-
--- a text has from 1 to so many bytes
-abbrev pub is_short : List ℕ → ℕ → Bool
-is_short text most = nat_le 1 (length text) && nat_le (length text) most
-
--- a byte that may stand in the name of a file: no control character below the space, and no slash
-abbrev pub is_in_file_name : ℕ → Bool
-is_in_file_name c = nat_le 32 c && not (c == byte "/")
-
--- the name of a file: 1 to 128 bytes, none of them below 32 or a slash, and not the folder itself
--- or the one above it
-abbrev pub is_file_name : List ℕ → Bool
-is_file_name text =
-    is_short text 128 && list_all is_in_file_name text
-    && not (is_text text (codes ".")) && not (is_text text (codes ".."))
-
--- the number of a pilot: 1 to 8 letters and digits of ASCII
-abbrev pub is_number : List ℕ → Bool
-is_number text = is_short text 8 && list_all is_ascii_alphanumeric text
-
--- no control character: not below 32, and not 127
-abbrev pub is_no_control : ℕ → Bool
-is_no_control c = nat_le 32 c && not (c == 127)
-
--- the name of a pilot: 1 to 80 bytes, none of them a control character
-abbrev pub is_name : List ℕ → Bool
-is_name text = is_short text 80 && list_all is_no_control text
+-- The form of a team's name.
+use Rattle.std.specs.Prelude.{ℕ, List, Bool}
+use Rattle.gl_text.specs.Forms.{is_plain}
 
 -- the name of a team: 1 to 40 bytes, none of them a control character
 abbrev pub is_team : List ℕ → Bool
-is_team text = is_short text 40 && list_all is_no_control text
+is_team text = is_plain text 40

@@ -8,7 +8,8 @@ use Rattle.gl_series.specs.declared.error.ListError.{ListError}
 use Rattle.gl_series.specs.declared.error.ListError.TheVariants.{Heading, Line, Memory}
 use Rattle.gl_series.specs.declared.series.Member.{Member}
 use Rattle.gl_series.specs.declared.series.Series.{Series}
-use Rattle.gl_series.specs.Forms.{is_file_name, is_number, is_team}
+use Rattle.gl_text.specs.Forms.{is_file_name, is_number}
+use Rattle.gl_series.specs.Forms.{is_team}
 use Rattle.gl_series.specs.OneByOne.{Reads, StopsBehind}
 
 -- the first line

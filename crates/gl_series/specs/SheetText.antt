@@ -8,7 +8,7 @@ use Rattle.gl_series.specs.declared.day.DayRow.{DayRow}
 use Rattle.gl_series.specs.declared.day.DaySheet.{DaySheet}
 use Rattle.gl_series.specs.declared.error.SheetError.{SheetError}
 use Rattle.gl_series.specs.declared.error.SheetError.TheVariants.{Heading, Record, Memory}
-use Rattle.gl_series.specs.Forms.{is_name, is_number}
+use Rattle.gl_text.specs.Forms.{is_name, is_number}
 use Rattle.gl_series.specs.OneByOne.{Reads, StopsBehind}
 use Rattle.gl_series.specs.Totals.{IsDay}
 

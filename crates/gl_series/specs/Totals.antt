@@ -12,7 +12,7 @@ use Rattle.gl_series.specs.declared.standing.Standing.{Standing}
 use Rattle.gl_series.specs.declared.standing.TeamTotal.{TeamTotal}
 use Rattle.gl_series.specs.declared.standing.Total.{Total}
 use Rattle.gl_series.specs.Choices.{IsTotal, points_on}
-use Rattle.gl_series.specs.Forms.{is_text}
+use Rattle.gl_text.specs.Forms.{is_text}
 
 -- at most 200 rows, no two of one number, with at most 1,000 points each
 pub record IsDay (rows : List DayRow) : Type 0 where

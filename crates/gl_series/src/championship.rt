@@ -3,11 +3,11 @@ ghost use Rattle.gl_series.specs.SeriesList.{IsSeries};
 ghost use Rattle.gl_series.specs.Totals.{AreDays, IsStanding};
 
 use crate::day::DaySheet;
-use crate::items::Items;
 use crate::pilots::pilots;
 use crate::series::Series;
 use crate::standing::Standing;
 use crate::teams::teams;
+use gl_text::Items;
 use std::alloc::{AllocError, Global};
 
 /// The standing of a championship after some days, where so many days are left out for each pilot:

@@ -1,5 +1,5 @@
-use crate::items::Items;
 use gl_desk::Name;
+use gl_text::Items;
 
 /// What the sheet of a day says of one pilot.
 #[derive(Debug, Drop)]

@@ -1,26 +1,11 @@
-ghost use Rattle.std.specs.Prelude.{◌≡◌, IsUtf8, MatchOption, length};
-ghost use Rattle.std.specs.List.{list_all};
-ghost use Rattle.std.specs.Char.{is_ascii_alphanumeric};
-ghost use Rattle.gl_series.specs.Forms.{is_in_file_name, is_file_name, is_number, is_name, is_no_control, is_short, is_team};
+ghost use Rattle.std.specs.Prelude.{◌≡◌, IsUtf8, MatchOption};
+ghost use Rattle.gl_series.specs.Forms.{is_team};
 
+use gl_text::is_plain;
 use std::str::from_utf8;
-
-/// The most bytes of the name of a file.
-const LONGEST_FILE_NAME: usize = 128;
-
-/// The most bytes of a pilot's number.
-const LONGEST_NUMBER: usize = 8;
-
-/// The most bytes of a pilot's name.
-const LONGEST_NAME: usize = 80;
 
 /// The most bytes of a team's name.
 const LONGEST_TEAM: usize = 40;
-
-/// The first byte that is no control character, and the one control character above it.
-const SPACE: u8 = 32;
-
-const DELETE: u8 = 127;
 
 /// The text of some bytes, where they are UTF-8.
 pub(crate) fn text_in(bytes: &[u8]) -> Option<&str>
@@ -30,79 +15,9 @@ pub(crate) fn text_in(bytes: &[u8]) -> Option<&str>
     from_utf8(bytes).ok()
 }
 
-/// Whether a text has from 1 to so many bytes.
-fn is_short(text: &str, most: usize) -> bool
-    ensures { result ≡ is_short text.now most }
-{
-    1 <= text.len() && text.len() <= most
-}
-
-/// Whether a byte may stand in the name of a file.
-fn is_in_file_name(byte: u8) -> bool
-    ensures { result ≡ is_in_file_name byte }
-{
-    SPACE <= byte && byte != b'/'
-}
-
-/// Whether each byte of a text may stand in the name of a file.
-fn has_file_name_bytes(text: &str) -> bool
-    ensures { result ≡ list_all is_in_file_name text.now }
-{
-    text.as_bytes().iter().all(|byte| is_in_file_name(*byte))
-}
-
-/// Whether a text is the name of a file: 1 to 128 bytes, none of them below 32 or a slash, and
-/// neither `.` nor `..`.
-pub(crate) fn is_file_name(text: &str) -> bool
-    ensures { result ≡ is_file_name text.now }
-{
-    let is_short = is_short(text, LONGEST_FILE_NAME);
-    let is_plain = has_file_name_bytes(text);
-    let is_folder = text == ".";
-    let is_folder_above = text == "..";
-    is_short && is_plain && !is_folder && !is_folder_above
-}
-
-/// Whether each byte of a text is a letter or a digit of ASCII.
-fn has_number_bytes(text: &str) -> bool
-    ensures { result ≡ list_all is_ascii_alphanumeric text.now }
-{
-    text.as_bytes()
-        .iter()
-        .all(|byte| byte.is_ascii_alphanumeric())
-}
-
-/// Whether a text is a pilot's number: 1 to 8 letters and digits of ASCII.
-pub(crate) fn is_number(text: &str) -> bool
-    ensures { result ≡ is_number text.now }
-{
-    is_short(text, LONGEST_NUMBER) && has_number_bytes(text)
-}
-
-/// Whether a byte is no control character.
-fn is_no_control(byte: u8) -> bool
-    ensures { result ≡ is_no_control byte }
-{
-    SPACE <= byte && byte != DELETE
-}
-
-/// Whether no byte of a text is a control character.
-fn has_no_control(text: &str) -> bool
-    ensures { result ≡ list_all is_no_control text.now }
-{
-    text.as_bytes().iter().all(|byte| is_no_control(*byte))
-}
-
-/// Whether a text is a pilot's name: 1 to 80 bytes, none of them a control character.
-pub(crate) fn is_name(text: &str) -> bool
-    ensures { result ≡ is_name text.now }
-{
-    is_short(text, LONGEST_NAME) && has_no_control(text)
-}
-
 /// Whether a text is a team's name: 1 to 40 bytes, none of them a control character.
 pub(crate) fn is_team(text: &str) -> bool
     ensures { result ≡ is_team text.now }
 {
-    is_short(text, LONGEST_TEAM) && has_no_control(text)
+    is_plain(text, LONGEST_TEAM)
 }

@@ -1,4 +1,4 @@
-ghost use Rattle.std.specs.Prelude.{◌≡◌, ◌≢◌, ◌⊎◌, ◌↔◌, ◌≤◌, ◌<◌, ◌∷◌, ◌++◌, ℕ, List, All, IfOk, IfErr, IsErrOf, IsTrue, MatchOption, MatchResult, OnOk, drop, length, map, slice_index};
+ghost use Rattle.std.specs.Prelude.{◌≡◌, ◌≢◌, ◌⊎◌, ◌↔◌, ◌≤◌, ◌<◌, ◌∷◌, ◌++◌, ℕ, List, All, IfOk, IfErr, IsErrOf, IsTrue, MatchOption, MatchResult, OnOk, drop, length, map};
 ghost use Rattle.gl_text.specs.Lines.{lines_of};
 ghost use Rattle.gl_series.specs.declared.entry.Entry.{Entry};
 ghost use Rattle.gl_series.specs.declared.entry.Entry.TheVariants.{Day, Team};
@@ -6,18 +6,17 @@ ghost use Rattle.gl_series.specs.declared.error.ListError.{ListError};
 ghost use Rattle.gl_series.specs.declared.error.ListError.TheVariants.{Memory};
 ghost use Rattle.gl_series.specs.declared.series.Member.{Member};
 ghost use Rattle.gl_series.specs.declared.series.Series.{Series};
-ghost use Rattle.gl_series.specs.Code.Adding.{IsBehindHeading, IsFirstSpace, IsMember, IsNext, IsSpaced, IsStopped, Says, member_line, with_entry};
+ghost use Rattle.gl_series.specs.Code.Adding.{IsBehindHeading, IsMember, IsNext, IsStopped, Says, member_line, with_entry};
 ghost use Rattle.gl_series.specs.Code.AddingRows.{HasNumbers};
 ghost use Rattle.gl_series.specs.SeriesList.{HasNoHeading, IsEntry, IsLineOf, IsList, IsRefused, IsSeries, line_of};
 
 use crate::entry::Entry;
 use crate::error::ListError;
-use crate::form::{is_file_name, is_number, is_team, text_in};
-use crate::items::Items;
+use crate::form::{is_team, text_in};
 use crate::numbers::Numbers;
 use crate::series::{Member, Series};
 use gl_desk::Name;
-use gl_text::next_line;
+use gl_text::{Items, is_file_name, is_number, next_line, part_at_space};
 use std::alloc::{AllocError, Global};
 
 /// The first line of a list.
@@ -39,26 +38,6 @@ fn day_name(line: &[u8]) -> Option<&str>
     is_file_name(name).then_some(name)
 }
 
-/// The place of the first space of a text.
-fn space_in(text: &[u8]) -> Option<usize>
-    ensures { MatchOption result
-        ((k : ℕ) → k < length text.now → slice_index text.now k ≢ 32)
-        (IsFirstSpace text.now) }
-{
-    text.iter().position(|byte| *byte == b' ')
-}
-
-/// What stands before the first space of a text, and what stands behind it.
-#[tactic(auto, using(crate::proofs::Members::spaced_at))]
-fn parted(text: &[u8]) -> Option<(&[u8], &[u8])>
-    ensures { MatchOption result
-        ((front back : List ℕ) → text.now ≢ front ++ 32 ∷ back)
-        (λ parts. IsSpaced text.now parts.0.now parts.1.now) }
-{
-    let space = space_in(text)?;
-    Some((&text[..space], &text[space + 1..]))
-}
-
 /// The number and the team that a text writes, with a space between them.
 fn number_and_team(text: &[u8]) -> Option<(&str, &str)>
     ensures { MatchOption result
@@ -66,7 +45,7 @@ fn number_and_team(text: &[u8]) -> Option<(&str, &str)>
         (λ texts. IsMember texts.0.now texts.1.now
         × (text.now ≡ texts.0.now ++ 32 ∷ texts.1.now)) }
 {
-    let (number, team) = parted(text)?;
+    let (number, team) = part_at_space(text)?;
     let number = text_in(number)?;
     let team = text_in(team)?;
     if !is_number(number) {

@@ -1,5 +1,5 @@
-use crate::items::Items;
 use gl_desk::Name;
+use gl_text::Items;
 
 /// One who flies for a team.
 #[derive(Debug, Drop)]

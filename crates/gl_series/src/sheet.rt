@@ -6,18 +6,17 @@ ghost use Rattle.gl_series.specs.declared.day.DaySheet.{DaySheet};
 ghost use Rattle.gl_series.specs.declared.error.SheetError.{SheetError};
 ghost use Rattle.gl_series.specs.declared.error.SheetError.TheVariants.{Memory};
 ghost use Rattle.gl_series.specs.Code.AddingRows.{IsNextRow, row_written, HasNumbers};
-ghost use Rattle.gl_series.specs.Forms.{is_name, is_number};
+ghost use Rattle.gl_text.specs.Forms.{is_name, is_number};
 ghost use Rattle.gl_series.specs.SheetText.{IsRefusedSheet, IsRowOf, IsSheetOf, field_of, sheet_heading};
 ghost use Rattle.gl_series.specs.Totals.{IsDay};
 
 use crate::day::{DayRow, DaySheet};
 use crate::error::SheetError;
-use crate::form::{is_name, is_number, text_in};
-use crate::items::Items;
+use crate::form::text_in;
 use crate::numbers::Numbers;
 use csv::{ByteRecord, ReaderBuilder};
 use gl_desk::Name;
-use gl_text::read_u64;
+use gl_text::{Items, is_name, is_number, read_u64};
 use std::alloc::{AllocError, Global};
 
 /// How many fields a record of a sheet has.

@@ -1,5 +1,5 @@
-use crate::items::Items;
 use gl_desk::Name;
+use gl_text::Items;
 
 /// A pilot's place in a championship.
 #[derive(Debug, Drop)]

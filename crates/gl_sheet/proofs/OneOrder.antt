@@ -18,8 +18,8 @@ use Rattle.std.proofs.lemmas.Slice.Zip.{get_or-zip, length-zip}
 use Rattle.csv.specs.Writing.{default_writer, row_text}
 use Rattle.gl_task.specs.declared.task.Entrant.{Entrant}
 use Rattle.gl_task.specs.declared.task.Task.{Task}
-use Rattle.gl_task.specs.Forms.{is_text}
-use Rattle.gl_task.specs.Numbers.{all_differ, repeated_after}
+use Rattle.gl_text.specs.Forms.{is_text}
+use Rattle.gl_task.specs.Numbers.{none_repeats, repeated_after}
 use Rattle.gl_sheet.specs.declared.row.Row.{Row}
 use Rattle.gl_sheet.specs.Columns.{fields, heading}
 use Rattle.gl_sheet.specs.Sheet.{IsSheet, line_cmp}
@@ -107,7 +107,7 @@ one_place texts i j d none first second same =
     omega (arith, low, high)
 
 -- two lines whose entrants have one number are one
-one_line : (entrants : List Entrant) (rows : List Row) (a b : Entrant × Row) → IsTrue (all_differ (map (λ entrant. entrant.number) entrants)) → Contains (zip entrants rows) a
+one_line : (entrants : List Entrant) (rows : List Row) (a b : Entrant × Row) → IsTrue (none_repeats (map (λ entrant. entrant.number) entrants)) → Contains (zip entrants rows) a
     → Contains (zip entrants rows) b → a.0.number ≡ b.0.number → a ≡ b
 one_line entrants rows a b none first second same =
     let number = λ (entrant : Entrant). entrant.number in

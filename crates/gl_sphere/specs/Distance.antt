@@ -35,3 +35,7 @@ arc_over c = c + second_term_of c + third_term_of c + fourth_term_of c
 -- the distance along the surface of two points with the squared chord q
 unfoldable pub written_distance : ℕ → ℕ
 written_distance q = arc_over (floor_root q)
+
+-- the distance along the surface of two points
+abbrev pub distance : Vec3 → Vec3 → ℕ
+distance a b = written_distance (squared_chord a b)

@@ -8,4 +8,3 @@ pub mod Product
 pub mod Range
 pub mod Sine
 pub mod Sphere
-pub use Rattle.gl_text.specs.Digits

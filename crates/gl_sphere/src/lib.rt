@@ -17,7 +17,7 @@ mod square_root;
 
 pub use distance::{dist, sq};
 pub use place::{Grid, Vec3};
-pub use place_text::{read_latitude, read_longitude, read_place};
+pub use place_text::{read_latitude, read_longitude, read_place, signed};
 pub use projection::{east, north, vector};
 pub use sine::{wcos, wsin};
 pub use sphere::{GREATEST_DISTANCE, GREATEST_SQUARE, HALF_TURN, PI, QUARTER_TURN, RADIUS, UNIT};

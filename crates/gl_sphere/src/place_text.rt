@@ -44,7 +44,7 @@ fn angle(limit: u64, degrees: u32, thousandths: u32, decimals: u32) -> Option<u3
 /// `None`.
 #[inline]
 #[tactic(auto, unfolding(crate::specs::PlaceText::signed_by))]
-fn signed(plus: u8, minus: u8, letter: u8, size: u32) -> Option<i32>
+pub fn signed(plus: u8, minus: u8, letter: u8, size: u32) -> Option<i32>
     requires { size ≤ half_turn }
     ensures value { result ≡ signed_by plus minus (Some letter) size }
     ensures bound { IfSome result (IsWithin size) }

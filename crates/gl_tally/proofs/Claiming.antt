@@ -1,5 +1,5 @@
 -- Claims of an entrant, one after the other.
-use Rattle.std.proofs.Common.{◌≡◌, ◌∙◌, sym, ap, subst, refl, ℕ, ◌+◌, ◌<◌, List, [], ◌∷◌, ◌++◌, length, take, drop, get_or, None, append-nil}
+use Rattle.std.proofs.Common.{◌≡◌, ◌∙◌, sym, ap, subst, refl, ℕ, ◌+◌, List, [], ◌∷◌, ◌++◌, take, drop, None, append-nil}
 use Rattle.std.specs.List.{AllZip, flat_map}
 use Rattle.std.proofs.lemmas.List.{take_more, take-append-drop}
 use Rattle.std.proofs.lemmas.List.Concat.{flat_map-append}
@@ -17,6 +17,7 @@ use Rattle.gl_day.specs.Totals.{AreTotals}
 use Rattle.gl_day.proofs.Walked.{claims_for, claims_for-append}
 use Rattle.gl_answer.specs.Appending.{HasAppended, HasAppendedPart}
 use Rattle.gl_tally.specs.Code.Scoring.{AreClaimed, AreClaimedPartly}
+use Rattle.gl_tally.proofs.Runs.{AreFirst, ClaimRun, IsNext}
 use Rattle.gl_answer.proofs.Appended.{HasAppended-then, HasAppendedPart-memory, HasAppendedPart-then}
 use Rattle.gl_text.proofs.Lists.{AllZip-push}
 
@@ -32,18 +33,16 @@ pushed proof statements s x y z one two =
     (HasAppended-then proof (flat_map claim_text statements) (claim_text s) x y z one two)
 
 -- one claim more is proved, and its lines were appended
-pub AreClaimed-more : (number : List ℕ) (goals : List (ClaimKind × AnyGoal)) (i : ℕ) (g : ClaimKind × AnyGoal) (t u : Totals) (proof : List ℕ) (x y z : Told) (s : Statement) → i < length goals
-    → g ≡ get_or goals i g → AreClaimed (expected_of number (rules_of_claims (take i goals))) t proof x y → Proves (record { number = number; kind = g.0; rule = any_rule g.1 }) s
-    → HasAppended proof (claim_text s) y z → ((statements : List Statement) → AreTotals statements t → AreTotals (statements ++ s ∷ []) u)
-    → AreClaimed (expected_of number (rules_of_claims (take (i + 1) goals))) u proof x z
-AreClaimed-more number goals i g t u proof x y z s below item so_far proves appended noted =
-    let next = take_more goals i g below ∙ ap (λ (e : ClaimKind × AnyGoal). take i goals ++ e ∷ []) (sym item) in
-    let claims = ap (claims_for number) next ∙ claims_for-append number (take i goals) (g ∷ []) in
-    subst (λ (l : List Expected). AreClaimed l u proof x z) (sym claims) (record {
+pub AreClaimed-more : (run : ClaimRun) (i : ℕ) (g : ClaimKind × AnyGoal) (s : Statement) (t u : Totals) (y z : Told) → IsNext run i g s → AreFirst run i t y → HasAppended run.proof (claim_text s) y z
+    → ((statements : List Statement) → AreTotals statements t → AreTotals (statements ++ s ∷ []) u) → AreFirst run (i + 1) u z
+AreClaimed-more run i g s t u y z next so_far appended noted =
+    let more = take_more run.goals i g next.below ∙ ap (λ (e : ClaimKind × AnyGoal). take i run.goals ++ e ∷ []) (sym next.is) in
+    let claims = ap (claims_for run.number) more ∙ claims_for-append run.number (take i run.goals) (g ∷ []) in
+    subst (λ (l : List Expected). AreClaimed l u run.proof run.before z) (sym claims) (record {
       statements = so_far.statements ++ s ∷ [];
-      each = AllZip-push Proves (claims_for number (take i goals)) so_far.statements (record { number = number; kind = g.0; rule = any_rule g.1 }) s so_far.each proves;
+      each = AllZip-push Proves (claims_for run.number (take i run.goals)) so_far.statements (record { number = run.number; kind = g.0; rule = any_rule g.1 }) s so_far.each next.proves;
       totals_are = noted so_far.statements so_far.totals_are;
-      appended = pushed proof so_far.statements s x y z so_far.appended appended;
+      appended = pushed run.proof so_far.statements s run.before y z so_far.appended appended;
     })
 
 parts_at : (number : List ℕ) (goals : List (ClaimKind × AnyGoal)) (i : ℕ) → claims_for number goals ≡ claims_for number (take i goals) ++ claims_for number (drop i goals)
@@ -51,35 +50,33 @@ parts_at number goals i =
     ap (claims_for number) (sym (take-append-drop i goals)) ∙ claims_for-append number (take i goals) (drop i goals)
 
 -- the next claim wasn't made
-pub claimed_memory : (number : List ℕ) (goals : List (ClaimKind × AnyGoal)) (i : ℕ) (t : Totals) (proof : List ℕ) (x y : Told)
-    → AreClaimed (expected_of number (rules_of_claims (take i goals))) t proof x y → AreClaimedPartly (expected_of number (rules_of_claims goals)) proof x y Memory
-claimed_memory number goals i t proof x y so_far = record {
+pub claimed_memory : (run : ClaimRun) (i : ℕ) (t : Totals) (y : Told) → AreFirst run i t y → AreClaimedPartly (expected_of run.number (rules_of_claims run.goals)) run.proof run.before y Memory
+claimed_memory run i t y so_far = record {
   statements = so_far.statements;
   partly = record {
-    proved = claims_for number (take i goals);
-    open_claims = claims_for number (drop i goals);
-    parts = parts_at number goals i;
+    proved = claims_for run.number (take i run.goals);
+    open_claims = claims_for run.number (drop i run.goals);
+    parts = parts_at run.number run.goals i;
     each = so_far.each;
   };
-  appended = HasAppendedPart-memory proof (flat_map claim_text so_far.statements) x y so_far.appended;
+  appended = HasAppendedPart-memory run.proof (flat_map claim_text so_far.statements) run.before y so_far.appended;
 }
 
 -- the next claim was made, and not all of its lines were appended
-pub claimed_partly : (number : List ℕ) (goals : List (ClaimKind × AnyGoal)) (i : ℕ) (g : ClaimKind × AnyGoal) (t : Totals) (proof : List ℕ) (x y z : Told) (s : Statement) (stop : DeskError)
-    → i < length goals → g ≡ get_or goals i g → AreClaimed (expected_of number (rules_of_claims (take i goals))) t proof x y → Proves (record { number = number; kind = g.0; rule = any_rule g.1 }) s
-    → HasAppendedPart proof (claim_text s) y z stop → AreClaimedPartly (expected_of number (rules_of_claims goals)) proof x z stop
-claimed_partly number goals i g t proof x y z s stop below item so_far proves appended =
-    let next = take_more goals i g below ∙ ap (λ (e : ClaimKind × AnyGoal). take i goals ++ e ∷ []) (sym item) in
-    let claims = ap (claims_for number) next ∙ claims_for-append number (take i goals) (g ∷ []) in
-    let each = AllZip-push Proves (claims_for number (take i goals)) so_far.statements (record { number = number; kind = g.0; rule = any_rule g.1 }) s so_far.each proves in
+pub claimed_partly : (run : ClaimRun) (i : ℕ) (g : ClaimKind × AnyGoal) (s : Statement) (t : Totals) (y z : Told) (stop : DeskError) → IsNext run i g s → AreFirst run i t y
+    → HasAppendedPart run.proof (claim_text s) y z stop → AreClaimedPartly (expected_of run.number (rules_of_claims run.goals)) run.proof run.before z stop
+claimed_partly run i g s t y z stop next so_far appended =
+    let more = take_more run.goals i g next.below ∙ ap (λ (e : ClaimKind × AnyGoal). take i run.goals ++ e ∷ []) (sym next.is) in
+    let claims = ap (claims_for run.number) more ∙ claims_for-append run.number (take i run.goals) (g ∷ []) in
+    let each = AllZip-push Proves (claims_for run.number (take i run.goals)) so_far.statements (record { number = run.number; kind = g.0; rule = any_rule g.1 }) s so_far.each next.proves in
     record {
       statements = so_far.statements ++ s ∷ [];
       partly = record {
-        proved = claims_for number (take (i + 1) goals);
-        open_claims = claims_for number (drop (i + 1) goals);
-        parts = parts_at number goals (i + 1);
+        proved = claims_for run.number (take (i + 1) run.goals);
+        open_claims = claims_for run.number (drop (i + 1) run.goals);
+        parts = parts_at run.number run.goals (i + 1);
         each = subst (λ (l : List Expected). AllZip Proves l (so_far.statements ++ s ∷ [])) (sym claims) each;
       };
-      appended = subst (λ (text : List ℕ). HasAppendedPart proof text x z stop) (sym (texts-push so_far.statements s))
-          (HasAppendedPart-then proof (flat_map claim_text so_far.statements) (claim_text s) x y z stop so_far.appended appended);
+      appended = subst (λ (text : List ℕ). HasAppendedPart run.proof text run.before z stop) (sym (texts-push so_far.statements s))
+          (HasAppendedPart-then run.proof (flat_map claim_text so_far.statements) (claim_text s) run.before y z stop so_far.appended appended);
     }

@@ -1,5 +1,5 @@
 -- Entrants, one after the other.
-use Rattle.std.proofs.Common.{◌≡◌, ◌≢◌, ◌∙◌, sym, ap, subst, refl, ℕ, suc, ◌+◌, ◌<◌, ◌≤◌, ◌⊎◌, inl, inr, Bool, true, false, List, [], ◌∷◌, ◌++◌, length, take, drop, get_or, Option, None, Some, Result, Ok, Err, append_assoc, append-nil}
+use Rattle.std.proofs.Common.{◌≡◌, ◌≢◌, ◌∙◌, sym, ap, subst, refl, ℕ, suc, ◌+◌, ◌≤◌, ◌⊎◌, inl, inr, Bool, true, false, List, [], ◌∷◌, ◌++◌, length, take, drop, Option, None, Some, Result, Ok, Err, append_assoc, append-nil}
 use Rattle.std.specs.Prelude.{All, Contains, IfErr, IfOk, IsSome, MatchBool, nat_lt}
 use Rattle.std.specs.List.{AllZip, flat_map}
 use Rattle.std.proofs.Math.Seq.{take-length}
@@ -8,7 +8,7 @@ use Rattle.std.proofs.lemmas.List.Concat.{flat_map-append}
 use Rattle.std.proofs.lemmas.List.Elements.{All-append, All-nil, All-same}
 use Rattle.gl_airspace.specs.declared.volume.Airspace.{Airspace}
 use Rattle.gl_desk.specs.Answers.{OnlyReads}
-use Rattle.gl_desk.specs.Desk.{FilesByName, HasFile, IsSeenIn, ListsNames, Told, file_of}
+use Rattle.gl_desk.specs.Desk.{FilesByName, HasFile, IsSeenIn, ListsNames, Told, file_of, HaveFiles}
 use Rattle.gl_desk.specs.declared.error.DeskError.{DeskError}
 use Rattle.gl_desk.specs.declared.error.DeskError.TheVariants.{Memory}
 use Rattle.gl_igc.specs.declared.error.IgcError.{IgcError}
@@ -36,10 +36,11 @@ use Rattle.gl_files.specs.declared.day_files.DayFiles.{DayFiles}
 use Rattle.gl_files.proofs.DayTests.{not_listed}
 use Rattle.gl_answer.specs.Appending.{HasAppended, HasAppendedPart}
 use Rattle.gl_tally.specs.Asked.{AreAsked, AreAskedIn}
-use Rattle.gl_tally.specs.Code.Asked.{HaveFiles, IsEntrantSeen, IsSeenAmong}
+use Rattle.gl_tally.specs.Code.Asked.{IsEntrantSeen, IsSeenAmong}
 use Rattle.gl_tally.specs.Scored.{ArePartlyProved, IsBegun, IsScored, Scored, flights_of_all, statements_of_all, text_so_far}
-use Rattle.gl_tally.specs.Code.Scoring.{AreEntrantsScored, IsEntrantBegun, IsEntrantScored}
+use Rattle.gl_tally.specs.Code.Scoring.{IsEntrantBegun, IsEntrantScored}
 use Rattle.gl_tally.specs.Scoring.{IsDayDone, IsDayStopped}
+use Rattle.gl_tally.proofs.Runs.{AreDone, DayRun, EntrantRun, HasSeen, IsAt, entrants_of}
 use Rattle.gl_answer.proofs.Appended.{HasAppended-then, HasAppendedPart-memory, HasAppendedPart-then, reads-none, part_after}
 use Rattle.gl_text.proofs.Lists.{AllZip-append, AllZip-push, AllZip-length}
 use Rattle.gl_desk.proofs.DeskLemmas.{HasFile-from_names}
@@ -157,49 +158,49 @@ text-more front back =
     ap (λ (l : List ℕ). ended (HeadingLine Two) ++ l) (claim_texts-append front back) ∙ sym (append_assoc (ended (HeadingLine Two)) (flat_map claim_text front) (flat_map claim_text back))
 
 -- the heading was appended
-pub none_scored : (day : DayFiles) (stewards : List StewardRules) (proof heading : List ℕ) (x y : Told) → heading ≡ ended (HeadingLine Two) → HasAppended proof heading x y
-    → AreEntrantsScored day stewards [] proof x y []
-none_scored day stewards proof heading x y is appended = record {
+pub none_scored : (run : DayRun) (heading : List ℕ) (now : Told) → heading ≡ ended (HeadingLine Two) → HasAppended run.proof heading run.before now → AreDone run [] now []
+none_scored run heading now is appended = record {
   scored = [];
   each = tt;
   are = refl;
-  appended = subst (λ (text : List ℕ). HasAppended proof text x y) (is ∙ sym (append-nil (ended (HeadingLine Two)))) appended;
+  appended = subst (λ (text : List ℕ). HasAppended run.proof text run.before now) (is ∙ sym (append-nil (ended (HeadingLine Two)))) appended;
 }
 
-push_scored : (day : DayFiles) (stewards : List StewardRules) (entrants : List Entrant) (e : Entrant) (seen : Option (List ℕ)) (proof : List ℕ) (x y z : Told) (flights : List Flight) (flight : Flight)
-    → AreEntrantsScored day stewards entrants proof x y flights → IsSeenIn x.folder e.file seen → IsEntrantScored day stewards e seen proof y z flight
-    → AreEntrantsScored day stewards (entrants ++ e ∷ []) proof x z (flights ++ flight ∷ [])
-push_scored day stewards entrants e seen proof x y z flights flight so_far there is =
+push_scored : (run : DayRun) (entrants : List Entrant) (e : Entrant) (seen : Option (List ℕ)) (y z : Told) (flights : List Flight) (flight : Flight) → AreDone run entrants y flights
+    → IsSeenIn run.before.folder e.file seen → IsEntrantScored run.files run.stewards e seen run.proof y z flight → AreDone run (entrants ++ e ∷ []) z (flights ++ flight ∷ [])
+push_scored run entrants e seen y z flights flight so_far there is =
     let s : Scored = record { statements = is.statements; flight = flight } in
     record {
       scored = so_far.scored ++ s ∷ [];
-      each = AllZip-push (IsScored x.folder day stewards) entrants so_far.scored e s so_far.each (seen, there, is.is);
+      each = AllZip-push (IsScored run.before.folder run.files run.stewards) entrants so_far.scored e s so_far.each (seen, there, is.is);
       are = ap (λ (l : List Flight). l ++ flight ∷ []) so_far.are ∙ sym (map-append (λ (o : Scored). o.flight) so_far.scored (s ∷ []));
-      appended = subst (λ (text : List ℕ). HasAppended proof text x z)
+      appended = subst (λ (text : List ℕ). HasAppended run.proof text run.before z)
           (sym (text-more (statements_of_all so_far.scored) is.statements) ∙ ap text_so_far (sym (statements-push so_far.scored s)))
-          (HasAppended-then proof (text_so_far (statements_of_all so_far.scored)) (flat_map claim_text is.statements) x y z so_far.appended is.appended);
+          (HasAppended-then run.proof (text_so_far (statements_of_all so_far.scored)) (flat_map claim_text is.statements) run.before y z so_far.appended is.appended);
     }
 
+-- the entrants up to one are those before it and this one
+next_entrant : (run : DayRun) (i : ℕ) (e : Entrant) → IsAt run i e → take (i + 1) (entrants_of run) ≡ take i (entrants_of run) ++ e ∷ []
+next_entrant run i e here =
+    take_more (entrants_of run) i e here.below ∙ ap (λ (o : Entrant). take i (entrants_of run) ++ o ∷ []) (sym here.is)
+
 -- one entrant more is done
-pub entrants_more : (day : DayFiles) (stewards : List StewardRules) (names : List (List ℕ)) (i : ℕ) (e : Entrant) (seen : Option (List ℕ)) (proof : List ℕ) (x y z : Told) (flights : List Flight)
-    (flight : Flight) → i < length day.task.entrants → e ≡ get_or day.task.entrants i e → ListsNames x.folder names → (Contains names proof → ⊥)
-    → AreEntrantsScored day stewards (take i day.task.entrants) proof x y flights → IsSeenAmong names y.folder e.file seen → IsEntrantScored day stewards e seen proof y z flight
-    → AreEntrantsScored day stewards (take (i + 1) day.task.entrants) proof x z (flights ++ flight ∷ [])
-entrants_more day stewards names i e seen proof x y z flights flight below item lists new so_far there is =
-    let all = day.task.entrants in
-    let next = take_more all i e below ∙ ap (λ (o : Entrant). take i all ++ o ∷ []) (sym item) in
-    subst (λ (l : List Entrant). AreEntrantsScored day stewards l proof x z (flights ++ flight ∷ [])) (sym next)
-    (push_scored day stewards (take i all) e seen proof x y z flights flight so_far
-    (seen_before names proof (text_so_far (statements_of_all so_far.scored)) e.file seen x y lists new so_far.appended there) is)
+pub entrants_more : (run : DayRun) (i : ℕ) (e : Entrant) (seen : Option (List ℕ)) (y z : Told) (flights : List Flight) (flight : Flight) → IsAt run i e
+    → AreDone run (take i (entrants_of run)) y flights → IsSeenAmong run.names y.folder e.file seen → IsEntrantScored run.files run.stewards e seen run.proof y z flight
+    → AreDone run (take (i + 1) (entrants_of run)) z (flights ++ flight ∷ [])
+entrants_more run i e seen y z flights flight here so_far there is =
+    subst (λ (l : List Entrant). AreDone run l z (flights ++ flight ∷ [])) (sym (next_entrant run i e here))
+    (push_scored run (take i (entrants_of run)) e seen y z flights flight so_far
+    (seen_before run.names run.proof (text_so_far (statements_of_all so_far.scored)) e.file seen run.before y run.lists run.new so_far.appended there) is)
 
 -- all that is expected so far is proved
 whole : (expected : List Expected) (statements : List Statement) → AllZip Proves expected statements → ArePartlyProved expected statements
 whole expected statements each = record { proved = expected; open_claims = []; parts = sym (append-nil expected); each = each }
 
-begun_at : (day : DayFiles) (stewards : List StewardRules) (entrants others : List Entrant) (proof : List ℕ) (x y : Told) (flights : List Flight) → day.task.entrants ≡ entrants ++ others
-    → (so_far : AreEntrantsScored day stewards entrants proof x y flights) → IsBegun x.folder day (text_so_far (statements_of_all so_far.scored))
-begun_at day stewards entrants others proof x y flights are so_far =
-    let have = all_asked x.folder day stewards entrants so_far.scored so_far.each in
+begun_at : (run : DayRun) (entrants others : List Entrant) (now : Told) (flights : List Flight) → entrants_of run ≡ entrants ++ others
+    → (so_far : AreDone run entrants now flights) → IsBegun run.before.folder run.files (text_so_far (statements_of_all so_far.scored))
+begun_at run entrants others now flights are so_far =
+    let have = all_asked run.before.folder run.files run.stewards entrants so_far.scored so_far.each in
     let text = text_so_far (statements_of_all so_far.scored) in
     record {
       entrants = entrants;
@@ -233,26 +234,25 @@ heading_stopped day proof heading x y stop is part = record {
 }
 
 -- nothing more was appended
-pub entrants_stopped : (day : DayFiles) (stewards : List StewardRules) (i : ℕ) (proof : List ℕ) (x y z : Told) (flights : List Flight) (stop : DeskError)
-    → AreEntrantsScored day stewards (take i day.task.entrants) proof x y flights → HasAppendedPart proof [] y z stop → IsDayStopped day proof x z stop
-entrants_stopped day stewards i proof x y z flights stop so_far part =
+pub entrants_stopped : (run : DayRun) (i : ℕ) (y z : Told) (flights : List Flight) (stop : DeskError) → AreDone run (take i (entrants_of run)) y flights → HasAppendedPart run.proof [] y z stop
+    → IsDayStopped run.files run.proof run.before z stop
+entrants_stopped run i y z flights stop so_far part =
     let text = text_so_far (statements_of_all so_far.scored) in
     record {
       text = text;
-      begun = begun_at day stewards (take i day.task.entrants) (drop i day.task.entrants) proof x y flights (sym (take-append-drop i day.task.entrants)) so_far;
-      appended = subst (λ (l : List ℕ). HasAppendedPart proof l x z stop) (append-nil text)
-          (HasAppendedPart-then proof text [] x y z stop so_far.appended part);
+      begun = begun_at run (take i (entrants_of run)) (drop i (entrants_of run)) y flights (sym (take-append-drop i (entrants_of run))) so_far;
+      appended = subst (λ (l : List ℕ). HasAppendedPart run.proof l run.before z stop) (append-nil text)
+          (HasAppendedPart-then run.proof text [] run.before y z stop so_far.appended part);
     }
 
 -- memory was wanting
-pub entrants_memory : (day : DayFiles) (stewards : List StewardRules) (i : ℕ) (proof : List ℕ) (x y : Told) (flights : List Flight)
-    → AreEntrantsScored day stewards (take i day.task.entrants) proof x y flights → IsDayStopped day proof x y Memory
-entrants_memory day stewards i proof x y flights so_far =
+pub entrants_memory : (run : DayRun) (i : ℕ) (now : Told) (flights : List Flight) → AreDone run (take i (entrants_of run)) now flights → IsDayStopped run.files run.proof run.before now Memory
+entrants_memory run i now flights so_far =
     let text = text_so_far (statements_of_all so_far.scored) in
     record {
       text = text;
-      begun = begun_at day stewards (take i day.task.entrants) (drop i day.task.entrants) proof x y flights (sym (take-append-drop i day.task.entrants)) so_far;
-      appended = HasAppendedPart-memory proof text x y so_far.appended;
+      begun = begun_at run (take i (entrants_of run)) (drop i (entrants_of run)) now flights (sym (take-append-drop i (entrants_of run))) so_far;
+      appended = HasAppendedPart-memory run.proof text run.before now so_far.appended;
     }
 
 partly-append : (claims more : List Expected) (front back : List Statement) → AllZip Proves claims front → ArePartlyProved more back → ArePartlyProved (claims ++ more) (front ++ back)
@@ -264,16 +264,16 @@ partly-append claims more front back each partly = record {
 }
 
 -- the run was stopped at the claims of an entrant
-pub entrant_stopped : (day : DayFiles) (stewards : List StewardRules) (names : List (List ℕ)) (i : ℕ) (e : Entrant) (seen : Option (List ℕ)) (proof : List ℕ) (x y z : Told) (flights : List Flight)
-    (stop : DeskError) → i < length day.task.entrants → e ≡ get_or day.task.entrants i e → ListsNames x.folder names → (Contains names proof → ⊥)
-    → AreEntrantsScored day stewards (take i day.task.entrants) proof x y flights → IsSeenAmong names y.folder e.file seen → IsEntrantBegun day e seen proof y z stop → IsDayStopped day proof x z stop
-entrant_stopped day stewards names i e seen proof x y z flights stop below item lists new so_far there begun =
-    let all = day.task.entrants in
-    let next = take_more all i e below ∙ ap (λ (o : Entrant). take i all ++ o ∷ []) (sym item) in
+pub entrant_stopped : (run : DayRun) (i : ℕ) (e : Entrant) (seen : Option (List ℕ)) (y z : Told) (flights : List Flight) (stop : DeskError) → IsAt run i e
+    → AreDone run (take i (entrants_of run)) y flights → IsSeenAmong run.names y.folder e.file seen → IsEntrantBegun run.files e seen run.proof y z stop
+    → IsDayStopped run.files run.proof run.before z stop
+entrant_stopped run i e seen y z flights stop here so_far there begun =
+    let all = entrants_of run in
+    let folder = run.before.folder in
     let front = statements_of_all so_far.scored in
     let back = begun.partly.statements in
-    let have = all_asked x.folder day stewards (take i all) so_far.scored so_far.each in
-    let seen_in = seen_before names proof (text_so_far front) e.file seen x y lists new so_far.appended there in
+    let have = all_asked folder run.files run.stewards (take i all) so_far.scored so_far.each in
+    let seen_in = seen_before run.names run.proof (text_so_far front) e.file seen run.before y run.lists run.new so_far.appended there in
     let text = text_so_far (front ++ back) in
     record {
       text = text;
@@ -282,15 +282,15 @@ entrant_stopped day stewards names i e seen proof x y z flights stop below item 
         others = drop (i + 1) all;
         are = sym (take-append-drop (i + 1) all);
         expected = have.claims ++ begun.expected;
-        asked = subst (λ (l : List Entrant). AreAsked x.folder day.task day.airspace l (have.claims ++ begun.expected)) (sym next)
-            (asked-push x.folder day.task day.airspace (take i all) e have.claims begun.expected have.asked (seen, seen_in, begun.asked));
+        asked = subst (λ (l : List Entrant). AreAsked folder run.files.task run.files.airspace l (have.claims ++ begun.expected)) (sym (next_entrant run i e here))
+            (asked-push folder run.files.task run.files.airspace (take i all) e have.claims begun.expected have.asked (seen, seen_in, begun.asked));
         statements = front ++ back;
         partly = partly-append have.claims begun.expected front back have.each begun.partly.partly;
         count = length text;
         part = inl (sym (take-length text));
       };
-      appended = subst (λ (l : List ℕ). HasAppendedPart proof l x z stop) (sym (text-more front back))
-          (HasAppendedPart-then proof (text_so_far front) (flat_map claim_text back) x y z stop so_far.appended begun.partly.appended);
+      appended = subst (λ (l : List ℕ). HasAppendedPart run.proof l run.before z stop) (sym (text-more front back))
+          (HasAppendedPart-then run.proof (text_so_far front) (flat_map claim_text back) run.before y z stop so_far.appended begun.partly.appended);
     }
 
 -- the text of a proof is what is there so far, and its end
@@ -299,18 +299,18 @@ text-ended statements =
     proof_text-parts Two statements ∙ sym (append_assoc (ended (HeadingLine Two)) (flat_map claim_text statements) (ended EndLine))
 
 -- the end wasn't appended whole
-pub end_stopped : (day : DayFiles) (stewards : List StewardRules) (proof end : List ℕ) (x y z : Told) (flights : List Flight) (stop : DeskError) → end ≡ ended EndLine
-    → AreEntrantsScored day stewards day.task.entrants proof x y flights → HasAppendedPart proof end y z stop → IsDayStopped day proof x z stop
-end_stopped day stewards proof end x y z flights stop is so_far part =
+pub end_stopped : (run : DayRun) (end : List ℕ) (y z : Told) (flights : List Flight) (stop : DeskError) → end ≡ ended EndLine → AreDone run (entrants_of run) y flights
+    → HasAppendedPart run.proof end y z stop → IsDayStopped run.files run.proof run.before z stop
+end_stopped run end y z flights stop is so_far part =
     let statements = statements_of_all so_far.scored in
-    let have = all_asked x.folder day stewards day.task.entrants so_far.scored so_far.each in
+    let have = all_asked run.before.folder run.files run.stewards (entrants_of run) so_far.scored so_far.each in
     let text = proof_text Two statements in
     record {
       text = text;
       begun = record {
-        entrants = day.task.entrants;
+        entrants = entrants_of run;
         others = [];
-        are = sym (append-nil day.task.entrants);
+        are = sym (append-nil (entrants_of run));
         expected = have.claims;
         asked = have.asked;
         statements = statements;
@@ -318,21 +318,21 @@ end_stopped day stewards proof end x y z flights stop is so_far part =
         count = length text;
         part = inr (refl, have.each, sym (take-length text));
       };
-      appended = subst (λ (l : List ℕ). HasAppendedPart proof l x z stop) (ap (λ (l : List ℕ). text_so_far statements ++ l) is ∙ sym (text-ended statements))
-          (HasAppendedPart-then proof (text_so_far statements) end x y z stop so_far.appended part);
+      appended = subst (λ (l : List ℕ). HasAppendedPart run.proof l run.before z stop) (ap (λ (l : List ℕ). text_so_far statements ++ l) is ∙ sym (text-ended statements))
+          (HasAppendedPart-then run.proof (text_so_far statements) end run.before y z stop so_far.appended part);
     }
 
 -- the end was appended
-pub day_done : (day : DayFiles) (stewards : List StewardRules) (proof end sheet : List ℕ) (x y z : Told) (flights : List Flight) → end ≡ ended EndLine
-    → AreEntrantsScored day stewards day.task.entrants proof x y flights → IsSheetOf day.task flights sheet → HasAppended proof end y z → IsDayDone day stewards proof x z sheet
-day_done day stewards proof end sheet x y z flights is so_far said appended =
+pub day_done : (run : DayRun) (end sheet : List ℕ) (y z : Told) (flights : List Flight) → end ≡ ended EndLine → AreDone run (entrants_of run) y flights → IsSheetOf run.files.task flights sheet
+    → HasAppended run.proof end y z → IsDayDone run.files run.stewards run.proof run.before z sheet
+day_done run end sheet y z flights is so_far said appended =
     let statements = statements_of_all so_far.scored in
     record {
       scored = so_far.scored;
       each = so_far.each;
-      appended = subst (λ (l : List ℕ). HasAppended proof l x z) (ap (λ (l : List ℕ). text_so_far statements ++ l) is ∙ sym (text-ended statements))
-          (HasAppended-then proof (text_so_far statements) end x y z so_far.appended appended);
-      sheet_is = subst (λ (l : List Flight). IsSheetOf day.task l sheet) so_far.are said;
+      appended = subst (λ (l : List ℕ). HasAppended run.proof l run.before z) (ap (λ (l : List ℕ). text_so_far statements ++ l) is ∙ sym (text-ended statements))
+          (HasAppended-then run.proof (text_so_far statements) end run.before y z so_far.appended appended);
+      sheet_is = subst (λ (l : List Flight). IsSheetOf run.files.task l sheet) so_far.are said;
     }
 
 -- what is seen of the bytes of an entrant's file
@@ -374,10 +374,6 @@ seen_in : (folder : Option FilesByName) (names : List (List ℕ)) (file : List �
 seen_in folder names file None lists none = not_listed folder names file lists none
 seen_in folder names file (Some bytes) lists there = there.1
 
--- the names of a folder have their files
-pub lists_files : (folder : Option FilesByName) (names : List (List ℕ)) → ListsNames folder names → HaveFiles folder names
-lists_files folder names lists name has = HasFile-from_names folder names name lists has
-
 -- the claims that are asked for by a recording
 pub asked_recorded : (folder : Option FilesByName) (names : List (List ℕ)) (task : Task) (air : Airspace) (entrant : Entrant) (there : Option (List ℕ)) (seen : Seen) (recording : Recording)
     (list : List FlightClaim) → ListsNames folder names → IsSeenAmong names folder entrant.file there → IsEntrantSeen task entrant there seen → seen ≡ Recorded recording
@@ -405,66 +401,72 @@ asked_refused folder names task air entrant there (Recorded recording) flight li
 asked_refused folder names task air entrant there (Refused other) flight lists among is same =
     (there, seen_in folder names entrant.file there lists among, none_asked task air entrant there (flight_asked task air [] entrant there [] other (is air [])))
 
+-- a recording that was seen of the entrant's file, by its bytes
+seen_bytes : (run : EntrantRun) (other recording : Recording) (bytes : List ℕ) → Recorded other ≡ Recorded recording → IsSeen run.files.task run.entrant bytes (Recorded other)
+    → IsSeen run.files.task run.entrant bytes (Recorded recording)
+seen_bytes run other recording bytes same is =
+    subst (λ (s : Seen). IsSeen run.files.task run.entrant bytes s) same is
+
 -- an entrant with a recording is done, by what was seen of the file
-pub scored_seen : (names : List (List ℕ)) (folder : Option FilesByName) (day : DayFiles) (stewards : List StewardRules) (entrant : Entrant) (there : Option (List ℕ)) (seen : Seen)
-    (recording : Recording) (proof : List ℕ) (x y z : Told) (result : Result Flight DeskError) → IsSeenAmong names folder entrant.file there → IsEntrantSeen day.task entrant there seen
-    → seen ≡ Recorded recording → OnlyReads None x y → IfOk result (λ flight. (bytes : List ℕ) → IsSeen day.task entrant bytes (Recorded recording)
-    → IsEntrantScored day stewards entrant (Some bytes) proof y z flight)
-    → IfOk result (λ flight. (o : Option (List ℕ)) × IsSeenAmong names folder entrant.file o × IsEntrantScored day stewards entrant o proof x z flight)
-scored_seen names folder day stewards entrant there (Refused flight) recording proof x y z result among is same reads scored = absurd (cc)
-scored_seen names folder day stewards entrant there (Recorded other) recording proof x y z (Err stop) among is same reads scored = scored
-scored_seen names folder day stewards entrant there (Recorded other) recording proof x y z (Ok flight) among (bytes, some, is) same reads scored =
-    let e : other ≡ recording = cc in
-    let seen_is : IsSeen day.task entrant bytes (Recorded recording) = subst (λ (r : Recording). IsSeen day.task entrant bytes (Recorded r)) e is in
-    (Some bytes, subst (λ (o : Option (List ℕ)). IsSeenAmong names folder entrant.file o) some among, scored_after day stewards entrant (Some bytes) proof x y z flight reads (scored bytes seen_is))
+pub scored_seen : (run : EntrantRun) (seen : Seen) (recording : Recording) (y z : Told) (result : Result Flight DeskError) → HasSeen run seen y → seen ≡ Recorded recording
+    → IfOk result (λ flight. (bytes : List ℕ) → IsSeen run.files.task run.entrant bytes (Recorded recording) → IsEntrantScored run.files run.stewards run.entrant (Some bytes) run.proof y z flight)
+    → IfOk result (λ flight. (o : Option (List ℕ)) × IsSeenAmong run.names run.before.folder run.entrant.file o × IsEntrantScored run.files run.stewards run.entrant o run.proof run.before z flight)
+scored_seen run (Refused flight) recording y z result has same scored = absurd (cc)
+scored_seen run (Recorded other) recording y z (Err stop) has same scored = scored
+scored_seen run (Recorded other) recording y z (Ok flight) has same scored =
+    let bytes = has.is.0 in (
+      Some bytes,
+      subst (λ (o : Option (List ℕ)). IsSeenAmong run.names run.before.folder run.entrant.file o) has.is.1 has.among,
+      scored_after run.files run.stewards run.entrant (Some bytes) run.proof run.before y z flight has.reads (scored bytes (seen_bytes run other recording bytes same has.is.2)),
+    )
 
 -- the run was stopped at such an entrant
-pub begun_seen : (names : List (List ℕ)) (folder : Option FilesByName) (day : DayFiles) (entrant : Entrant) (there : Option (List ℕ)) (seen : Seen) (recording : Recording) (proof : List ℕ)
-    (x y z : Told) (result : Result Flight DeskError) → IsSeenAmong names folder entrant.file there → IsEntrantSeen day.task entrant there seen → seen ≡ Recorded recording → OnlyReads None x y
-    → IfErr result (λ stop. HasAppendedPart proof [] y z stop ⊎ ((bytes : List ℕ) → IsSeen day.task entrant bytes (Recorded recording) → IsEntrantBegun day entrant (Some bytes) proof y z stop))
-    → IfErr result (λ stop. HasAppendedPart proof [] x z stop ⊎ ((o : Option (List ℕ)) × IsSeenAmong names folder entrant.file o × IsEntrantBegun day entrant o proof x z stop))
-begun_seen names folder day entrant there (Refused flight) recording proof x y z result among is same reads begun = absurd (cc)
-begun_seen names folder day entrant there (Recorded other) recording proof x y z (Ok flight) among is same reads begun = begun
-begun_seen names folder day entrant there (Recorded other) recording proof x y z (Err stop) among (bytes, some, is) same reads (inl none) = inl (part_after proof [] x y z stop reads none)
-begun_seen names folder day entrant there (Recorded other) recording proof x y z (Err stop) among (bytes, some, is) same reads (inr begun) =
-    let e : other ≡ recording = cc in
-    let seen_is : IsSeen day.task entrant bytes (Recorded recording) = subst (λ (r : Recording). IsSeen day.task entrant bytes (Recorded r)) e is in
-    inr (Some bytes, subst (λ (o : Option (List ℕ)). IsSeenAmong names folder entrant.file o) some among, begun_after day entrant (Some bytes) proof x y z stop reads (begun bytes seen_is))
+pub begun_seen : (run : EntrantRun) (seen : Seen) (recording : Recording) (y z : Told) (result : Result Flight DeskError) → HasSeen run seen y → seen ≡ Recorded recording
+    → IfErr result (λ stop. HasAppendedPart run.proof [] y z stop ⊎ ((bytes : List ℕ) → IsSeen run.files.task run.entrant bytes (Recorded recording)
+    → IsEntrantBegun run.files run.entrant (Some bytes) run.proof y z stop))
+    → IfErr result (λ stop. HasAppendedPart run.proof [] run.before z stop ⊎ ((o : Option (List ℕ)) × IsSeenAmong run.names run.before.folder run.entrant.file o
+    × IsEntrantBegun run.files run.entrant o run.proof run.before z stop))
+begun_seen run (Refused flight) recording y z result has same begun = absurd (cc)
+begun_seen run (Recorded other) recording y z (Ok flight) has same begun = begun
+begun_seen run (Recorded other) recording y z (Err stop) has same (inl none) = inl (part_after run.proof [] run.before y z stop has.reads none)
+begun_seen run (Recorded other) recording y z (Err stop) has same (inr begun) =
+    let bytes = has.is.0 in
+    inr (
+      Some bytes,
+      subst (λ (o : Option (List ℕ)). IsSeenAmong run.names run.before.folder run.entrant.file o) has.is.1 has.among,
+      begun_after run.files run.entrant (Some bytes) run.proof run.before y z stop has.reads (begun bytes (seen_bytes run other recording bytes same has.is.2)),
+    )
 
 -- an entrant without a recording is done
-pub refused_seen : (names : List (List ℕ)) (folder : Option FilesByName) (day : DayFiles) (stewards : List StewardRules) (entrant : Entrant) (there : Option (List ℕ)) (seen : Seen) (flight : Flight)
-    (proof : List ℕ) (x y : Told) → IsSeenAmong names folder entrant.file there → IsEntrantSeen day.task entrant there seen → seen ≡ Refused flight → OnlyReads None x y
-    → (o : Option (List ℕ)) × IsSeenAmong names folder entrant.file o × IsEntrantScored day stewards entrant o proof x y flight
-refused_seen names folder day stewards entrant there (Recorded recording) flight proof x y among is same reads = absurd (cc)
-refused_seen names folder day stewards entrant there (Refused other) flight proof x y among is same reads =
+pub refused_seen : (run : EntrantRun) (seen : Seen) (flight : Flight) (now : Told) → HasSeen run seen now → seen ≡ Refused flight
+    → (o : Option (List ℕ)) × IsSeenAmong run.names run.before.folder run.entrant.file o × IsEntrantScored run.files run.stewards run.entrant o run.proof run.before now flight
+refused_seen run (Recorded recording) flight now has same = absurd (cc)
+refused_seen run (Refused other) flight now has same =
     let e : other ≡ flight = cc in (
-      there,
-      among,
+      has.there,
+      has.among,
       record {
         statements = [];
-        is = subst (IsFlight day.task day.airspace stewards entrant there []) e (is day.airspace stewards);
-        appended = reads-none proof x y reads;
+        is = subst (IsFlight run.files.task run.files.airspace run.stewards run.entrant has.there []) e (has.is run.files.airspace run.stewards);
+        appended = reads-none run.proof run.before now has.reads;
       },
     )
 
 -- the run was stopped at an entrant, one way or the other
-pub stopped_either : (day : DayFiles) (stewards : List StewardRules) (names : List (List ℕ)) (i : ℕ) (e : Entrant) (proof : List ℕ) (x y z : Told) (flights : List Flight) (stop : DeskError)
-    → i < length day.task.entrants → e ≡ get_or day.task.entrants i e → ListsNames x.folder names → (Contains names proof → ⊥)
-    → AreEntrantsScored day stewards (take i day.task.entrants) proof x y flights
-    → HasAppendedPart proof [] y z stop ⊎ ((seen : Option (List ℕ)) × IsSeenAmong names y.folder e.file seen × IsEntrantBegun day e seen proof y z stop) → IsDayStopped day proof x z stop
-stopped_either day stewards names i e proof x y z flights stop below item lists new so_far (inl none) = entrants_stopped day stewards i proof x y z flights stop so_far none
-stopped_either day stewards names i e proof x y z flights stop below item lists new so_far (inr (seen, there, begun)) =
-    entrant_stopped day stewards names i e seen proof x y z flights stop below item lists new so_far there begun
+pub stopped_either : (run : DayRun) (i : ℕ) (e : Entrant) (y z : Told) (flights : List Flight) (stop : DeskError) → IsAt run i e → AreDone run (take i (entrants_of run)) y flights
+    → HasAppendedPart run.proof [] y z stop ⊎ ((seen : Option (List ℕ)) × IsSeenAmong run.names y.folder e.file seen × IsEntrantBegun run.files e seen run.proof y z stop)
+    → IsDayStopped run.files run.proof run.before z stop
+stopped_either run i e y z flights stop here so_far (inl none) = entrants_stopped run i y z flights stop so_far none
+stopped_either run i e y z flights stop here so_far (inr (seen, there, begun)) = entrant_stopped run i e seen y z flights stop here so_far there begun
 
 -- memory was wanting behind all entrants
-pub day_memory : (day : DayFiles) (stewards : List StewardRules) (proof : List ℕ) (x y : Told) (flights : List Flight) → AreEntrantsScored day stewards day.task.entrants proof x y flights
-    → IsDayStopped day proof x y Memory
-day_memory day stewards proof x y flights so_far =
+pub day_memory : (run : DayRun) (now : Told) (flights : List Flight) → AreDone run (entrants_of run) now flights → IsDayStopped run.files run.proof run.before now Memory
+day_memory run now flights so_far =
     let text = text_so_far (statements_of_all so_far.scored) in
     record {
       text = text;
-      begun = begun_at day stewards day.task.entrants [] proof x y flights (sym (append-nil day.task.entrants)) so_far;
-      appended = HasAppendedPart-memory proof text x y so_far.appended;
+      begun = begun_at run (entrants_of run) [] now flights (sym (append-nil (entrants_of run))) so_far;
+      appended = HasAppendedPart-memory run.proof text run.before now so_far.appended;
     }
 
 pub length-flights : (scored : List Scored) → length (flights_of_all scored) ≡ length scored
@@ -472,16 +474,15 @@ length-flights [] = refl
 length-flights (s ∷ scored) = ap suc (length-flights scored)
 
 -- there is a flight for each entrant
-pub flights_count : (day : DayFiles) (stewards : List StewardRules) (entrants : List Entrant) (proof : List ℕ) (x y : Told) (flights : List Flight)
-    → AreEntrantsScored day stewards entrants proof x y flights → length flights ≡ length entrants
-flights_count day stewards entrants proof x y flights so_far =
-    ap length so_far.are ∙ length-flights so_far.scored ∙ sym (AllZip-length (IsScored x.folder day stewards) entrants so_far.scored so_far.each)
+pub flights_count : (run : DayRun) (entrants : List Entrant) (now : Told) (flights : List Flight) → AreDone run entrants now flights → length flights ≡ length entrants
+flights_count run entrants now flights so_far =
+    ap length so_far.are ∙ length-flights so_far.scored ∙ sym (AllZip-length (IsScored run.before.folder run.files run.stewards) entrants so_far.scored so_far.each)
 
 -- no entrant is left
-pub entrants_all : (day : DayFiles) (stewards : List StewardRules) (i : ℕ) (proof : List ℕ) (x y : Told) (flights : List Flight) → length day.task.entrants ≤ i
-    → AreEntrantsScored day stewards (take i day.task.entrants) proof x y flights → AreEntrantsScored day stewards day.task.entrants proof x y flights
-entrants_all day stewards i proof x y flights last so_far =
-    subst (λ (l : List Entrant). AreEntrantsScored day stewards l proof x y flights) (take_all i day.task.entrants last) so_far
+pub entrants_all : (run : DayRun) (i : ℕ) (now : Told) (flights : List Flight) → length (entrants_of run) ≤ i → AreDone run (take i (entrants_of run)) now flights
+    → AreDone run (entrants_of run) now flights
+entrants_all run i now flights last so_far =
+    subst (λ (l : List Entrant). AreDone run l now flights) (take_all i (entrants_of run) last) so_far
 
 -- the claims of a flight have a text
 no_texts : (statements : List Statement) → statements ≡ [] → All IsStatement statements

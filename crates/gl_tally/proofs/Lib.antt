@@ -5,3 +5,4 @@ pub mod DayAccepted
 pub mod Flights
 pub mod OneFlight
 pub mod Pieces
+pub mod Runs

@@ -1,15 +1,15 @@
 ghost use Rattle.std.specs.Prelude.{◌≡◌, ◌⊎◌, ℕ, List, [], Option, Some, Contains, IfErr, IfOk, IsTrue, OnOk, length, map};
 ghost use Rattle.std.specs.List.{flat_map};
-ghost use Rattle.gl_desk.specs.Desk.{ListsNames};
+ghost use Rattle.gl_desk.specs.Desk.{ListsNames, HaveFiles};
 ghost use Rattle.gl_box.specs.Closed.{box_of};
 ghost use Rattle.gl_proof.specs.Claim.{box_line, claim_text, front_text, spelled, statement_of};
-ghost use Rattle.gl_proof.specs.Number.{is_number};
+ghost use Rattle.gl_text.specs.Forms.{is_number};
 ghost use Rattle.gl_day.specs.declared.flight.Seen.TheVariants.{Recorded};
 ghost use Rattle.gl_day.specs.Expected.{expected_of};
 ghost use Rattle.gl_judge.specs.Claimed.{rules_of_claims};
 ghost use Rattle.gl_day.specs.Flight.{IsSeen, steward_rules};
 ghost use Rattle.gl_answer.specs.Appending.{HasAppended, HasAppendedPart};
-ghost use Rattle.gl_tally.specs.Code.Asked.{HaveFiles, IsSeenAmong};
+ghost use Rattle.gl_tally.specs.Code.Asked.{IsSeenAmong};
 ghost use Rattle.gl_tally.specs.Code.Scoring.{AreClaimed, AreClaimedPartly, AreEntrantsScored, IsEntrantBegun, IsEntrantScored};
 ghost use Rattle.gl_tally.specs.Scoring.{IsDayDone, IsDayStopped};
 

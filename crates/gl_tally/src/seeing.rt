@@ -1,6 +1,7 @@
 ghost use Rattle.std.specs.Prelude.{ℕ, List, Option, IfOk};
 ghost use Rattle.gl_desk.specs.Answers.{OnlyReads, stop_of};
-ghost use Rattle.gl_tally.specs.Code.Asked.{HaveFiles, IsEntrantSeen, IsSeenAmong};
+ghost use Rattle.gl_desk.specs.Desk.{HaveFiles};
+ghost use Rattle.gl_tally.specs.Code.Asked.{IsEntrantSeen, IsSeenAmong};
 
 use gl_day::{Seen, absent_flight, large_flight, read_flight};
 use gl_desk::{Desk, DeskError, Name, ReadError};

@@ -1,4 +1,3 @@
-pub mod Forms
 pub mod Limits
 pub mod Numbers
 pub mod Ranges

@@ -41,10 +41,6 @@ greatest_handicap = 2_000
 abbrev pub most_zones : ℕ
 most_zones = 8
 
--- the most lists that a task asks for
-abbrev pub most_lists : ℕ
-most_lists = 2
-
 -- the most entrants
 abbrev pub most_entrants : ℕ
 most_entrants = 200

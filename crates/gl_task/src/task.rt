@@ -1,15 +1,15 @@
 ghost use Rattle.std.specs.Prelude.{◌≡◌, ◌≤◌, ◌≤ℤ◌, pos, IsTrue, length, map};
 ghost use Rattle.std.specs.List.{list_all};
 ghost use Rattle.std.specs.Option.{ForSome};
-ghost use Rattle.gl_task.specs.Forms.{is_file_name, is_number, is_name};
+ghost use Rattle.gl_text.specs.Forms.{is_file_name, is_number, is_name};
 ghost use Rattle.gl_task.specs.Limits.{first_day, greatest_altitude, greatest_handicap, greatest_noise, last_day, last_second, longest_wait, most_entrants, most_points, most_zones, widest_window};
-ghost use Rattle.gl_task.specs.Numbers.{all_differ};
+ghost use Rattle.gl_task.specs.Numbers.{none_repeats};
 ghost use Rattle.gl_task.specs.Ranges.{has_minimum, has_width_and_way, is_in_range, is_round_its_centre};
 ghost use Rattle.gl_zone.specs.Limits.{greatest_length};
 
 use crate::day_type::{Finish, Kind};
 use gl_desk::Name;
-use gl_igc::Items;
+use gl_text::Items;
 use gl_zone::{Line, Zone};
 
 /// A pilot event start: the pilot announces the start by an event, waits, and then has a window to
@@ -112,5 +112,5 @@ pub struct Task {
     pub ghost finish_in_range: { IsTrue (is_in_range finish) },
     pub ghost some_entrant: { 1 ≤ length entrants },
     pub ghost at_most_200_entrants: { length entrants ≤ most_entrants },
-    pub ghost numbers_differ: { IsTrue (all_differ (map (λ entrant. entrant.number) entrants)) },
+    pub ghost numbers_differ: { IsTrue (none_repeats (map (λ entrant. entrant.number) entrants)) },
 }

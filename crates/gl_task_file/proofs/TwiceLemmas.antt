@@ -3,7 +3,7 @@ use Rattle.std.proofs.Common.{◌≡◌, ◌∙◌, sym, ap, ℕ, ◌+◌, ◌<�
 use Rattle.std.proofs.lemmas.List.{take_more, drop_more}
 use Rattle.std.specs.List.{list_any}
 use Rattle.gl_task.specs.declared.task.Entrant.{Entrant}
-use Rattle.gl_task.specs.Forms.{is_text}
+use Rattle.gl_text.specs.Forms.{is_text}
 use Rattle.gl_task.specs.Numbers.{repeated_after}
 use Rattle.gl_task_file.proofs.ListLemmas.{any_map}
 

@@ -6,7 +6,3 @@ pub mod Reading
 pub mod Tests
 pub mod Twice
 pub mod Values
-pub use Rattle.gl_igc.specs.Dates
-pub use Rattle.gl_sphere.specs.Place
-pub use Rattle.gl_sphere.specs.PlaceText
-pub use Rattle.gl_text.specs.Digits

@@ -5,7 +5,7 @@ use Rattle.std.specs.Str.{byte}
 use Rattle.gl_igc.specs.Dates.{day_number}
 use Rattle.gl_text.specs.Digits.{◌>>=◌, columns, number_of}
 use Rattle.toml.specs.Data.{Data, integer, as_str}
-use Rattle.gl_task.specs.Forms.{is_text, is_file_name, is_number, is_name}
+use Rattle.gl_text.specs.Forms.{is_text, is_file_name, is_number, is_name}
 
 -- a whole number from the first limit to the second
 abbrev pub whole : ℕ → ℕ → Data → Option ℕ

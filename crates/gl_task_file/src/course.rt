@@ -3,8 +3,8 @@ ghost use Rattle.std.specs.List.{list_all};
 ghost use Rattle.gl_task.specs.Limits.{most_zones};
 ghost use Rattle.gl_task.specs.Ranges.{is_in_range, is_round_its_centre};
 
-use gl_igc::Items;
 use gl_task::{Finish, Start};
+use gl_text::Items;
 use gl_zone::Zone;
 
 /// The way of a task.

@@ -2,7 +2,7 @@ ghost use Rattle.std.specs.Prelude.{◌≡◌, ◌≢◌, ◌≤◌, ◌≤ℤ�
 ghost use Rattle.std.specs.Option.{ForSome};
 ghost use Rattle.toml.specs.View.{table_view};
 ghost use Rattle.gl_task_file.specs.declared.error.TaskError.TheVariants.{Memory};
-ghost use Rattle.gl_task.specs.Forms.{is_file_name};
+ghost use Rattle.gl_text.specs.Forms.{is_file_name};
 ghost use Rattle.gl_task_file.specs.Keys.{first_failed, key_of, optional, said};
 ghost use Rattle.gl_task_file.specs.Meaning.{IsKind};
 ghost use Rattle.gl_task.specs.Ranges.{has_minimum};

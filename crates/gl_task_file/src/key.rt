@@ -3,7 +3,7 @@ ghost use Rattle.std.specs.Option.{ForSome};
 ghost use Rattle.toml.specs.Data.{get_member, as_table};
 ghost use Rattle.toml.specs.View.{view, table_view};
 ghost use Rattle.gl_task_file.specs.declared.error.TaskError.TheVariants.{Missing};
-ghost use Rattle.gl_task.specs.Forms.{is_file_name, is_name, is_number};
+ghost use Rattle.gl_text.specs.Forms.{is_file_name, is_name, is_number};
 ghost use Rattle.gl_task_file.specs.Keys.{needed, optional, right_value, said, list_of, key_of, some_item, at_most};
 ghost use Rattle.gl_task.specs.Limits.{first_day, last_day};
 ghost use Rattle.gl_task_file.specs.Places.{is_same_point, place, place_away_from};

@@ -7,7 +7,6 @@ mod day;
 mod entrants;
 mod error;
 mod finish;
-mod form;
 mod head;
 mod item;
 mod key;
@@ -25,5 +24,4 @@ mod word;
 mod zones;
 
 pub use error::{Key, TaskError};
-pub use form::{is_file_name, is_name, is_number};
 pub use reader::read_task;

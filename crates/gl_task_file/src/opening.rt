@@ -1,6 +1,6 @@
 ghost use Rattle.std.specs.Prelude.{◌≤ℤ◌, pos, IsTrue};
 ghost use Rattle.std.specs.Option.{ForSome};
-ghost use Rattle.gl_task.specs.Forms.{is_file_name};
+ghost use Rattle.gl_text.specs.Forms.{is_file_name};
 ghost use Rattle.gl_task.specs.Limits.{first_day, last_day, last_second};
 ghost use Rattle.gl_task.specs.Ranges.{has_minimum};
 

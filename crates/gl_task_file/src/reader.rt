@@ -8,8 +8,8 @@ ghost use Rattle.gl_task_file.specs.Tests.{tests};
 
 use crate::error::TaskError;
 use crate::sections::{read_people, read_plan};
-use gl_igc::Items;
 use gl_task::Task;
+use gl_text::Items;
 use std::alloc::Global;
 use toml::Table;
 

@@ -4,7 +4,7 @@ ghost use Rattle.toml.specs.View.{table_view};
 ghost use Rattle.gl_task_file.specs.declared.error.TaskError.TheVariants.{Memory};
 ghost use Rattle.gl_task_file.specs.Keys.{first_failed, list_at};
 ghost use Rattle.gl_task_file.specs.Meaning.{Each, IsEntrant, IsFinish, IsRules, IsZone};
-ghost use Rattle.gl_task.specs.Numbers.{all_differ};
+ghost use Rattle.gl_task.specs.Numbers.{none_repeats};
 ghost use Rattle.gl_task.specs.Ranges.{is_in_range, is_round_its_centre};
 ghost use Rattle.gl_task_file.specs.Code.Sections.{IsCourse, IsDay, IsHead};
 ghost use Rattle.gl_task_file.specs.Tests.{course_tests, day_tests, head_tests, numbered_tests, people_tests, plan_tests, way_tests};
@@ -22,8 +22,8 @@ use crate::rules::read_rules;
 use crate::start::read_start;
 use crate::twice::test_numbers;
 use crate::zones::read_zones;
-use gl_igc::Items;
 use gl_task::{Entrant, Finish, LocalRules};
+use gl_text::Items;
 use gl_zone::Zone;
 use std::alloc::Global;
 use toml::Table;
@@ -121,7 +121,7 @@ fn read_numbered(alloc: Global, file: &Table) -> Result<Vec<Entrant>, TaskError>
     ensures some { IfOk result (λ entrants. 1 ≤ vec_len entrants) }
     ensures few { IfOk result (λ entrants. vec_len entrants ≤ 200) }
     ensures differ { IfOk result (λ entrants.
-        IsTrue (all_differ (map (λ entrant. entrant.number) entrants.items))) }
+        IsTrue (none_repeats (map (λ entrant. entrant.number) entrants.items))) }
     ensures passes { IfOk result
         (λ entrants. first_failed (numbered_tests (table_view file.now)) ≡ None) }
     ensures refused { IfErr result (λ e. e ≢ Memory
@@ -141,7 +141,7 @@ pub fn read_people(alloc: Global, file: &Table) -> Result<(LocalRules, Vec<Entra
     ensures some { IfOk result (λ people. 1 ≤ vec_len people.1) }
     ensures few { IfOk result (λ people. vec_len people.1 ≤ 200) }
     ensures differ { IfOk result (λ people.
-        IsTrue (all_differ (map (λ entrant. entrant.number) people.1.items))) }
+        IsTrue (none_repeats (map (λ entrant. entrant.number) people.1.items))) }
     ensures passes { IfOk result
         (λ people. first_failed (people_tests (table_view file.now)) ≡ None) }
     ensures refused { IfErr result (λ e. e ≢ Memory

@@ -1,6 +1,6 @@
 ghost use Rattle.std.specs.Prelude.{◌≡◌, ◌≤◌, None, Some, length, map, option_map, OnOk, IfErr};
 ghost use Rattle.std.specs.List.{list_any};
-ghost use Rattle.gl_task.specs.Forms.{is_text};
+ghost use Rattle.gl_text.specs.Forms.{is_text};
 ghost use Rattle.gl_task.specs.Numbers.{first_repeated};
 ghost use Rattle.gl_task_file.specs.Twice.{twice_at};
 

@@ -4,13 +4,13 @@ ghost use Rattle.std.specs.Ordering.{int_eq};
 ghost use Rattle.toml.specs.Data.{as_table};
 ghost use Rattle.toml.specs.View.{view, table_view};
 ghost use Rattle.gl_task_file.specs.Keys.{list_of};
-ghost use Rattle.gl_task.specs.Forms.{is_file_name, is_name, is_number};
+ghost use Rattle.gl_text.specs.Forms.{is_file_name, is_name, is_number};
 ghost use Rattle.gl_task_file.specs.Places.{grid_of_text, is_same_point, other_point, place, place_away_from};
 ghost use Rattle.gl_task.specs.SamePoint.{is_same_vector};
 ghost use Rattle.gl_task_file.specs.Values.{whole, text_in_form, file_name, number, name};
 
-use crate::form::{is_file_name, is_name, is_number};
 use gl_sphere::{Grid, Vec3, read_place, vector};
+use gl_text::{is_file_name, is_name, is_number};
 use toml::{Table, Value};
 
 /// The whole number of a value, where it is from `low` to `high`.

@@ -1,7 +1,7 @@
 -- The first line of what is left of a text.
-use Rattle.std.proofs.Common.{◌≡◌, ◌≢◌, ℕ, suc, ◌+◌, ◌-◌, ◌<◌, ◌≤◌, Bool, false, cond, eqb, List, [], ◌∷◌, ◌++◌, map, length, get_or, take, drop, slice_range, sym, refl, ap, ◌∙◌, arith, inl, inr, take-append-drop, drop-drop, length-take, length-drop, get_or-drop, get_or-take, take-take, eq-eqb, subst, append_assoc}
+use Rattle.std.proofs.Common.{◌≡◌, ◌≢◌, ℕ, suc, ◌+◌, ◌-◌, ◌<◌, ◌≤◌, false, eqb, List, [], ◌∷◌, ◌++◌, map, length, get_or, drop, slice_range, sym, refl, ap, ◌∙◌, arith, inl, inr, take-append-drop, drop-drop, length-take, get_or-drop, get_or-take, subst, append_assoc}
 use Rattle.std.specs.Str.Lines.{strip_carriage_return}
-use Rattle.std.proofs.lemmas.List.{drop_more, drop_all, take_rest, nil_from_length}
+use Rattle.std.proofs.lemmas.List.{drop_more, drop_all, take_rest}
 use Rattle.std.proofs.lemmas.Bool.Decides.{nat_tests}
 use Rattle.std.proofs.lemmas.Bool.{cases_lt}
 use Rattle.gl_text.specs.Lines.{pieces_of, lines_of}
@@ -74,42 +74,6 @@ pieces_of-drop text at end next h n more =
           let none : drop next text ≡ [] = drop_all next text (omega (arith, n.last over)) in
           rw (none, ← e) (pieces_of-drop_last text at (rw e h) more)
     ]
-
-strip_yes : (l : List ℕ) → get_or l (length l - 1) 0 ≡ 13 → strip_carriage_return l ≡ take (length l - 1) l
-strip_yes l e = ap (λ (b : Bool). cond b (take (length l - 1) l) l) (eq-eqb _ _ e)
-
-strip_no : (l : List ℕ) → get_or l (length l - 1) 0 ≢ 13 → strip_carriage_return l ≡ l
-strip_no l apart =
-    let other : eqb (get_or l (length l - 1) 0) 13 ≡ false = grind (arith, nat_tests) in
-    ap (λ (b : Bool). cond b (take (length l - 1) l) l) other
-
-length_between : (text : List ℕ) (at end : ℕ) → at ≤ end → end ≤ length text → length (slice_range text at end) ≡ end - at
-length_between text at end after within =
-    omega (arith, length-take (end - at) (drop at text), length-drop at text)
-
-last_between : (text : List ℕ) (at end : ℕ) → at < end → end ≤ length text → get_or (slice_range text at end) (length (slice_range text at end) - 1) 0 ≡ get_or text (end - 1) 0
-last_between text at end some within =
-    let count = length_between text at end (omega arith) within in
-    let place : at + (end - at - 1) ≡ end - 1 = omega arith in
-    let below : end - at - 1 < end - at = omega arith in
-    rw (count, get_or-take, get_or-drop, place)
-
-pub strip_return : (text : List ℕ) (at end : ℕ) → end ≤ length text → at < end → get_or text (end - 1) 0 ≡ 13 → strip_carriage_return (slice_range text at end) ≡ slice_range text at (end - 1)
-strip_return text at end within some return =
-    let l = slice_range text at end in
-    let count = length_between text at end (omega (arith, some)) within in
-    let short : length l - 1 ≡ end - 1 - at = omega arith in
-    strip_yes l (last_between text at end some within ∙ return) ∙ ap (λ (k : ℕ). take k l) short ∙ take-take (end - 1 - at) (end - at) (drop at text) (omega arith)
-
-pub strip_nothing : (text : List ℕ) (at end : ℕ) → at ≤ end → end ≤ length text → (at < end → get_or text (end - 1) 0 ≢ 13) → strip_carriage_return (slice_range text at end) ≡ slice_range text at end
-strip_nothing text at end after within other =
-    let l = slice_range text at end in
-    strip_no l (elim (cases_lt at end) [
-      | inl some ↦ λ e. other some (sym (last_between text at end some within) ∙ e)
-      | inr none ↦
-          let empty : l ≡ [] = nil_from_length l (length_between text at end after within ∙ omega arith) in
-          λ e. absurd (omega (arith, sym (ap (λ (xs : List ℕ). get_or xs (length xs - 1) 0) empty) ∙ e))
-    ])
 
 -- the line of a text, and those behind it
 pub next_of_lines : (text : List ℕ) (at end next to : ℕ) → IsEnd text at end → IsNext text end next → at < length text → strip_carriage_return (slice_range text at end) ≡ slice_range text at to

@@ -43,7 +43,8 @@ pub fn read_u64(text: &[u8]) -> Option<u64>
 }
 
 /// Writes the digits of `n` so that they end before the place `end`, and answers where they begin.
-fn write_digits(buffer: &mut [u8], end: usize, n: u64) -> usize
+#[inline]
+pub fn write_digits(buffer: &mut [u8], end: usize, n: u64) -> usize
     requires room { length (decimal n) ≤ end }
     requires within { end ≤ length buffer.old }
     ensures start { result + length (decimal n) ≡ end }

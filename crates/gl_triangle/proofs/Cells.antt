@@ -10,7 +10,7 @@ use Rattle.gl_igc.specs.declared.fix.Fix.{Fix}
 use Rattle.gl_box.proofs.Held.{holds_at}
 use Rattle.gl_hull.specs.Box.{IsInside}
 use Rattle.gl_goal.specs.declared.triangle.TriangleGoal.{TriangleGoal}
-use Rattle.gl_goal.specs.Chain.{distance}
+use Rattle.gl_sphere.specs.Distance.{distance}
 use Rattle.gl_goal.specs.Free.{numbers_between}
 use Rattle.gl_goal.specs.Goal.{IsLegal, IsTuple, value, whole_cell}
 use Rattle.gl_goal.specs.Triangle.{closes, triangle_goal}

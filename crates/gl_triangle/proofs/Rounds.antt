@@ -6,10 +6,10 @@ use Rattle.std.proofs.lemmas.Bool.{cases_lt, ltb-true, and_parts}
 use Rattle.std.proofs.lemmas.Int.{ints}
 use Rattle.std.proofs.lemmas.Option.{slice_get-get_or}
 use Rattle.gl_sphere.specs.declared.place.Vec3.{Vec3}
-use Rattle.gl_sphere.specs.Distance.{squared_chord, squared_gap, written_distance}
+use Rattle.gl_sphere.specs.Distance.{squared_chord, squared_gap, written_distance, distance}
 use Rattle.gl_igc.specs.declared.fix.Fix.{Fix}
 use Rattle.gl_goal.specs.declared.triangle.TriangleGoal.{TriangleGoal}
-use Rattle.gl_goal.specs.Chain.{distance, fixes_at, points_of}
+use Rattle.gl_goal.specs.Chain.{fixes_at, points_of}
 use Rattle.gl_goal.specs.Fair.{is_fair}
 use Rattle.gl_goal.specs.Free.{numbers_between}
 use Rattle.gl_goal.specs.Goal.{IsLegal, chosen, value}

@@ -4,23 +4,6 @@ ghost use Rattle.gl_box.specs.Halves.{AreHalves, IsSingle, IsWidest};
 
 use gl_box::{Cell, Span};
 
-/// The axis with the widest span, the lowest one among equally wide spans.
-#[inline]
-pub(crate) fn widest(cell: &Cell) -> usize
-    ensures { IsWidest (spans_of cell.now) result }
-{
-    let mut widest = 0;
-    let mut most = cell.spans[0].width();
-    for axis in 1..cell.axes as usize {
-        let width = cell.spans[axis].width();
-        if width > most {
-            widest = axis;
-            most = width;
-        }
-    }
-    widest
-}
-
 /// Cuts a cell in the middle of its widest span, which is that of an axis: the cell becomes its
 /// lower half, and the upper half is handed out. `None` where the cell holds a single tuple.
 #[inline]

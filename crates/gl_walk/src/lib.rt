@@ -11,4 +11,4 @@ mod walk;
 pub use boxed::Boxed;
 pub use lists::{Boxes, all_boxes};
 pub use passage::{WalkEnd, Walked, number_of, walk_along};
-pub use walk::{go_along, go_down};
+pub use walk::go_down;

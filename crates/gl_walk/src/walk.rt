@@ -3,8 +3,8 @@ ghost use Rattle.gl_box.specs.Cell.{spans_of};
 ghost use Rattle.gl_box.specs.Halves.{span_at};
 ghost use Rattle.gl_walk.specs.Walk.{AreFrontiers, open_cells};
 
-use crate::cut::{halve_at, widest};
-use gl_box::{Cell, Closed};
+use crate::cut::halve_at;
+use gl_box::{Cell, Closed, widest};
 use std::alloc::AllocError;
 
 /// Room for open cells: each cut adds one, and a cell can be cut at most 32 times on each axis.

@@ -5,8 +5,10 @@ use Rattle.std.specs.Cmp.{first_so, second_so}
 use Rattle.std.specs.Str.Parse.{digits_value}
 use Rattle.std.specs.Option.{option_or}
 use Rattle.gl_sphere.specs.PlaceText.{place_of_text}
-use Rattle.gl_words.specs.Words.{Badge, BadgeCheck, BadgeWords, Check, Command, DayNames, Demo, Free, Near, NearCheck, NearWords, Point, Replay, ReplayWords, Score, Series, SeriesWords, Triangle, badge_form, check_form, command_of, day_names, demo_form, file_form, is_file_name, is_text, is_worker_count, near_form, near_words, number_within, point_form, replay_form, replay_words, score_form, series_form, series_words}
-use Rattle.gl_words.proofs.Unbroken.{HasUnbrokenBadge, AreUnbroken, HasUnbrokenNear, HasUnbrokenFiles, is_unbroken, is_unbroken-file}
+use Rattle.gl_text.specs.Forms.{is_file_name, is_text}
+use Rattle.gl_words.specs.Words.{Badge, BadgeCheck, BadgeWords, Check, Command, DayNames, Demo, Free, Near, NearCheck, NearWords, Point, Replay, ReplayWords, Score, Series, SeriesWords, Triangle, badge_form, check_form, command_of, day_names, demo_form, file_form, is_worker_count, near_form, near_words, number_within, point_form, replay_form, replay_words, score_form, series_form, series_words}
+use Rattle.gl_text.proofs.Forms.{is_unbroken, is_unbroken-file}
+use Rattle.gl_words.proofs.Unbroken.{HasUnbrokenBadge, AreUnbroken, HasUnbrokenNear, HasUnbrokenFiles}
 
 -- the files of a command have such names
 abbrev pub HasUnbrokenNames : Option Command → Type 0

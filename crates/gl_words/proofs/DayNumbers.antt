@@ -1,22 +1,17 @@
 -- The number that a word writes.
-use Rattle.std.proofs.Common.{◌≡◌, ◌≢◌, ◌∙◌, sym, ap, refl, ℕ, ◌<◌, ◌≤◌, Bool, true, false, ◌&&◌, List, None, Some, ⊎_elim, arith}
+use Rattle.std.proofs.Common.{◌≡◌, ◌∙◌, sym, ap, ℕ, ◌<◌, ◌≤◌, Bool, true, false, ◌&&◌, List, None, Some, ⊎_elim, arith}
 use Rattle.std.specs.Prelude.{◌^◌, if◌then◌else◌}
 use Rattle.std.specs.Fmt.{decimal}
 use Rattle.std.specs.Str.Parse.{AllDigits, digits_value}
-use Rattle.std.specs.Cmp.Lexicographic.{other_text, same_text}
-use Rattle.std.proofs.lemmas.Bool.{cases_Bool, leb-true, le-leb}
+use Rattle.std.specs.Cmp.Lexicographic.{other_text}
+use Rattle.std.proofs.lemmas.Bool.{cases_Bool, le-leb}
 use Rattle.std.proofs.lemmas.Fmt.{digits_value-decimal}
 use Rattle.std.proofs.lemmas.Str.Parse.{IsNumeralModel, numerals_by_value, tells_digits}
-use Rattle.gl_words.specs.Words.{is_text, is_worker_count, number_within}
+use Rattle.gl_text.specs.Forms.{is_text}
+use Rattle.gl_words.specs.Words.{is_worker_count, number_within}
 
 own : IsNumeralModel (AllDigits 10) (digits_value 10)
 own = numerals_by_value (AllDigits 10) tells_digits
-
-not_all : (a b c : Bool) (n : ℕ) → (a ≡ true → b ≡ true → c ≡ true → ⊥) → (if a && b && c then Some n else None) ≡ None
-not_all false b c n wrong = refl
-not_all true false c n wrong = refl
-not_all true true false n wrong = refl
-not_all true true true n wrong = absurd (wrong refl refl refl)
 
 all_three : (a b c : Bool) (n m : ℕ) → a ≡ true → b ≡ true → c ≡ true → n ≡ m → (if a && b && c then Some n else None) ≡ Some m
 all_three true true true n m one other third same = ap Some same
@@ -30,21 +25,6 @@ text_is word text same =
     (λ (is : is_text word text ≡ true). is)
     (λ (other : is_text word text ≡ false). absurd (other_text word text (sym other) same))
     (cases_Bool (is_text word text))
-
--- a word that writes no number writes none within limits
-pub none_within : (least most : ℕ) (word : List ℕ) → most < 2 ^ 64 → ((n : ℕ) → n < 2 ^ 64 → word ≢ decimal n) → number_within least most word ≡ None
-none_within least most word fits none =
-    let number = digits_value 10 word in
-    not_all _ _ _ number (λ is low high.
-    let few : number ≤ most = leb-true number most high in
-    none number (omega (arith, few, fits)) (same_text word (decimal number) (sym is)))
-
--- nor does one that writes another number
-pub past_within : (least most : ℕ) (word : List ℕ) (n : ℕ) → n < 2 ^ 64 → word ≡ decimal n → (least ≤ n → n ≤ most → ⊥) → number_within least most word ≡ None
-past_within least most word n small is past =
-    let number = digits_value 10 word in
-    let value : number ≡ n = ap (digits_value 10) is ∙ digits_value-decimal own n small in
-    not_all _ _ _ number (λ same low high. past (omega (arith, value, leb-true least number low)) (omega (arith, value, leb-true number most high)))
 
 -- and one that writes a number within them
 pub some_within : (least most : ℕ) (word : List ℕ) (n : ℕ) → n < 2 ^ 64 → word ≡ decimal n → least ≤ n → n ≤ most → number_within least most word ≡ Some n

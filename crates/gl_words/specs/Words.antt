@@ -1,11 +1,10 @@
 -- The words of a command.
-use Rattle.std.specs.Prelude.{ℕ, Bool, not, ◌&&◌, ◌||◌, nat_le, nat_eq, ◌==◌, if◌then◌else◌, List, [], ◌∷◌, length, slice_index_or, Option, None, Some, codes, is_some, option_map}
-use Rattle.std.specs.List.{list_all}
-use Rattle.std.specs.Cmp.Lexicographic.{pointwise}
+use Rattle.std.specs.Prelude.{ℕ, Bool, ◌&&◌, nat_le, if◌then◌else◌, List, [], ◌∷◌, slice_index_or, Option, None, Some, codes, is_some, option_map}
 use Rattle.std.specs.Fmt.{decimal}
 use Rattle.std.specs.Option.{option_or}
 use Rattle.std.specs.Str.Parse.{digits_value}
 use Rattle.gl_sphere.specs.PlaceText.{place_of_text}
+use Rattle.gl_text.specs.Forms.{is_text, is_file_name}
 
 -- the names of the two files of a day
 pub record DayNames : Type 0 where
@@ -54,24 +53,6 @@ pub data Command : Type 0 where
   BadgeCheck : BadgeWords → Command
   Series : SeriesWords → Command
   Demo : ℕ → Command
-
--- two texts are the same
-abbrev pub is_text : List ℕ → List ℕ → Bool
-is_text text other = pointwise nat_eq text other
-
--- a byte that may stand in a name: no slash, and none below 32
-abbrev pub is_name_byte : ℕ → Bool
-is_name_byte b = nat_le 32 b && not (b == 47)
-
--- the texts that name folders
-abbrev pub is_dots : List ℕ → Bool
-is_dots text = is_text text (codes ".") || is_text text (codes "..")
-
--- a name of a file: 1 to 128 such bytes, and neither `.` nor `..`
-unfoldable pub is_file_name : List ℕ → Bool
-is_file_name name =
-    nat_le 1 (length name) && nat_le (length name) 128 && list_all is_name_byte name
-    && not (is_dots name)
 
 -- `free FILE`, or another first word
 abbrev pub file_form : List ℕ → List (List ℕ) → Option (List ℕ)

@@ -2,8 +2,8 @@ ghost use Rattle.std.specs.Prelude.{◌≡◌, option_map};
 ghost use Rattle.gl_words.specs.BadgeWords.{badge_seen};
 ghost use Rattle.gl_words.specs.Words.{badge_form};
 
-use crate::command::is_file_name;
 use gl_desk::Name;
+use gl_text::is_file_name;
 
 /// What `badge` and `badgecheck` are given.
 #[derive(Clone, Copy, Debug)]
@@ -20,9 +20,9 @@ pub fn read_badge_words<'a>(first: &str, words: &'a [Name]) -> Option<BadgeWords
 {
     match words {
         [word, flight, proof]
-            if word.as_str() == first && is_file_name(flight) && is_file_name(proof) => {
-            Some(BadgeWords { flight, proof })
-        }
+            if word.as_str() == first
+                && is_file_name(flight.as_str())
+                && is_file_name(proof.as_str()) => { Some(BadgeWords { flight, proof }) }
         _ => None,
     }
 }

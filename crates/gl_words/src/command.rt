@@ -1,6 +1,6 @@
 ghost use Rattle.std.specs.Prelude.{◌≡◌, codes, option_map};
-ghost use Rattle.std.specs.List.{list_all};
-ghost use Rattle.gl_words.specs.Words.{Badge, BadgeCheck, Check, Demo, Free, Near, NearCheck, Point, Replay, Score, Series, Triangle, badge_command, badge_form, check_form, command_of, demo_form, file_command, file_form, flights_command, is_dots, is_file_name, is_name_byte, near_command, near_form, numbered_command, pair_command, point_form, replay_form, score_form, series_form};
+ghost use Rattle.gl_text.specs.Forms.{is_file_name, is_in_file_name};
+ghost use Rattle.gl_words.specs.Words.{Badge, BadgeCheck, Check, Demo, Free, Near, NearCheck, Point, Replay, Score, Series, Triangle, badge_command, badge_form, check_form, command_of, demo_form, file_command, file_form, flights_command, near_command, near_form, numbered_command, pair_command, point_form, replay_form, score_form, series_form};
 ghost use Rattle.gl_words.specs.Command.{seen};
 
 use crate::badge_words::{BadgeWords, read_badge_words};
@@ -10,9 +10,7 @@ use crate::near_words::{NearWords, PointWords, read_near_words, read_point};
 use crate::replay_words::{ReplayWords, read_replay};
 use crate::series_words::{SeriesWords, read_series};
 use gl_desk::Name;
-
-/// The most bytes that the name of a file has.
-const MOST_NAME_BYTES: usize = 128;
+use gl_text::is_file_name;
 
 /// A command and what it is given.
 #[derive(Clone, Copy, Debug)]
@@ -43,37 +41,12 @@ pub enum Command<'a> {
     Demo(DayNumber),
 }
 
-/// Whether each byte may stand in a name: no `/`, and none below 32.
-fn are_name_bytes(bytes: &[u8]) -> bool
-    ensures { result ≡ list_all is_name_byte bytes.now }
-{
-    bytes.iter().all(|&byte| byte >= 32 && byte != b'/')
-}
-
-/// Whether the text is `.` or `..`, which name folders.
-fn is_dots(text: &str) -> bool
-    ensures { result ≡ is_dots text.now }
-{
-    text == "." || text == ".."
-}
-
-/// Whether the name is a file's: 1 to 128 bytes without `/` and without a byte below 32, and
-/// neither `.` nor `..`.
-#[tactic(auto, unfolding(crate::specs::Words::is_file_name))]
-pub fn is_file_name(name: &Name) -> bool
-    ensures { result ≡ is_file_name name.now }
-{
-    let bytes = name.as_str().as_bytes();
-    let length = bytes.len();
-    length >= 1 && length <= MOST_NAME_BYTES && are_name_bytes(bytes) && !is_dots(name.as_str())
-}
-
 /// The name in `free FILE`, or behind another first word.
 fn read_file<'a>(first: &str, words: &'a [Name]) -> Option<&'a Name>
     ensures { option_map (λ file. file.now) result ≡ file_form first.now words.now }
 {
     match words {
-        [word, file] if word.as_str() == first && is_file_name(file) => Some(file),
+        [word, file] if word.as_str() == first && is_file_name(file.as_str()) => Some(file),
         _ => None,
     }
 }

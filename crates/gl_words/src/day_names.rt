@@ -3,9 +3,8 @@ ghost use Rattle.std.specs.Str.Parse.{digits_value};
 ghost use Rattle.gl_words.specs.DayNames.{names_seen};
 ghost use Rattle.gl_words.specs.Words.{check_form, day_names, is_worker_count, score_form, workers_of};
 
-use crate::command::is_file_name;
 use gl_desk::Name;
-use gl_text::read_u64;
+use gl_text::{is_file_name, read_u64};
 
 /// The greatest number of workers.
 const MOST_WORKERS: u64 = 16;
@@ -36,7 +35,7 @@ pub struct DayNames<'a> {
 fn read_names<'a>(task: &'a Name, proof: &'a Name) -> Option<DayNames<'a>>
     ensures { option_map names_seen result ≡ day_names task.now proof.now }
 {
-    if is_file_name(task) && is_file_name(proof) {
+    if is_file_name(task.as_str()) && is_file_name(proof.as_str()) {
         Some(DayNames { task, proof })
     } else {
         None

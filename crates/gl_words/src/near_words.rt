@@ -3,9 +3,9 @@ ghost use Rattle.gl_words.specs.NearWords.{near_seen, point_seen};
 ghost use Rattle.gl_words.specs.Words.{near_form, near_words, point_form};
 
 use crate::apart::{Apart, read_apart};
-use crate::command::is_file_name;
 use crate::place_word::{PlaceWord, read_place_word};
 use gl_desk::Name;
+use gl_text::is_file_name;
 
 /// What `near` and `nearcheck` are given.
 #[derive(Clone, Copy, Debug)]
@@ -39,7 +39,10 @@ fn near_words<'a>(
     ensures { option_map near_seen result
         ≡ near_words flight.now other.now (Some apart.seconds) proof.now }
 {
-    if is_file_name(flight) && is_file_name(other) && is_file_name(proof) {
+    if is_file_name(flight.as_str())
+        && is_file_name(other.as_str())
+        && is_file_name(proof.as_str())
+    {
         Some(NearWords {
             flight,
             other,
@@ -68,7 +71,7 @@ pub fn read_point(words: &[Name]) -> Option<PointWords<'_>>
     ensures { option_map point_seen result ≡ point_form words.now }
 {
     match words {
-        [word, flight, place] if word.as_str() == "point" && is_file_name(flight) => {
+        [word, flight, place] if word.as_str() == "point" && is_file_name(flight.as_str()) => {
             let place = read_place_word(place)?;
             Some(PointWords { flight, place })
         }

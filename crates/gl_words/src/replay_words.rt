@@ -2,9 +2,9 @@ ghost use Rattle.std.specs.Prelude.{◌≡◌, option_map};
 ghost use Rattle.gl_words.specs.ReplayWords.{replay_seen};
 ghost use Rattle.gl_words.specs.Words.{replay_form, replay_words};
 
-use crate::command::is_file_name;
 use crate::day_names::{Workers, read_workers};
 use gl_desk::Name;
+use gl_text::is_file_name;
 
 /// What `replay` is given.
 #[derive(Clone, Copy, Debug)]
@@ -26,7 +26,7 @@ fn replay_words<'a>(
     ensures { option_map replay_seen result
         ≡ replay_words flight.now schedule.now workers.count }
 {
-    if is_file_name(flight) && is_file_name(schedule) {
+    if is_file_name(flight.as_str()) && is_file_name(schedule.as_str()) {
         Some(ReplayWords {
             flight,
             schedule,

@@ -2,9 +2,9 @@ ghost use Rattle.std.specs.Prelude.{◌≡◌, Some, option_map};
 ghost use Rattle.gl_words.specs.SeriesWords.{series_seen};
 ghost use Rattle.gl_words.specs.Words.{series_form, series_words};
 
-use crate::command::is_file_name;
 use crate::day_number::read_within;
 use gl_desk::Name;
+use gl_text::is_file_name;
 
 /// The most days that are left out.
 const MOST_LEFT_OUT: u32 = 30;
@@ -22,7 +22,7 @@ pub struct SeriesWords<'a> {
 fn series_words(list: &Name, left_out: u32) -> Option<SeriesWords<'_>>
     ensures { option_map series_seen result ≡ series_words list.now (Some left_out) }
 {
-    if is_file_name(list) {
+    if is_file_name(list.as_str()) {
         Some(SeriesWords { list, left_out })
     } else {
         None

@@ -2,7 +2,7 @@
 use Rattle.std.specs.Prelude.{ℕ, ◌+◌, ◌-◌, ◌*◌, ◌%◌, Bool, true, ◌&&◌, ◌||◌, ◌==◌, nat_le, nat_lt, if◌then◌else◌, ℤ, pos, ◌-ℤ◌, ◌*ℤ◌, int_le}
 use Rattle.std.specs.List.{list_any}
 use Rattle.gl_sphere.specs.declared.place.Vec3.{Vec3}
-use Rattle.gl_sphere.specs.Distance.{squared_chord, written_distance}
+use Rattle.gl_sphere.specs.Distance.{distance}
 use Rattle.gl_sphere.specs.Sine.{written_sine, written_cosine}
 use Rattle.gl_sphere.specs.Sphere.{half_turn}
 use Rattle.gl_zone.specs.declared.zone.Cylinder as cylinder
@@ -12,10 +12,6 @@ use Rattle.gl_zone.specs.declared.zone.Part.TheVariants.{Cylinder, Sector}
 use Rattle.gl_zone.specs.declared.zone.Zone.{Zone}
 use Rattle.gl_zone.specs.Limits.{whole_turn}
 use Rattle.gl_zone.specs.Product.{scalar_product}
-
--- the distance of two points
-abbrev pub distance : Vec3 → Vec3 → ℕ
-distance a b = written_distance (squared_chord a b)
 
 -- a point is in a cylinder
 abbrev pub is_in_cylinder : cylinder.Cylinder → Vec3 → Bool

@@ -1,8 +1,8 @@
 ghost use Rattle.std.specs.Prelude.{◌≤◌, ◌<◌, length};
 ghost use Rattle.gl_zone.specs.Limits.{greatest_length, least_length, most_parts, whole_turn};
 
-use gl_igc::Items;
 use gl_sphere::Vec3;
+use gl_text::Items;
 
 /// The most parts that a zone has.
 pub const MOST_PARTS: usize = 4;

@@ -1,6 +1,6 @@
 -- What the code is asked for and finds in a run, and what stops it.
-use Rattle.std.specs.Prelude.{Option, None, Some, Result, Ok, Err, ℕ, List, Contains, ◌≡◌}
-use Rattle.gl_desk.specs.Desk.{FilesByName, HasFile}
+use Rattle.std.specs.Prelude.{Option, None, Some, Result, Ok, Err, ℕ, List, ◌≡◌}
+use Rattle.gl_desk.specs.Desk.{FilesByName}
 use Rattle.gl_desk.specs.declared.error.DeskError.{DeskError}
 use Rattle.gl_draft.specs.Causes.{stop_at}
 use Rattle.gl_draft.specs.Run.{IsMadeFor}
@@ -25,10 +25,6 @@ stop_of_cause (cause.Stopped stop) = Some stop
 abbrev pub stop_in : {X : Type 0} → Result X code_cause.Cause → Option DeskError
 stop_in (Ok x) = None
 stop_in (Err why) = stop_of_cause why
-
--- where the folder is told, each of the names has a file
-abbrev pub HaveFiles : Option FilesByName → List (List ℕ) → Type 0
-HaveFiles folder names = (name : List ℕ) → Contains names name → HasFile folder name
 
 -- an answer stops nothing; where the run is done, it is the text of a task file that is made for
 -- the words

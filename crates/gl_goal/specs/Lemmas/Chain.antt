@@ -8,7 +8,7 @@ use Rattle.std.proofs.lemmas.Option.{get_or_from_slice_get}
 use Rattle.gl_sphere.proofs.Arcs.{written_distance-bound, written_distance-mono}
 use Rattle.gl_sphere.proofs.Chords.{squared_chord-bound}
 use Rattle.gl_sphere.specs.declared.place.Vec3.{Vec3}
-use Rattle.gl_sphere.specs.Distance.{squared_chord, squared_gap, written_distance}
+use Rattle.gl_sphere.specs.Distance.{squared_chord, squared_gap, written_distance, distance}
 use Rattle.gl_igc.specs.declared.fix.Fix.{Fix}
 use Rattle.gl_hull.proofs.Spans.{fixes_in-single}
 use Rattle.gl_hull.specs.Box.{Box, IsInside, fixes_in, hull_of, point_box}
@@ -20,7 +20,7 @@ use Rattle.gl_box.proofs.Held.{holds_parts}
 use Rattle.gl_goal.specs.Goal.{IsTuple, chosen, whole_cell}
 use Rattle.gl_goal.specs.Lemmas.Points.{length-chosen}
 use Rattle.gl_goal.specs.Lists.{AreNamed}
-use Rattle.gl_goal.specs.Chain.{distance, fixes_at, greatest_distance, greatest_legs, hulls_of, last_of, legs, points_of, least_distance}
+use Rattle.gl_goal.specs.Chain.{fixes_at, greatest_distance, greatest_legs, hulls_of, last_of, legs, points_of, least_distance}
 use Rattle.std.proofs.lemmas.List.Elements.{All-tail}
 
 -- no legs are longer than the greatest ones from box to box

@@ -7,7 +7,7 @@ use Rattle.std.proofs.lemmas.List.Folds.{Any-from_list_any, list_any_at}
 use Rattle.std.proofs.lemmas.Bool.{leb-true, le-leb}
 use Rattle.std.proofs.lemmas.Option.{get_or_from_slice_get, slice_get-get_or, slice_get_within}
 use Rattle.gl_igc.specs.declared.fix.Fix.{Fix}
-use Rattle.gl_goal.specs.Chain.{distance}
+use Rattle.gl_sphere.specs.Distance.{distance}
 use Rattle.gl_goal.specs.Reach.{Closes}
 use Rattle.gl_goal.specs.Triangle.{closes}
 

@@ -10,7 +10,8 @@ use Rattle.gl_box.specs.Halves.{span_at}
 use Rattle.gl_box.proofs.Held.{holds_at, length-covers}
 use Rattle.gl_hull.specs.Box.{Box, IsInside}
 use Rattle.gl_goal.specs.Goal.{IsGoal, IsTuple, chosen, whole_cell}
-use Rattle.gl_goal.specs.Chain.{distance, fixes_at, greatest_distance, hulls_of, least_distance, points_of}
+use Rattle.gl_sphere.specs.Distance.{distance}
+use Rattle.gl_goal.specs.Chain.{fixes_at, greatest_distance, hulls_of, least_distance, points_of}
 use Rattle.gl_goal.specs.Fair.{is_fair, is_none_fair, most_of_fair}
 use Rattle.gl_goal.specs.Free.{fixes_between, numbers_between}
 use Rattle.gl_goal.specs.Lists.{AreLists, AreNamed}

@@ -10,7 +10,7 @@ use Rattle.gl_box.specs.declared.closed.Why.{Why}
 use Rattle.gl_lines.specs.Words.{spaced, span_word}
 use Rattle.gl_proof.specs.Claim.{box_line}
 use Rattle.gl_proof.specs.Line.{AreFixes, AreSpans, ClaimLine, HeadingLine, IsLine, ended, kind_word, reason_word}
-use Rattle.gl_proof.specs.Number.{is_number}
+use Rattle.gl_text.specs.Forms.{is_number}
 use Rattle.gl_proof.specs.declared.claim.ClaimKind.{ClaimKind}
 use Rattle.gl_proof.specs.declared.line.ClaimFront.{ClaimFront}
 use Rattle.gl_proof.specs.declared.version.Version.{Version}

@@ -1,5 +1,5 @@
 -- How a list grows by the entry of one more line.
-use Rattle.std.specs.Prelude.{◌≡◌, ◌≢◌, ℕ, ◌+◌, ◌<◌, ◌≤◌, List, ◌∷◌, ◌++◌, length, drop, slice_index, All, ⊤}
+use Rattle.std.specs.Prelude.{◌≡◌, ℕ, ◌+◌, ◌≤◌, List, ◌∷◌, ◌++◌, length, drop, ⊤}
 use Rattle.gl_text.specs.Lines.{lines_of}
 use Rattle.gl_series.specs.declared.entry.Entry.TheVariants.{Team}
 use Rattle.gl_series.specs.declared.entry.Entry.{Entry}
@@ -56,14 +56,3 @@ IsMember number team = IsEntry (Team (record { number = number; team = team }))
 
 abbrev pub member_line : List ℕ → List ℕ → List ℕ
 member_line number team = line_of (Team (record { number = number; team = team }))
-
--- the place of the first space of a text
-pub record IsFirstSpace (text : List ℕ) (place : ℕ) : Type 0 where
-  pub inside : place < length text
-  pub is : slice_index text place ≡ 32
-  pub none : (k : ℕ) → k < place → slice_index text k ≢ 32
-
--- a text with its first space, and what stands before and behind it
-pub record IsSpaced (text front back : List ℕ) : Type 0 where
-  pub is : text ≡ front ++ 32 ∷ back
-  pub none : All (λ byte. byte ≢ 32) front

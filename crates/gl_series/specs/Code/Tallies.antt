@@ -17,7 +17,7 @@ use Rattle.gl_series.specs.declared.standing.TeamTotal.{TeamTotal}
 use Rattle.gl_series.specs.declared.standing.Total.{Total}
 use Rattle.gl_series.specs.declared.teams.TeamSum.{TeamSum}
 use Rattle.gl_series.specs.Choices.{IsTotal, points_on}
-use Rattle.gl_series.specs.Forms.{is_text}
+use Rattle.gl_text.specs.Forms.{is_text}
 use Rattle.gl_series.specs.Totals.{IsDay, pilot_cmp, rank_of, team_cmp, total_beside}
 
 -- how two texts stand: by their bytes

@@ -1,16 +1,12 @@
 -- What is seen of the entrants' files in the code.
 use Rattle.std.specs.Prelude.{◌≡◌, ℕ, List, [], Option, None, Some, Contains}
 use Rattle.gl_airspace.specs.declared.volume.Airspace.{Airspace}
-use Rattle.gl_desk.specs.Desk.{FilesByName, HasFile, IsSeenIn}
+use Rattle.gl_desk.specs.Desk.{FilesByName, IsSeenIn}
 use Rattle.gl_task.specs.declared.task.Entrant.{Entrant}
 use Rattle.gl_task.specs.declared.task.Task.{Task}
 use Rattle.gl_day.specs.declared.flight.Seen.{Seen}
 use Rattle.gl_day.specs.declared.flight.Seen.TheVariants as code
 use Rattle.gl_day.specs.Flight.{IsFlight, IsSeen, StewardRules}
-
--- where the folder is told, each of the names has a file
-abbrev pub HaveFiles : Option FilesByName → List (List ℕ) → Type 0
-HaveFiles folder names = (name : List ℕ) → Contains names name → HasFile folder name
 
 -- what is seen of a file that is one of the names, or isn't
 abbrev pub IsSeenAmong : List (List ℕ) → Option FilesByName → List ℕ → Option (List ℕ) → Type 0

@@ -1,6 +1,6 @@
 use Rattle.std.proofs.Common.{◌∙◌, subst, sym, ℕ, List}
 use Rattle.std.specs.Prelude.{IsSome, IsTrue}
-use Rattle.gl_proof.specs.Number.{is_number}
+use Rattle.gl_text.specs.Forms.{is_number}
 use Rattle.gl_day.proofs.Named.{legal_total, named_found, ten_found}
 use Rattle.gl_day.proofs.claim.claim_of_found.Goals as goal
 

@@ -1,5 +1,5 @@
 use Rattle.std.proofs.Common.{◌≡◌, ◌∙◌, sym, ap, ℕ, ◌+◌, arith, length}
-use Rattle.gl_goal.specs.Chain.{distance}
+use Rattle.gl_sphere.specs.Distance.{distance}
 use Rattle.gl_judge.specs.Marking.{finish_point}
 use Rattle.gl_judge.proofs.Courses.{last_leg, one_leg}
 use Rattle.gl_judge.proofs.marking.course_length.Goals as goal

@@ -2,7 +2,8 @@ use Rattle.std.proofs.Common.{◌≡◌, ◌∙◌, sym, ap, subst, true}
 use Rattle.std.specs.Prelude.{IsUtf8}
 use Rattle.std.proofs.lemmas.Bool.{false≢true}
 use Rattle.std.proofs.lemmas.Str.{IsUtf8-from_ascii}
-use Rattle.gl_series.specs.Forms.{is_number, is_team}
+use Rattle.gl_text.specs.Forms.{is_number}
+use Rattle.gl_series.specs.Forms.{is_team}
 use Rattle.gl_series.proofs.Members.{member_parted, number_ascii}
 use Rattle.gl_series.proofs.list.number_and_team.Goals as goal
 

@@ -2,7 +2,7 @@ use Rattle.std.proofs.Common.{◌∙◌, sym, ap, arith, ℕ, ◌+◌, ◌<◌, 
 use Rattle.std.proofs.lemmas.Grind.{common_steps}
 use Rattle.std.proofs.lemmas.List.{map-append}
 use Rattle.std.specs.List.{list_any}
-use Rattle.gl_task.specs.Forms.{is_text}
+use Rattle.gl_text.specs.Forms.{is_text}
 use Rattle.gl_task.specs.Numbers.{repeated_after}
 use Rattle.gl_task_file.proofs.TwiceLemmas.{number_of, one_more, taken_more, dropped_more}
 use Rattle.gl_task_file.proofs.twice.first_repeated.Goals as goal

@@ -1,7 +1,8 @@
 use Rattle.std.proofs.Common.{◌≡◌, ◌∙◌, ap, sym, ◌-◌, true, false, arith}
 use Rattle.std.specs.Prelude.{◌&&◌, slice_index}
 use Rattle.gl_box.specs.Tuple.{places_of}
-use Rattle.gl_goal.specs.Chain.{distance, fixes_at, points_of}
+use Rattle.gl_sphere.specs.Distance.{distance}
+use Rattle.gl_goal.specs.Chain.{fixes_at, points_of}
 use Rattle.gl_goal.specs.Fair.{is_fair}
 use Rattle.gl_goal.specs.Goal.{chosen}
 use Rattle.gl_goal.specs.Free.{fixes_between}

@@ -1,7 +1,7 @@
-ghost use Rattle.std.specs.Prelude.{◌≡◌, ◌&&◌, nat_le, length};
+ghost use Rattle.std.specs.Prelude.{◌≡◌, length};
 ghost use Rattle.std.specs.List.{list_all};
 ghost use Rattle.std.specs.Char.{is_ascii_alphanumeric};
-ghost use Rattle.gl_task.specs.Forms.{is_in_file_name, is_file_name, is_number, is_name, is_no_control};
+ghost use Rattle.gl_text.specs.Forms.{is_in_file_name, is_file_name, is_number, is_name, is_no_control, is_plain, is_short};
 
 /// The most bytes of the name of a file, of an entrant's number and of an entrant's name.
 const LONGEST_FILE_NAME: usize = 128;
@@ -17,7 +17,7 @@ const DELETE: u8 = 127;
 
 /// Whether a text has from 1 to so many bytes.
 fn is_short(text: &str, most: usize) -> bool
-    ensures { result ≡ (nat_le 1 (length text.now) && nat_le (length text.now) most) }
+    ensures { result ≡ is_short text.now most }
 {
     1 <= text.len() && text.len() <= most
 }
@@ -37,8 +37,8 @@ fn has_file_name_bytes(text: &str) -> bool
 }
 
 /// Whether a text is the name of a file: 1 to 128 bytes, none of them below 32 or a slash, and
-/// neither
-/// `.` nor `..`.
+/// neither `.` nor `..`.
+#[tactic(auto, unfolding(crate::specs::Forms::is_file_name))]
 pub fn is_file_name(text: &str) -> bool
     ensures { result ≡ is_file_name text.now }
 {
@@ -79,9 +79,16 @@ fn has_no_control(text: &str) -> bool
     text.as_bytes().iter().all(|byte| is_no_control(*byte))
 }
 
+/// Whether a text has from 1 to so many bytes, none of them a control character.
+pub fn is_plain(text: &str, most: usize) -> bool
+    ensures { result ≡ is_plain text.now most }
+{
+    is_short(text, most) && has_no_control(text)
+}
+
 /// Whether a text is an entrant's name: 1 to 80 bytes, none of them a control character.
 pub fn is_name(text: &str) -> bool
     ensures { result ≡ is_name text.now }
 {
-    is_short(text, LONGEST_NAME) && has_no_control(text)
+    is_plain(text, LONGEST_NAME)
 }

@@ -1,4 +1,4 @@
-use Rattle.gl_series.proofs.list.parted.Goals as goal
+use Rattle.gl_text.proofs.space.part_at_space.Goals as goal
 use Rattle.gl_text.proofs.Characters.{no_space}
 
 pub returns-in_err-space : goal.returns-in_err-space
