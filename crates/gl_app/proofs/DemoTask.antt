@@ -26,7 +26,7 @@ use Rattle.gl_task_file.specs.Keys.{first_failed, said}
 use Rattle.gl_task_file.specs.Places.{grid_at, grid_of_text, other_point}
 use Rattle.gl_task.specs.SamePoint.{is_same_vector}
 use Rattle.gl_task_file.specs.Reading.{IsDocument}
-use Rattle.gl_task_file.specs.Tests.{course_tests, day_tests, entrant_tests, entrants_tests, finish_tests, head_tests, lists_tests, numbered_tests, part_tests, people_tests, pilot_tests, plan_tests, rules_tests, start_tests, tests, way_tests, word_tests, zone_tests, zones_tests}
+use Rattle.gl_task_file.specs.Tests.{course_tests, day_tests, entrant_tests, entrants_tests, finish_tests, head_tests, lists_tests, numbered_tests, part_tests, people_tests, pilot_tests, plan_tests, rules_tests, start_tests, tests, time_tests, way_tests, word_tests, zone_tests, zones_tests}
 use Rattle.gl_task_file.specs.Values.{day_of, file_name, kind_of, list_word_of, recent_day}
 use Rattle.gl_text.specs.Digits.{number_of}
 use Rattle.gl_text.specs.Forms.{is_file_name}
@@ -63,7 +63,7 @@ demo_document = record { utf8 = IsUtf8-from_is_utf8 task_text demo_utf8; reads =
 
 -- it passes all tests
 pub demo_table_passes : first_failed (tests demo_table) ≡ None
-unfolding toml_on_literals task_text demo_table tests plan_tests head_tests course_tests way_tests people_tests numbered_tests day_tests word_tests lists_tests start_tests pilot_tests part_tests
+unfolding toml_on_literals task_text demo_table tests plan_tests head_tests course_tests way_tests people_tests numbered_tests day_tests word_tests lists_tests start_tests time_tests pilot_tests part_tests
     zone_tests zones_tests finish_tests rules_tests entrant_tests entrants_tests day_of recent_day kind_of list_word_of grid_at grid_of_text is_same_vector other_point number_of day_number
     is_in_calendar angle_of latitude_of longitude_of place_of_text signed_by written_vector written_x written_y written_z product scaled with_sign_of half_turn_sine quarter_sine radians sine_sum
     sine_term written_cosine written_sine is_file_name

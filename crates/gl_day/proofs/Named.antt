@@ -4,8 +4,8 @@ use Rattle.std.specs.Prelude.{◌↔◌, IsNone, IsSome}
 use Rattle.gl_goal.specs.Lemmas.Points.{length-chosen}
 use Rattle.gl_goal.specs.Goal.{IsGoal, IsLegal, IsOptimum, Goal}
 use Rattle.gl_box.specs.Tuple.{places_of}
-use Rattle.gl_plain.specs.declared.found.Best.{Best}
-use Rattle.gl_plain.specs.Search.{IsSound, fixes_of, total_of}
+use Rattle.gl_goal.specs.declared.best.Best.{Best}
+use Rattle.gl_goal.specs.Best.{IsSound, fixes_of, total_of}
 
 -- at most 10 fixes are found
 pub ten_found : (rule : Goal) (best : Option Best) (fixes : List ℕ) → IsGoal rule → IsSound rule best → fixes ≡ fixes_of rule best → length fixes ≤ 10

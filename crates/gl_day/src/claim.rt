@@ -2,15 +2,15 @@ ghost use Rattle.std.specs.Prelude.{◌≡◌, ℕ, List, IfOk, IsSome, IsTrue};
 ghost use Rattle.gl_goal.specs.AnyGoal.{any_rule};
 ghost use Rattle.gl_goal.specs.Goal.{IsLegal, IsOptimum};
 ghost use Rattle.gl_plain.specs.Found.{IsCertified};
-ghost use Rattle.gl_plain.specs.Search.{IsSound, fixes_of, total_of};
+ghost use Rattle.gl_goal.specs.Best.{IsSound, fixes_of, total_of};
 ghost use Rattle.gl_proof.specs.Claim.{IsWritable, statement_of};
 ghost use Rattle.gl_text.specs.Forms.{is_number};
 ghost use Rattle.gl_day.specs.Expected.{Proves};
 
 use crate::search::Search;
 use gl_desk::Name;
-use gl_goal::{AnyGoal, Goal, fix_numbers};
-use gl_plain::{Best, Found};
+use gl_goal::{AnyGoal, Best, Goal, fix_numbers};
+use gl_plain::Found;
 use gl_proof::{Claim, ClaimKind};
 use std::alloc::{AllocError, Global};
 

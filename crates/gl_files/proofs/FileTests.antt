@@ -6,7 +6,7 @@ use Rattle.gl_desk.specs.Desk.{FilesByName}
 use Rattle.gl_igc.specs.Reading.{Reading}
 use Rattle.gl_igc.specs.declared.error.IgcError.{IgcError}
 use Rattle.gl_near.proofs.Reading as near
-use Rattle.gl_plain.proofs.StepLines.{schedule_told}
+use Rattle.gl_schedule.proofs.StepLines.{schedule_told}
 use Rattle.gl_proof.proofs.Unique as proof
 use Rattle.gl_series.proofs.Lines.{list_told}
 use Rattle.gl_series.proofs.Sheets.{sheet_told}

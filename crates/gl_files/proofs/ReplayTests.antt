@@ -3,7 +3,7 @@ use Rattle.std.proofs.Common.{refl, ap, ℕ, inl, inr, List, Option, None, Some,
 use Rattle.std.specs.declared.alloc.Global.{Global}
 use Rattle.gl_desk.specs.Desk.{FilesByName, HasFile, ListsNames}
 use Rattle.gl_igc.specs.declared.recording.Recording.{Recording}
-use Rattle.gl_plain.specs.declared.schedule.Step.{Step}
+use Rattle.gl_schedule.specs.declared.schedule.Step.{Step}
 use Rattle.gl_desk.specs.Limits.{most_bytes}
 use Rattle.gl_words.specs.Words.{ReplayWords}
 use Rattle.gl_files.specs.declared.halt.Halt.{Halt}

@@ -1,5 +1,5 @@
 -- A text has one task.
-use Rattle.std.proofs.Common.{◌≡◌, ◌∙◌, refl, sym, ap, subst, ℕ, ◌≤◌, ◌<◌, false, List, [], ◌∷◌, length, map, Option, None, Some, codes, pos}
+use Rattle.std.proofs.Common.{◌≡◌, ◌∙◌, refl, sym, ap, subst, ℕ, ◌≤◌, ◌<◌, false, List, [], ◌∷◌, length, map, Option, None, Some, pos}
 use Rattle.std.specs.Prelude.{IsTrue, is_some, option_map, option_and_then, ◌≤ℤ◌}
 use Rattle.std.specs.List.{list_all}
 use Rattle.std.specs.Option.{ForSome}
@@ -24,12 +24,13 @@ use Rattle.gl_task.specs.declared.task.PilotStart.{PilotStart}
 use Rattle.gl_task.specs.declared.task.Start.{Start}
 use Rattle.gl_task.specs.declared.task.Task.{Task}
 use Rattle.gl_text.specs.Forms.{is_file_name, is_number, is_name}
-use Rattle.gl_task_file.specs.Keys.{table_at, table_of}
+use Rattle.gl_task_file.specs.Keys.{table_of}
 use Rattle.gl_task.specs.Limits.{first_day, greatest_altitude, greatest_handicap, greatest_noise, last_day, last_second, longest_wait, most_entrants, most_points, most_zones, widest_window}
 use Rattle.gl_task_file.specs.Meaning.{Each, IsEntrant, IsFinishOf, IsKind, IsLine, IsPart, IsPilotStart, IsRulesOf, IsSector, IsStart, IsTask, IsZone}
 use Rattle.gl_task.specs.Numbers.{none_repeats}
 use Rattle.gl_task.specs.Ranges.{has_minimum, has_width_and_way, is_in_range, is_round_its_centre}
 use Rattle.gl_task_file.specs.Reading.{IsReadFrom}
+use Rattle.gl_task_file.specs.Table.{LineKeys, finish_key, finish_line, rules_key, start_key, start_line, table_under}
 use Rattle.gl_files.proofs.Readings.{document_same}
 use Rattle.gl_text.proofs.Lists.{one_some}
 
@@ -51,8 +52,8 @@ each_one Is once (value ∷ values) (x ∷ xs) (y ∷ ys) is_x is_y =
     let rest = each_one Is once values xs ys is_x.1 is_y.1 in
     λ i. first i ∷ rest i
 
-line_one : (table : Members) (v w : Line) → IsLine table v → IsLine table w → v ≡ w
-line_one table v w is_v is_w =
+line_one : (keys : LineKeys) (table : Members) (v w : Line) → IsLine keys table v → IsLine keys table w → v ≡ w
+line_one keys table v w is_v is_w =
     let half = one_some _ v.half w.half is_v.half is_w.half in
     λ i. record {
       centre = one_some _ v.centre w.centre is_v.centre is_w.centre i;
@@ -80,14 +81,14 @@ pilot_one table (Some v) (Some w) is_v is_w =
 
 start_one : (file : Members) (v w : Start) → IsStart file v → IsStart file w → v ≡ w
 start_one file v w is_v is_w =
-    let line = line_one (table_at (codes "start") file) v.line w.line is_v.line is_w.line in
+    let line = line_one start_line (table_under start_key file) v.line w.line is_v.line is_w.line in
     let opens = one_some _ v.opens w.opens is_v.opens is_w.opens in
     let close = one_some _ v.close w.close is_v.close is_w.close in
     λ i. record {
       line = line i;
       opens = opens i;
       close = close i;
-      pilot = pilot_one (table_at (codes "start") file) v.pilot w.pilot is_v.pilot is_w.pilot i;
+      pilot = pilot_one (table_under start_key file) v.pilot w.pilot is_v.pilot is_w.pilot i;
       line_in_range = is_prop→PathP (λ j. IsTrue (has_width_and_way (line j))) (λ j. hlevel props) v.line_in_range w.line_in_range i;
       opens_at_least = is_prop→PathP (λ j. pos 0 ≤ℤ opens j) (λ j. hlevel props) v.opens_at_least w.opens_at_least i;
       ordered = is_prop→PathP (λ j. opens j ≤ℤ close j) (λ j. hlevel props) v.ordered w.ordered i;
@@ -175,7 +176,7 @@ finish_one table (Ring v r) (Ring w s) is_v is_w =
     λ i. Ring (at i) (radius i)
 finish_one table (Ring v r) (Gate w) is_v is_w = absurd (lacks _ _ _ _ is_w.0 is_v.1)
 finish_one table (Gate v) (Ring w s) is_v is_w = absurd (lacks _ _ _ _ is_v.0 is_w.1)
-finish_one table (Gate v) (Gate w) is_v is_w = ap Gate (line_one table v w is_v.1 is_w.1)
+finish_one table (Gate v) (Gate w) is_v is_w = ap Gate (line_one finish_line table v w is_v.1 is_w.1)
 
 entrant_one : (value : Data) (v w : Entrant) → IsEntrant value v → IsEntrant value w → v ≡ w
 entrant_one value v w is_v is_w =
@@ -202,7 +203,7 @@ task_one file v w is_v is_w =
     let closes = one_some _ v.closes w.closes is_v.closes is_w.closes in
     let airspace = sym is_v.airspace ∙ is_w.airspace in
     let zones = each_one IsZone zone_one _ v.zones w.zones is_v.zones is_w.zones in
-    let finish = finish_one (table_at (codes "finish") file) v.finish w.finish is_v.finish is_w.finish in
+    let finish = finish_one (table_under finish_key file) v.finish w.finish is_v.finish is_w.finish in
     let entrants = each_one IsEntrant entrant_one _ v.entrants w.entrants is_v.entrants is_w.entrants in
     λ i. record {
       date = date i;
@@ -214,7 +215,7 @@ task_one file v w is_v is_w =
       start = start_one file v.start w.start is_v.start is_w.start i;
       zones = zones i;
       finish = finish i;
-      rules = rules_one (table_at (codes "rules") file) v.rules w.rules is_v.rules is_w.rules i;
+      rules = rules_one (table_under rules_key file) v.rules w.rules is_v.rules is_w.rules i;
       entrants = entrants i;
       date_at_least = is_prop→PathP (λ j. pos first_day ≤ℤ date j) (λ j. hlevel props) v.date_at_least w.date_at_least i;
       date_at_most = is_prop→PathP (λ j. date j ≤ℤ pos last_day) (λ j. hlevel props) v.date_at_most w.date_at_most i;

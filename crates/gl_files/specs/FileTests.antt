@@ -17,10 +17,10 @@ use Rattle.gl_lines.specs.declared.error.ProofError.TheVariants as proof
 use Rattle.gl_near.specs.declared.found.NearBest.{NearBest}
 use Rattle.gl_near.specs.declared.found.NearWhy.{NearWhy}
 use Rattle.gl_near.specs.Line.{IsTextOf, near_grammar}
-use Rattle.gl_plain.specs.Schedule.{IsRefused, IsSchedule}
-use Rattle.gl_plain.specs.declared.error.StepError.{StepError}
-use Rattle.gl_plain.specs.declared.error.StepError.TheVariants as step
-use Rattle.gl_plain.specs.declared.schedule.Step.{Step}
+use Rattle.gl_schedule.specs.Schedule.{IsRefused, IsSchedule}
+use Rattle.gl_schedule.specs.declared.error.StepError.{StepError}
+use Rattle.gl_schedule.specs.declared.error.StepError.TheVariants as step
+use Rattle.gl_schedule.specs.declared.schedule.Step.{Step}
 use Rattle.gl_proof.specs.Claim.{Statement}
 use Rattle.gl_proof.specs.Refusal as proof_refusal
 use Rattle.gl_proof.specs.Text as proof_text

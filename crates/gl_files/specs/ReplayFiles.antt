@@ -3,8 +3,8 @@ use Rattle.std.specs.Prelude.{ℕ, List, ◌∷◌, ◌++◌, Option, None, IsSo
 use Rattle.std.specs.declared.alloc.Global.{Global}
 use Rattle.gl_desk.specs.Desk.{FilesByName, IsSeenIn}
 use Rattle.gl_igc.specs.declared.recording.Recording.{Recording}
-use Rattle.gl_plain.specs.Schedule.{IsSchedule}
-use Rattle.gl_plain.specs.declared.schedule.Step.{Step}
+use Rattle.gl_schedule.specs.Schedule.{IsSchedule}
+use Rattle.gl_schedule.specs.declared.schedule.Step.{Step}
 use Rattle.gl_desk.specs.Limits.{most_bytes}
 use Rattle.gl_words.specs.Words.{ReplayWords}
 use Rattle.gl_files.specs.FileTests.{FileTest, IsRecordingOf, Listed, RecordingText, ScheduleText, text_tests}

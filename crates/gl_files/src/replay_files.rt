@@ -14,7 +14,7 @@ use crate::halt::{Halt, refusing_for};
 use crate::refusal::Cause;
 use gl_desk::{Desk, MOST_BYTES, Name};
 use gl_igc::Recording;
-use gl_plain::{Step, StepError, read_steps};
+use gl_schedule::{Step, StepError, read_steps};
 use gl_words::ReplayWords;
 use std::alloc::Global;
 

@@ -4,8 +4,7 @@ ghost use Rattle.gl_goal.specs.Goal.{IsOptimum, IsReached};
 ghost use Rattle.gl_flights.specs.Best.{IsBestText};
 
 use gl_answer::distance_lines;
-use gl_goal::{Goal, fix_numbers};
-use gl_plain::Best;
+use gl_goal::{Best, Goal, fix_numbers};
 use std::alloc::{AllocError, Global};
 
 /// The two lines of the best of a goal, after a word.

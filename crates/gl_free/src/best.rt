@@ -11,9 +11,8 @@ use crate::ranges::advance;
 use crate::search::Search;
 use crate::warm::warm_start;
 use gl_box::Span;
-use gl_goal::FreeGoal;
+use gl_goal::{Best, FreeGoal};
 use gl_hull::Hulls;
-use gl_plain::Best;
 use std::alloc::{AllocError, Global};
 
 /// Room for ranges of altitudes.

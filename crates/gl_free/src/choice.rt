@@ -9,8 +9,7 @@ ghost use Rattle.gl_free.specs.Code.Search.{IsValid};
 use crate::arm::Arms;
 use crate::pair::Pair;
 use gl_box::Tuple;
-use gl_goal::{FreeGoal, Goal};
-use gl_plain::Best;
+use gl_goal::{Best, FreeGoal, Goal};
 
 /// The choice of five places.
 pub(crate) fn tuple_of(places: [u32; 5]) -> Tuple

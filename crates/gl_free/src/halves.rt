@@ -8,10 +8,9 @@ use crate::choice::choose;
 use crate::ends::Sides;
 use crate::half::Half;
 use crate::pair::Pair;
-use gl_goal::FreeGoal;
+use gl_goal::{Best, FreeGoal};
 use gl_hull::Hulls;
 use gl_places::ByPlace;
-use gl_plain::Best;
 use std::alloc::{AllocError, Global};
 
 /// Both sides of the middle fix.

@@ -4,8 +4,7 @@ ghost use Rattle.gl_free.specs.Code.Search.{IsValid};
 
 use crate::choice::{keep, tuple_of};
 use crate::stages::{MOST_PLACES, Stages, Way};
-use gl_goal::{FreeGoal, Goal};
-use gl_plain::Best;
+use gl_goal::{Best, FreeGoal, Goal};
 use std::alloc::{AllocError, Global};
 
 /// How many rounds a warm start makes at most.

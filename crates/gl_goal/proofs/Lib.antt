@@ -11,4 +11,5 @@ pub mod Optimum
 pub mod Order
 pub mod Reaches
 pub mod Seen
+pub mod Totals
 pub mod Tuples

@@ -1,6 +1,7 @@
 pub mod AnyGoal
 pub mod Area
 pub mod AreaGoal
+pub mod Best
 pub mod Certificate
 pub mod Chain
 pub mod Closing

@@ -7,6 +7,7 @@ mod any_goal;
 mod area;
 mod area_goal;
 mod axis;
+mod best;
 mod free;
 mod free_goal;
 mod goal;
@@ -26,6 +27,7 @@ mod way;
 
 pub use any::AnyGoal;
 pub use area::AreaGoal;
+pub use best::{Best, beats, better};
 pub use free::FreeGoal;
 pub use goal::Goal;
 pub use leg::Leg;

@@ -5,12 +5,12 @@ use Rattle.std.specs.List.{flat_map}
 use Rattle.std.proofs.lemmas.Grind.{flat_map-append}
 use Rattle.std.proofs.lemmas.List.{append-nil, get_or-map, length-map, map-append, take_all, take_more}
 use Rattle.std.proofs.lemmas.List.Elements.{All-append, All-head, All-nil, All-push, All-tail, All-weaker, Contains-get_or}
-use Rattle.gl_plain.specs.declared.found.Best.{Best}
+use Rattle.gl_goal.specs.declared.best.Best.{Best}
 use Rattle.gl_plain.specs.declared.worker.Worker as code
 use Rattle.gl_plain.specs.Machine.{Worker}
-use Rattle.gl_plain.specs.Search.{IsNoLess, total_of}
+use Rattle.gl_goal.specs.Best.{IsNoLess, total_of}
 use Rattle.gl_plain.specs.Code.Workers.{worker_of, workers_of}
-use Rattle.gl_plain.proofs.Totals.{less_through}
+use Rattle.gl_goal.proofs.Totals.{less_through}
 
 -- what comes from one worker more
 

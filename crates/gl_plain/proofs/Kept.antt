@@ -11,7 +11,7 @@ use Rattle.gl_box.specs.Cell.{point, spans_of}
 use Rattle.gl_box.specs.Halves.{IsSingle}
 use Rattle.gl_box.specs.Tuple.{places_of}
 use Rattle.gl_goal.specs.Goal.{Goal, IsLegal, value}
-use Rattle.gl_plain.specs.declared.found.Best.{Best}
+use Rattle.gl_goal.specs.declared.best.Best.{Best}
 use Rattle.gl_plain.specs.declared.worker.Worker as code
 use Rattle.gl_plain.specs.Machine.{Closes, IsFirstReason, Keeps, Tries, Worker, greater}
 use Rattle.gl_plain.specs.Code.Workers.{kept_of, worker_of}

@@ -8,6 +8,4 @@ pub mod Places
 pub mod Replays
 pub mod Roots
 pub mod Stack
-pub mod StepLines
-pub mod Totals
 pub mod Turns

@@ -18,13 +18,13 @@ use Rattle.gl_box.specs.Frontier.IsNode.{whole, half}
 use Rattle.gl_box.proofs.Parts.{mult-append, mult-halves, mult-held}
 use Rattle.gl_goal.specs.Goal.{Goal, whole_cell}
 use Rattle.gl_goal.specs.Certificate.{IsClosedFor}
-use Rattle.gl_plain.specs.declared.schedule.Step.{Step}
-use Rattle.gl_plain.specs.declared.schedule.Step.TheVariants.{Take, Steal, Split, Close, Look, Raise}
+use Rattle.gl_schedule.specs.declared.schedule.Step.{Step}
+use Rattle.gl_schedule.specs.declared.schedule.Step.TheVariants.{Take, Steal, Split, Close, Look, Raise}
 use Rattle.gl_plain.specs.Machine.{Acts, Closes, IsFirstReason, Keeps, Looks, Makes, Moves, Runs, Splits, State, Steals, Takes, Worker, closed_in, greater, idle, open_cells, start}
 use Rattle.gl_plain.specs.Safe.{IsKept, IsSafe, IsSafeWorker, worker_cells}
-use Rattle.gl_plain.specs.Search.{IsNoLess}
+use Rattle.gl_goal.specs.Best.{IsNoLess}
 use Rattle.gl_plain.proofs.Stack.{closed_longer}
-use Rattle.gl_plain.proofs.Totals.{less_self, less_through}
+use Rattle.gl_goal.proofs.Totals.{less_self, less_through}
 
 abbrev Box : Type 0
 Box = List (ℕ × ℕ) × Why

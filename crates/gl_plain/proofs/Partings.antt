@@ -24,9 +24,9 @@ use Rattle.gl_box.specs.Closed.{box_of}
 use Rattle.gl_goal.specs.Goal.{Goal, whole_cell}
 use Rattle.gl_goal.specs.Certificate.{IsCertificate, IsClosedFor}
 use Rattle.gl_walk.proofs.Frontiers.{lower_unique, upper_unique}
-use Rattle.gl_plain.specs.declared.found.Best.{Best}
+use Rattle.gl_goal.specs.declared.best.Best.{Best}
 use Rattle.gl_plain.specs.Order.{AreParts, cells_of}
-use Rattle.gl_plain.specs.Search.{IsSound, fixes_of, total_of}
+use Rattle.gl_goal.specs.Best.{IsSound, fixes_of, total_of}
 use Rattle.gl_plain.proofs.Stack.{claimed_best, closed-boxes, map-boxes}
 
 -- a half of a cell is a node of its lower or of its upper half

@@ -18,13 +18,13 @@ use Rattle.gl_box.proofs.Parts.{mult-append}
 use Rattle.gl_goal.specs.Goal.{Goal, IsReached, whole_cell}
 use Rattle.gl_goal.specs.Certificate.{IsClosedFor}
 use Rattle.gl_walk.specs.InLists.{boxes_in}
-use Rattle.gl_plain.specs.declared.found.Best.{Best}
+use Rattle.gl_goal.specs.declared.best.Best.{Best}
 use Rattle.gl_plain.specs.declared.found.Found.{Found}
 use Rattle.gl_plain.specs.declared.search.Finished.{Finished}
 use Rattle.gl_plain.specs.declared.machine.Machine.{Machine}
 use Rattle.gl_plain.specs.declared.replayed.Left.{Left}
 use Rattle.gl_plain.specs.declared.replayed.Replayed.{Replayed}
-use Rattle.gl_plain.specs.declared.schedule.Step.{Step}
+use Rattle.gl_schedule.specs.declared.schedule.Step.{Step}
 use Rattle.gl_plain.specs.declared.worker.Worker as code
 use Rattle.gl_plain.specs.Code.Steps.{IsFinished}
 use Rattle.gl_plain.specs.Found.{IsCertified}
@@ -33,14 +33,14 @@ use Rattle.gl_plain.specs.Order.{AreParts, cells_of}
 use Rattle.gl_plain.specs.Code.Workers.{IsLeft, kept_of, state_of, worker_of, workers_of}
 use Rattle.gl_plain.specs.Replayed.{IsReplay}
 use Rattle.gl_plain.specs.Safe.{IsKept, IsSafe, IsSafeWorker, worker_cells}
-use Rattle.gl_plain.specs.Search.{IsNoLess, IsSound, total_of}
+use Rattle.gl_goal.specs.Best.{IsNoLess, IsSound, total_of}
 use Rattle.gl_plain.specs.Steps.{LiesInOne}
 use Rattle.gl_plain.proofs.Gathered.{all_flat}
 use Rattle.gl_plain.proofs.Machines.{closed_few, closed_seen, runs_safe, start_safe}
 use Rattle.gl_plain.proofs.Outcome.{runs_one}
 use Rattle.gl_plain.proofs.Roots.{lie_each, mult-each, nodes_each}
 use Rattle.gl_plain.proofs.Stack.{certificate_made, map-boxes}
-use Rattle.gl_plain.proofs.Totals.{less_through}
+use Rattle.gl_goal.proofs.Totals.{less_through}
 use Rattle.gl_text.proofs.Lists.{All-unmap}
 
 abbrev Box : Type 0

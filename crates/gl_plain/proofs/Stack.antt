@@ -18,10 +18,11 @@ use Rattle.gl_box.proofs.Nodes.{covers_node, halves_frontier, spread, spread-low
 use Rattle.gl_goal.specs.Goal.{Goal, IsGoal, IsLegal, IsOpen, IsOptimum, IsReached, whole_cell}
 use Rattle.gl_goal.proofs.Order.{covered_tuple}
 use Rattle.gl_goal.specs.Certificate.{IsCertificate, IsClaimed, IsClosedFor}
-use Rattle.gl_plain.specs.declared.found.Best.{Best}
+use Rattle.gl_goal.specs.declared.best.Best.{Best}
 use Rattle.gl_plain.specs.declared.search.Finished.{Finished}
 use Rattle.gl_plain.specs.Code.Steps.{IsFinished, Advances, AreFrontiers, ClosesFor, Cuts, IsMet, IsUnderWay, in_order}
-use Rattle.gl_plain.specs.Search.{IsNeeded, IsNoLess, IsSound, fixes_of, total_of}
+use Rattle.gl_goal.specs.Best.{IsNoLess, IsSound, fixes_of, total_of}
+use Rattle.gl_plain.specs.Search.{IsNeeded}
 use Rattle.gl_plain.specs.CellVerdict.{Promises}
 use Rattle.gl_plain.specs.Steps.{Closes}
 use Rattle.gl_plain.proofs.Roots.{each_alone, one_frontier, refined_each}
@@ -237,11 +238,6 @@ finished rule roots known found way no_less = record {
   closed = way.closed;
   met = way.boxes_met;
 }
-
--- nothing was found exactly where no tuple is legal
-pub none_exactly : (rule : Goal) (best : Option Best) → IsOptimum rule (total_of best) → IsNone best ↔ ((tuple : List ℕ) → IsLegal rule tuple → ⊥)
-none_exactly rule None optimum = (λ none. optimum, λ illegal. refl)
-none_exactly rule (Some best) optimum = (λ none. absurd (cc), λ illegal. absurd (illegal optimum.0.0 optimum.0.1.legal))
 
 -- a search of the whole cell
 

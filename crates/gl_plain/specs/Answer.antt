@@ -3,7 +3,7 @@ use Rattle.std.specs.Prelude.{◌↔◌, IsNone}
 use Rattle.gl_goal.specs.Goal.{Goal, HasNoLegal, IsOptimum}
 use Rattle.gl_plain.specs.declared.found.Found.{Found}
 use Rattle.gl_plain.specs.Found.{AreNeeded, HoldsEachOnce, IsCertified}
-use Rattle.gl_plain.specs.Search.{IsSound, total_of}
+use Rattle.gl_goal.specs.Best.{IsSound, total_of}
 
 -- Its boxes certify what was found: a legal tuple and its value, the optimum, or nothing exactly
 -- where no tuple is legal. Each tuple lies in exactly one of the boxes, and each box is the whole

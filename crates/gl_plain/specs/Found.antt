@@ -7,7 +7,8 @@ use Rattle.gl_goal.specs.Goal.{Goal, whole_cell}
 use Rattle.gl_goal.specs.Certificate.{IsCertificate}
 use Rattle.gl_walk.specs.InLists.{boxes_in}
 use Rattle.gl_plain.specs.declared.found.Found.{Found}
-use Rattle.gl_plain.specs.Search.{IsNeeded, fixes_of, total_of}
+use Rattle.gl_goal.specs.Best.{fixes_of, total_of}
+use Rattle.gl_plain.specs.Search.{IsNeeded}
 
 -- its boxes certify the total and the fixes that were found
 abbrev pub IsCertified : Goal → Found → Type 0

@@ -6,6 +6,5 @@ pub mod Machine
 pub mod Order
 pub mod Replayed
 pub mod Safe
-pub mod Schedule
 pub mod Search
 pub mod Steps

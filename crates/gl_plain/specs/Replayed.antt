@@ -5,7 +5,7 @@ use Rattle.gl_box.specs.Closed.{box_of}
 use Rattle.gl_goal.specs.Goal.{Goal}
 use Rattle.gl_walk.specs.InLists.{boxes_in}
 use Rattle.gl_plain.specs.declared.replayed.Replayed.{Replayed}
-use Rattle.gl_plain.specs.declared.schedule.Step.{Step}
+use Rattle.gl_schedule.specs.declared.schedule.Step.{Step}
 use Rattle.gl_plain.specs.Machine.{IsAfter, State, closed_in, open_in}
 use Rattle.gl_plain.specs.Safe.{IsSafe}
 use Rattle.gl_plain.specs.Steps.{LiesInOne}

@@ -7,7 +7,7 @@ use Rattle.gl_box.specs.Frontier.{IsNode, mult}
 use Rattle.gl_goal.specs.Goal.{Goal, IsReached, whole_cell}
 use Rattle.gl_goal.specs.Certificate.{IsClosedFor}
 use Rattle.gl_plain.specs.Machine.{State, Worker, open_cells}
-use Rattle.gl_plain.specs.Search.{IsNoLess}
+use Rattle.gl_goal.specs.Best.{IsNoLess}
 
 -- the cells of a worker, open and closed
 abbrev pub worker_cells : Worker → List (List (ℕ × ℕ))

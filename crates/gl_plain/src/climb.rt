@@ -2,12 +2,11 @@ ghost use Rattle.std.specs.Prelude.{◌≡◌, ◌<◌, ℕ};
 ghost use Rattle.gl_box.specs.Tuple.{places_of};
 ghost use Rattle.gl_box.specs.Cell.{Covers, spans_of};
 ghost use Rattle.gl_goal.specs.Goal.{IsTuple, whole_cell};
-ghost use Rattle.gl_plain.specs.Search.{IsSound};
+ghost use Rattle.gl_goal.specs.Best.{IsSound};
 
 use crate::dive::{Candidate, dive};
-use crate::found::Best;
 use gl_box::{Cell, Span, Tuple};
-use gl_goal::{Goal, Leg};
+use gl_goal::{Best, Goal, Leg};
 use std::alloc::AllocError;
 
 /// How many rounds a climb makes at most.

@@ -2,13 +2,12 @@ ghost use Rattle.std.specs.Prelude.{◌≡◌, ◌++◌, All, IfSome, OnOk};
 ghost use Rattle.std.specs.Option.{option_to_list};
 ghost use Rattle.gl_box.specs.Cell.{Covers, spans_of};
 ghost use Rattle.gl_goal.specs.Goal.{whole_cell};
-ghost use Rattle.gl_plain.specs.Search.{IsSound};
+ghost use Rattle.gl_goal.specs.Best.{IsSound};
 ghost use Rattle.gl_plain.specs.Code.Steps.{AreWithin};
 
-use crate::found::{Best, beats};
 use crate::verdict::{CellVerdict, consider, test};
 use gl_box::{Cell, split};
-use gl_goal::{Goal, Leg};
+use gl_goal::{Best, Goal, Leg, beats};
 use std::alloc::AllocError;
 
 /// A cell that may hold a legal tuple worth as much as its bound.

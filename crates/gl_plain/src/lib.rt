@@ -4,24 +4,20 @@
 
 mod climb;
 mod dive;
-mod error;
 mod found;
 mod machine;
 mod order;
 mod replayed;
 mod runs;
-mod schedule;
 mod search;
 mod spaced;
 mod verdict;
 mod warm;
 mod worker;
 
-pub use error::StepError;
-pub use found::{Best, Found};
+pub use found::Found;
 pub use order::{in_order, join_in_order};
 pub use replayed::{Replayed, replay};
-pub use schedule::{Step, read_steps};
 pub use search::search_one;
 pub use verdict::{CellVerdict, test_for};
 pub use warm::warm_start;

@@ -3,9 +3,9 @@ ghost use Rattle.gl_plain.specs.Machine.{Acts, Closes, Keeps, Looks, Moves, Runs
 ghost use Rattle.gl_plain.specs.Safe.{IsSafe};
 ghost use Rattle.gl_plain.specs.Code.Workers.{AreCovered, Raises, state_of, workers_of};
 
-use crate::schedule::Step;
 use crate::worker::{Worker, greater};
 use gl_goal::{Goal, whole};
+use gl_schedule::Step;
 use std::alloc::{AllocError, Global};
 
 /// Workers that search together, one step at a time.

@@ -7,16 +7,16 @@ ghost use Rattle.gl_plain.specs.Found.{HoldsEachOnce, IsCertified};
 ghost use Rattle.gl_plain.specs.Machine.{open_cells};
 ghost use Rattle.gl_plain.specs.Code.Workers.{IsLeft, worker_of, workers_of};
 ghost use Rattle.gl_plain.specs.Replayed.{IsReplay};
-ghost use Rattle.gl_plain.specs.Search.{IsNoLess, IsSound, total_of};
+ghost use Rattle.gl_goal.specs.Best.{IsNoLess, IsSound, total_of};
 
-use crate::found::{Best, Found, better};
+use crate::found::Found;
 use crate::machine::Machine;
 use crate::order::in_order;
-use crate::schedule::Step;
 use crate::search::{Finished, finish};
 use crate::worker::Worker;
 use gl_box::{Cell, Closed};
-use gl_goal::{Goal, whole};
+use gl_goal::{Best, Goal, better, whole};
+use gl_schedule::Step;
 use gl_walk::Boxes;
 use std::alloc::{AllocError, Global};
 

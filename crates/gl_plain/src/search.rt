@@ -2,16 +2,16 @@ ghost use Rattle.std.specs.Prelude.{◌<◌, ◌↔◌, [], ℕ, List, All, IfOk
 ghost use Rattle.gl_box.specs.Cell.{Covers, spans_of};
 ghost use Rattle.gl_box.specs.Frontier.{IsNode};
 ghost use Rattle.gl_goal.specs.Goal.{HasNoLegal, IsOptimum, whole_cell};
-ghost use Rattle.gl_plain.specs.Search.{IsNoLess, IsSound, total_of};
+ghost use Rattle.gl_goal.specs.Best.{IsNoLess, IsSound, total_of};
 ghost use Rattle.gl_plain.specs.Code.Steps.{Advances, IsUnderWay, IsFinished};
 ghost use Rattle.gl_plain.specs.Steps.{Closes};
 ghost use Rattle.gl_plain.specs.Found.{AreNeeded, HoldsEachOnce, IsCertified};
 
-use crate::found::{Best, Found, better};
+use crate::found::Found;
 use crate::verdict::{CellVerdict, test};
 use crate::warm::warm_start;
 use gl_box::{Cell, Closed, Why, halve};
-use gl_goal::{Goal, Leg, measured_legs, whole};
+use gl_goal::{Best, Goal, Leg, better, measured_legs, whole};
 use gl_walk::Boxes;
 use std::alloc::{AllocError, Global};
 

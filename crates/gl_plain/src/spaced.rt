@@ -1,12 +1,11 @@
 ghost use Rattle.std.specs.Prelude.{◌≡◌, ◌≤◌, ◌<◌, All, IfOk, length};
 ghost use Rattle.gl_box.specs.Tuple.{places_of};
 ghost use Rattle.gl_goal.specs.Goal.{IsTuple};
-ghost use Rattle.gl_plain.specs.Search.{IsSound};
+ghost use Rattle.gl_goal.specs.Best.{IsSound};
 
-use crate::found::Best;
 use crate::verdict::consider;
 use gl_box::Tuple;
-use gl_goal::Goal;
+use gl_goal::{Best, Goal};
 use std::alloc::{AllocError, Global};
 
 /// How many places of each axis are tried, so that all tuples of them are soon tried.

@@ -2,12 +2,11 @@ ghost use Rattle.std.specs.Prelude.{◌≡◌};
 ghost use Rattle.gl_box.specs.Tuple.{places_of};
 ghost use Rattle.gl_box.specs.Cell.{Covers, spans_of};
 ghost use Rattle.gl_goal.specs.Goal.{IsTuple, whole_cell};
-ghost use Rattle.gl_plain.specs.Search.{IsSound, total_of};
+ghost use Rattle.gl_goal.specs.Best.{IsSound, total_of};
 ghost use Rattle.gl_plain.specs.CellVerdict.{IsCellVerdict};
 
-use crate::found::Best;
 use gl_box::{Cell, Tuple, Why};
-use gl_goal::{Goal, Leg};
+use gl_goal::{Best, Goal, Leg};
 
 /// What a goal's tests say of a cell.
 #[derive(Clone, Copy, Debug, PartialEq, Eq)]

@@ -1,10 +1,9 @@
 ghost use Rattle.std.specs.Prelude.{Contains, IfOk, IfSome};
-ghost use Rattle.gl_plain.specs.Search.{IsSound};
+ghost use Rattle.gl_goal.specs.Best.{IsSound};
 
 use crate::climb::climb;
-use crate::found::{Best, beats, better};
 use crate::spaced::spaced_tuples;
-use gl_goal::{Goal, Leg};
+use gl_goal::{Best, Goal, Leg, beats, better};
 use std::alloc::{AllocError, Global};
 
 /// Room for the cells of a dive.

@@ -6,9 +6,8 @@ ghost use Rattle.gl_goal.specs.Goal.{whole_cell};
 ghost use Rattle.gl_plain.specs.Machine.{Closes, IsFirstReason, Keeps, Looks, Splits, Takes, Tries, greater, idle};
 ghost use Rattle.gl_plain.specs.Code.Workers.{Raises, worker_of};
 
-use crate::found::{Best, beats};
 use gl_box::{Cell, Closed, Why, split};
-use gl_goal::Goal;
+use gl_goal::{Best, Goal, beats};
 use std::alloc::{AllocError, Global};
 use std::collections::VecDeque;
 

@@ -12,13 +12,14 @@ use Rattle.gl_box.proofs.Parts.{mult-held}
 use Rattle.gl_goal.specs.Goal.{Goal, IsGoal, whole_cell}
 use Rattle.gl_goal.specs.Certificate.{IsClosedFor}
 use Rattle.gl_goal.proofs.Optimum.{certificate_optimum}
-use Rattle.gl_plain.specs.declared.found.Best.{Best}
+use Rattle.gl_goal.specs.declared.best.Best.{Best}
 use Rattle.gl_plain.specs.declared.found.Found.{Found}
 use Rattle.gl_plain.specs.Answer.{IsAnswer}
 use Rattle.gl_plain.specs.Order.{AreParts, cells_of}
-use Rattle.gl_plain.specs.Search.{IsNeeded, fixes_of, total_of as found_total}
+use Rattle.gl_goal.specs.Best.{fixes_of, total_of as found_total}
+use Rattle.gl_plain.specs.Search.{IsNeeded}
 use Rattle.gl_plain.proofs.Partings.{certificate_of}
-use Rattle.gl_plain.proofs.Stack.{none_exactly}
+use Rattle.gl_goal.proofs.Totals.{none_exactly}
 use Rattle.gl_best.specs.declared.word.BestWord.{BestWord}
 use Rattle.gl_best.specs.Rule.{sixteen, times}
 use Rattle.gl_best.specs.Seats.{HasAll, total_of, view_of}

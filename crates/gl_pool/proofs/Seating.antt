@@ -8,7 +8,7 @@ use Rattle.gl_box.specs.declared.closed.Closed.{Closed}
 use Rattle.gl_box.specs.Cell.{spans_of}
 use Rattle.gl_goal.specs.Goal.{Goal}
 use Rattle.gl_goal.specs.Certificate.{IsClosedFor}
-use Rattle.gl_plain.specs.Search.{IsSound}
+use Rattle.gl_goal.specs.Best.{IsSound}
 use Rattle.gl_best.specs.declared.rule.View.{View}
 use Rattle.gl_best.specs.declared.word.BestWord.{BestWord}
 use Rattle.gl_best.specs.Rule.{times}

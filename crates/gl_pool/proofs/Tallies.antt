@@ -7,8 +7,8 @@ use Rattle.gl_box.specs.declared.closed.Closed.{Closed}
 use Rattle.gl_box.specs.Cell.{spans_of}
 use Rattle.gl_goal.specs.Goal.{Goal}
 use Rattle.gl_goal.specs.Certificate.{IsClosedFor}
-use Rattle.gl_plain.specs.declared.found.Best.{Best}
-use Rattle.gl_plain.specs.Search.{IsSound}
+use Rattle.gl_goal.specs.declared.best.Best.{Best}
+use Rattle.gl_goal.specs.Best.{IsSound}
 use Rattle.gl_best.specs.declared.rule.View.{View}
 use Rattle.gl_best.specs.declared.word.BestWord.{BestWord}
 use Rattle.gl_best.specs.Steps.{both_of}

@@ -8,7 +8,7 @@ use Rattle.gl_best.specs.Seats.{view_of}
 use Rattle.gl_deal.specs.declared.place.Place.{Place}
 use Rattle.gl_deal.specs.Rule.{HasSettledAll, TookAllItPut}
 use Rattle.gl_deal.specs.Tokens.{hand_view}
-use Rattle.gl_plain.specs.declared.found.Best.{Best}
+use Rattle.gl_goal.specs.declared.best.Best.{Best}
 use Rattle.gl_box.specs.declared.closed.Closed.{Closed}
 use Rattle.gl_pool.specs.declared.share.Haul.{Haul}
 use Rattle.gl_pool.specs.declared.share.Share.{Share}

@@ -4,7 +4,7 @@ ghost use Rattle.gl_pool.specs.Trail.{boxes_in};
 
 use crate::trail::{Trail, empty_trail};
 use gl_box::{Cell, Closed};
-use gl_plain::Best;
+use gl_goal::Best;
 use std::alloc::Global;
 
 /// What one worker has to show for a call: the best tuple that it kept, if it kept one; the cells

@@ -13,8 +13,8 @@ use crate::trail::come_to;
 use gl_best::{BestWord, Seat};
 use gl_box::{Cell, Closed, Why, covers, halve};
 use gl_deal::Place;
-use gl_goal::{Goal, whole};
-use gl_plain::{Best, CellVerdict, test_for};
+use gl_goal::{Best, Goal, whole};
+use gl_plain::{CellVerdict, test_for};
 use std::alloc::{AllocError, Global};
 use std::sync::Wait;
 

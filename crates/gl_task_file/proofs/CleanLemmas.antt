@@ -1,11 +1,12 @@
 -- No test of the keys answers that the text isn't TOML.
-use Rattle.std.proofs.Common.{ℕ, ◌+◌, Bool, true, false, List, [], ◌∷◌, ◌++◌, Option, None, Some, cond, codes}
+use Rattle.std.proofs.Common.{ℕ, ◌+◌, Bool, true, false, List, [], ◌∷◌, ◌++◌, Option, None, Some, cond}
 use Rattle.std.specs.Prelude.{nat_lt, length}
 use Rattle.toml.specs.Data.{Data, Members}
 use Rattle.gl_task_file.specs.declared.error.Key.{Key}
 use Rattle.gl_task_file.specs.declared.error.TaskError.TheVariants.{Toml, Missing, Value, Twice, TooMany, Memory}
-use Rattle.gl_task_file.specs.Keys.{Test, at_most, each_item, first_failed, needed_value, optional_value, right_value, some_item, table_at, table_of}
-use Rattle.gl_task_file.specs.Tests.{day_tests, lists_tests, pilot_tests, start_tests, zones_tests, finish_tests, rules_tests, entrants_tests, head_tests, way_tests, course_tests, plan_tests, numbered_tests, people_tests, tests, word_tests, zone_tests, part_tests, sector_tests, gate_tests, entrant_tests, minimum_test, has}
+use Rattle.gl_task_file.specs.Keys.{Test, at_most, each_item, first_failed, needed_value, optional_value, right_value, some_item, table_of}
+use Rattle.gl_task_file.specs.Tests.{day_tests, lists_tests, pilot_tests, start_tests, zones_tests, finish_tests, rules_tests, entrants_tests, time_tests, head_tests, way_tests, course_tests, plan_tests, numbered_tests, people_tests, tests, word_tests, zone_tests, part_tests, sector_tests, gate_tests, entrant_tests, minimum_test}
+use Rattle.gl_task_file.specs.Table.{finish_key, has, radius_key, ring_key, start_key, table_under, wait_key}
 use Rattle.gl_task_file.specs.Twice.{twice_at}
 use Rattle.gl_task_file.specs.Values.{KindWord, racing, area}
 
@@ -85,11 +86,15 @@ keyed_lists file = (search keyed_optional, (search keyed_at_most, keyed_each wor
 
 keyed_pilot : (start : Members) → AreKeyed (pilot_tests start)
 unfolding pilot_tests
-keyed_pilot start = (search keyed_optional, keyed_where (has (codes "wait") start) _ (search keyed_needed, tt))
+keyed_pilot start = (search keyed_optional, keyed_where (has wait_key start) _ (search keyed_needed, tt))
+
+keyed_times : (start : Members) → AreKeyed (time_tests start)
+unfolding time_tests
+keyed_times start = (search keyed_needed, (search keyed_needed, keyed_pilot start))
 
 keyed_start : (file : Members) → AreKeyed (start_tests file)
 unfolding start_tests
-keyed_start file = (search keyed_needed, (search keyed_needed, (search keyed_needed, (search keyed_needed, (search keyed_needed, (search keyed_needed, keyed_pilot (table_at (codes "start") file)))))))
+keyed_start file = (search keyed_needed, (search keyed_needed, (search keyed_needed, (search keyed_needed, keyed_times (table_under start_key file)))))
 
 keyed_sector : (zone part : ℕ) (table : Members) → AreKeyed (sector_tests zone part table)
 keyed_sector zone part table = (search keyed_optional, (search keyed_needed, (search keyed_needed, (search keyed_needed, tt))))
@@ -100,7 +105,7 @@ keyed_part zone part value = (
   search keyed_right,
   (
     search keyed_optional,
-    keyed_if (has (codes "radius") (table_of value)) (sector_tests zone part (table_of value)) (keyed_sector zone part (table_of value)),
+    keyed_if (has radius_key (table_of value)) (sector_tests zone part (table_of value)) (keyed_sector zone part (table_of value)),
   ),
 )
 
@@ -123,7 +128,7 @@ keyed_finish file = (
     search keyed_needed,
     (
       search keyed_optional,
-      keyed_if (has (codes "ring") (table_at (codes "finish") file)) (gate_tests (table_at (codes "finish") file)) (keyed_gate (table_at (codes "finish") file)),
+      keyed_if (has ring_key (table_under finish_key file)) (gate_tests (table_under finish_key file)) (keyed_gate (table_under finish_key file)),
     ),
   ),
 )

@@ -3,6 +3,7 @@ pub mod Keys
 pub mod Meaning
 pub mod Places
 pub mod Reading
+pub mod Table
 pub mod Tests
 pub mod Twice
 pub mod Values

@@ -8,6 +8,7 @@ ghost use Rattle.gl_task_file.specs.Keys.{first_failed, said};
 ghost use Rattle.gl_task_file.specs.Meaning.{IsFinish, IsLine};
 ghost use Rattle.gl_task_file.specs.Places.{place};
 ghost use Rattle.gl_task.specs.Ranges.{has_width_and_way, is_in_range};
+ghost use Rattle.gl_task_file.specs.Table.{finish_line};
 ghost use Rattle.gl_task_file.specs.Tests.{finish_tests, gate_tests};
 ghost use Rattle.std.specs.Prelude.{codes};
 
@@ -24,7 +25,7 @@ use toml::Table;
 /// The line of a finish whose place is known.
 fn read_gate(table: &Table, at: Grid) -> Result<Line, TaskError>
     requires { said (codes "at") place (table_view table.now) ≡ Some at }
-    ensures ok { IfOk result (IsLine (table_view table.now)) }
+    ensures ok { IfOk result (IsLine finish_line (table_view table.now)) }
     ensures range { IfOk result (λ line. IsTrue (has_width_and_way line)) }
     ensures passes { IfOk result (λ line. first_failed (gate_tests (table_view table.now)) ≡ None) }
     ensures refused { IfErr result

@@ -18,6 +18,7 @@ mod reader;
 mod rules;
 mod sections;
 mod start;
+mod times;
 mod twice;
 mod value;
 mod word;

@@ -13,8 +13,8 @@ use Rattle.gl_goal.specs.declared.triangle.TriangleGoal.{TriangleGoal}
 use Rattle.gl_goal.specs.Goal.{IsLegal, IsOptimum, value, whole_cell}
 use Rattle.gl_goal.proofs.Order.{tuple_held}
 use Rattle.gl_goal.specs.TriangleGoal.{triangle_rule}
-use Rattle.gl_plain.specs.declared.found.Best.{Best}
-use Rattle.gl_plain.specs.Search.{IsSound, total_of}
+use Rattle.gl_goal.specs.declared.best.Best.{Best}
+use Rattle.gl_goal.specs.Best.{IsSound, total_of}
 use Rattle.gl_triangle.specs.declared.node.Node.{Node}
 use Rattle.gl_triangle.specs.declared.order.Order.{Order}
 use Rattle.gl_triangle.specs.declared.spans.Corner.{Corner}

@@ -1,13 +1,12 @@
 ghost use Rattle.std.specs.Prelude.{◌≡◌, ◌≤◌};
 ghost use Rattle.gl_goal.specs.Goal.{IsLegal, IsTuple, value};
 ghost use Rattle.gl_goal.specs.TriangleGoal.{triangle_rule};
-ghost use Rattle.gl_plain.specs.Search.{IsSound};
+ghost use Rattle.gl_goal.specs.Best.{IsSound};
 ghost use Rattle.gl_triangle.specs.Code.Places.{places_in};
 ghost use Rattle.gl_triangle.specs.Code.Search.{worth_of};
 
 use crate::places::Places;
-use gl_goal::{Goal, TriangleGoal};
-use gl_plain::Best;
+use gl_goal::{Best, Goal, TriangleGoal};
 
 /// What was found is worth, 0 where nothing was.
 #[inline]

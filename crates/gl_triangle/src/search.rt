@@ -2,7 +2,7 @@ ghost use Rattle.std.specs.Prelude.{◌≡◌, ◌≤◌, ◌++◌, ◌⊎◌, �
 ghost use Rattle.std.specs.Option.{option_to_list};
 ghost use Rattle.gl_goal.specs.Goal.{HasNoLegal, IsOptimum};
 ghost use Rattle.gl_goal.specs.TriangleGoal.{triangle_rule};
-ghost use Rattle.gl_plain.specs.Search.{IsSound, total_of};
+ghost use Rattle.gl_goal.specs.Best.{IsSound, total_of};
 ghost use Rattle.gl_triangle.specs.Code.Node.{IsNode, IsVisited, fixes_of};
 ghost use Rattle.gl_triangle.specs.Code.Order.{IsOrder};
 ghost use Rattle.gl_triangle.specs.Code.Search.{IsUnderWay, worth_of};
@@ -12,9 +12,8 @@ use crate::node::Node;
 use crate::order::Order;
 use crate::warm::warm_start;
 use gl_box::Span;
-use gl_goal::TriangleGoal;
+use gl_goal::{Best, TriangleGoal};
 use gl_places::ByPlace;
-use gl_plain::Best;
 use std::alloc::{AllocError, Global};
 
 /// Room for open nodes: each cut adds one, and a span is cut at most 17 times.

@@ -1,14 +1,13 @@
 ghost use Rattle.std.specs.Prelude.{◌≡◌, ◌<◌, ◌≤◌, All, IfOk, length};
 ghost use Rattle.gl_goal.specs.TriangleGoal.{triangle_rule};
-ghost use Rattle.gl_plain.specs.Search.{IsSound};
+ghost use Rattle.gl_goal.specs.Best.{IsSound};
 ghost use Rattle.gl_triangle.specs.Code.Node.{fixes_of};
 ghost use Rattle.gl_triangle.specs.Code.Places.{AreAmong};
 
 use crate::found::consider;
 use crate::places::Places;
 use crate::trial::{Choices, Chosen, try_all};
-use gl_goal::TriangleGoal;
-use gl_plain::Best;
+use gl_goal::{Best, TriangleGoal};
 use std::alloc::{AllocError, Global};
 
 /// How many evenly spaced places are tried first.

@@ -5,7 +5,7 @@ use Rattle.gl_igc.specs.declared.fix.Fix.{Fix}
 use Rattle.gl_box.specs.Tuple.{places_of}
 use Rattle.gl_hull.specs.Near.{IsPlaceOf}
 use Rattle.gl_goal.specs.Goal.{Goal, IsReached}
-use Rattle.gl_plain.specs.declared.found.Best.{Best}
+use Rattle.gl_goal.specs.declared.best.Best.{Best}
 use Rattle.gl_free.specs.Code.Arms.{IsArm, IsTop, arm_length}
 use Rattle.gl_free.specs.Code.Candidates.{IsAmong, IsFlank, IsPart}
 use Rattle.gl_free.specs.Code.Ends.{IsAllowed}

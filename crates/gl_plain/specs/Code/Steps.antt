@@ -9,10 +9,11 @@ use Rattle.gl_box.specs.declared.closed.Closed.{Closed}
 use Rattle.gl_box.specs.declared.closed.Why.{Why}
 use Rattle.gl_goal.specs.Certificate.{IsClosedFor}
 use Rattle.gl_goal.specs.Goal.{Goal, whole_cell, IsOpen}
-use Rattle.gl_plain.specs.Search.{IsNoLess, IsSound, total_of, IsHalfOfOpen}
+use Rattle.gl_goal.specs.Best.{IsNoLess, IsSound, total_of}
+use Rattle.gl_plain.specs.Search.{IsHalfOfOpen}
 use Rattle.gl_plain.specs.Steps.{Closes}
 use Rattle.gl_plain.specs.declared.dive.Candidate.{Candidate}
-use Rattle.gl_plain.specs.declared.found.Best.{Best}
+use Rattle.gl_goal.specs.declared.best.Best.{Best}
 use Rattle.gl_plain.specs.declared.search.Finished.{Finished}
 
 -- each lies in the whole cell

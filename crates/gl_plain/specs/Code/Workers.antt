@@ -5,11 +5,11 @@ use Rattle.gl_box.specs.Closed.{box_of}
 use Rattle.gl_box.specs.Tuple.{places_of}
 use Rattle.gl_goal.specs.Goal.{Goal, whole_cell}
 use Rattle.gl_plain.specs.Machine.{IsAfter, State, closed_in, open_in, Worker}
-use Rattle.gl_plain.specs.Search.{IsNoLess, IsSound, total_of}
-use Rattle.gl_plain.specs.declared.found.Best.{Best}
+use Rattle.gl_goal.specs.Best.{IsNoLess, IsSound, total_of}
+use Rattle.gl_goal.specs.declared.best.Best.{Best}
 use Rattle.gl_plain.specs.declared.machine.Machine.{Machine}
 use Rattle.gl_plain.specs.declared.replayed.Left.{Left}
-use Rattle.gl_plain.specs.declared.schedule.Step.{Step}
+use Rattle.gl_schedule.specs.declared.schedule.Step.{Step}
 use Rattle.gl_plain.specs.declared.worker.Worker as code
 
 -- what workers left after some steps: their open and their closed cells, and a legal tuple that is

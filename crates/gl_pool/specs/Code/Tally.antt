@@ -3,8 +3,8 @@ use Rattle.std.specs.Prelude.{◌≡◌, ℕ, ◌+◌, ◌⊎◌, max, List, ◌
 use Rattle.gl_box.specs.declared.cell.Cell.{Cell}
 use Rattle.gl_box.specs.declared.closed.Closed.{Closed}
 use Rattle.gl_goal.specs.Goal.{Goal}
-use Rattle.gl_plain.specs.declared.found.Best.{Best}
-use Rattle.gl_plain.specs.Search.{IsSound}
+use Rattle.gl_goal.specs.declared.best.Best.{Best}
+use Rattle.gl_goal.specs.Best.{IsSound}
 use Rattle.gl_best.specs.declared.word.BestWord.{BestWord}
 use Rattle.gl_best.specs.Seats.{IsSeatOf, view_of}
 use Rattle.gl_deal.specs.declared.place.Place.{Place}

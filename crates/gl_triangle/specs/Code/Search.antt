@@ -2,8 +2,8 @@
 use Rattle.std.specs.Prelude.{ℕ, ◌≤◌, List, Option, None, Some, All}
 use Rattle.gl_goal.specs.declared.triangle.TriangleGoal.{TriangleGoal}
 use Rattle.gl_goal.specs.TriangleGoal.{triangle_rule}
-use Rattle.gl_plain.specs.declared.found.Best.{Best}
-use Rattle.gl_plain.specs.Search.{IsSound}
+use Rattle.gl_goal.specs.declared.best.Best.{Best}
+use Rattle.gl_goal.specs.Best.{IsSound}
 use Rattle.gl_triangle.specs.declared.node.Node.{Node}
 use Rattle.gl_triangle.specs.declared.order.Order.{Order}
 use Rattle.gl_triangle.specs.Code.Node.{IsNode, NoneHolds, fixes_of}

@@ -3,7 +3,7 @@ use Rattle.std.specs.declared.alloc.Global.{Global}
 use Rattle.std.proofs.lemmas.Result.{err_from_is_err_and}
 use Rattle.gl_desk.specs.Desk.{FilesByName}
 use Rattle.gl_desk.specs.Limits.{most_bytes}
-use Rattle.gl_plain.specs.declared.schedule.Step.{Step}
+use Rattle.gl_schedule.specs.declared.schedule.Step.{Step}
 use Rattle.gl_words.specs.ReplayWords.{replay_seen}
 use Rattle.gl_files.specs.Code.FileTests.{HasReadFile}
 use Rattle.gl_files.specs.FileTests.{ScheduleText}

@@ -1,6 +1,6 @@
 use Rattle.std.proofs.Common.{subst, List, Option, Ok}
 use Rattle.gl_desk.specs.Desk.{FilesByName}
-use Rattle.gl_plain.specs.declared.schedule.Step.{Step}
+use Rattle.gl_schedule.specs.declared.schedule.Step.{Step}
 use Rattle.gl_words.specs.ReplayWords.{replay_seen}
 use Rattle.gl_files.specs.FileTests.{HasTested}
 use Rattle.gl_files.specs.ReplayFiles.{AreReplayRead, IsReplaySeen, replay_tests}

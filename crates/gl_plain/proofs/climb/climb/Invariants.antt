@@ -1,5 +1,5 @@
 use Rattle.std.proofs.Common.{◌≤◌}
-use Rattle.gl_plain.specs.Search.{IsSound}
+use Rattle.gl_goal.specs.Best.{IsSound}
 use Rattle.gl_plain.proofs.climb.climb.Given as goal
 
 abbrev pub invariant-loop-turn : goal.invariant-loop-turn

@@ -1,5 +1,5 @@
 use Rattle.gl_plain.specs.Code.Steps.{AreWithin}
-use Rattle.gl_plain.specs.Search.{IsSound}
+use Rattle.gl_goal.specs.Best.{IsSound}
 use Rattle.gl_plain.proofs.dive.dive.Given as goal
 
 abbrev pub invariant-loop : goal.invariant-loop

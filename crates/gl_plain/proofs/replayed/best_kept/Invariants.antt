@@ -1,6 +1,6 @@
 use Rattle.std.proofs.Common.{map, take}
 use Rattle.std.specs.Prelude.{All, Contains, IfSome, Some}
-use Rattle.gl_plain.specs.Search.{IsNoLess, total_of}
+use Rattle.gl_goal.specs.Best.{IsNoLess, total_of}
 use Rattle.gl_plain.proofs.replayed.best_kept.Given as goal
 
 -- the best so far was kept, and the workers so far kept no better one

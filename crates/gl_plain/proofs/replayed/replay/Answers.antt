@@ -11,7 +11,7 @@ use Rattle.gl_plain.specs.declared.found.Found.{Found}
 use Rattle.gl_plain.specs.declared.replayed.Replayed.{Replayed}
 use Rattle.gl_plain.specs.Order.{AreParts, cells_of}
 use Rattle.gl_plain.proofs.Replays.{certified, left_few, left_nodes, parts_made, replay_made}
-use Rattle.gl_plain.proofs.Stack.{none_exactly}
+use Rattle.gl_goal.proofs.Totals.{none_exactly}
 use Rattle.gl_plain.proofs.replayed.replay.Goals as goal
 
 pub finish-requires-clause-nodes : goal.finish-requires-clause-nodes

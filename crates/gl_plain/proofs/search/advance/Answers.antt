@@ -5,7 +5,7 @@ use Rattle.gl_box.specs.declared.closed.Why.TheVariants.{Bound}
 use Rattle.gl_box.specs.Cell.{Covers, spans_of}
 use Rattle.gl_goal.specs.Goal.{IsOpen, whole_cell}
 use Rattle.gl_goal.specs.Certificate.{IsClosedFor}
-use Rattle.gl_plain.specs.Search.{total_of}
+use Rattle.gl_goal.specs.Best.{total_of}
 use Rattle.gl_plain.specs.Steps.{Closes}
 use Rattle.gl_plain.specs.CellVerdict.{Promises}
 use Rattle.gl_plain.proofs.Stack.{single_reached}

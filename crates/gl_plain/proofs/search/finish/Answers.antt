@@ -1,8 +1,8 @@
 use Rattle.std.proofs.Common.{reverse, map}
 use Rattle.gl_box.specs.Cell.{spans_of}
-use Rattle.gl_plain.specs.Search.{total_of}
+use Rattle.gl_goal.specs.Best.{total_of}
 use Rattle.gl_plain.proofs.Stack.{finished, under_way_start}
-use Rattle.gl_plain.proofs.Totals.{either_sound, less_through}
+use Rattle.gl_goal.proofs.Totals.{either_sound, less_through}
 use Rattle.gl_plain.proofs.search.finish.Goals as goal
 
 pub run-requires : goal.run-requires

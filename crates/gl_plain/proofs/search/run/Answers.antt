@@ -1,5 +1,5 @@
 use Rattle.gl_plain.proofs.Stack.{cells_covered, under_way_on, work_falls}
-use Rattle.gl_plain.proofs.Totals.{less_through}
+use Rattle.gl_goal.proofs.Totals.{less_through}
 use Rattle.gl_plain.proofs.search.run.Goals as goal
 
 pub advance-requires-clause-covers : goal.advance-requires-clause-covers

@@ -1,4 +1,4 @@
-use Rattle.gl_plain.specs.Search.{IsNoLess, total_of}
+use Rattle.gl_goal.specs.Best.{IsNoLess, total_of}
 use Rattle.gl_plain.specs.Code.Steps.{IsUnderWay}
 use Rattle.gl_plain.proofs.search.run.Given as goal
 use Rattle.gl_box.proofs.Work.{work_of}

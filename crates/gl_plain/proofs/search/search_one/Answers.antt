@@ -5,7 +5,8 @@ use Rattle.gl_box.specs.declared.cell.Cell.{Cell}
 use Rattle.gl_goal.specs.Goal.{whole_cell}
 use Rattle.gl_goal.proofs.Optimum.{certificate_optimum}
 use Rattle.gl_walk.specs.InLists.{boxes_in}
-use Rattle.gl_plain.proofs.Stack.{none_exactly, whole_certificate, whole_needed, whole_node}
+use Rattle.gl_goal.proofs.Totals.{none_exactly}
+use Rattle.gl_plain.proofs.Stack.{whole_certificate, whole_needed, whole_node}
 use Rattle.gl_plain.proofs.search.search_one.Goals as goal
 
 pub finish-requires-clause-nodes : goal.finish-requires-clause-nodes

@@ -2,7 +2,7 @@ use Rattle.std.proofs.Common.{◌-◌, length}
 use Rattle.std.specs.Prelude.{All}
 use Rattle.gl_box.specs.Tuple.{places_of}
 use Rattle.gl_goal.specs.Goal.{IsTuple}
-use Rattle.gl_plain.specs.Search.{IsSound}
+use Rattle.gl_goal.specs.Best.{IsSound}
 use Rattle.gl_plain.proofs.spaced.+extend.Given as goal
 
 -- each level chooses a place on one more axis

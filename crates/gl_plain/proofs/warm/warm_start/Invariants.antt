@@ -1,5 +1,5 @@
 use Rattle.std.specs.Prelude.{All}
-use Rattle.gl_plain.specs.Search.{IsSound}
+use Rattle.gl_goal.specs.Best.{IsSound}
 use Rattle.gl_plain.proofs.warm.warm_start.Given as goal
 
 abbrev pub invariant-loop-best : goal.invariant-loop-best

@@ -6,7 +6,7 @@ use Rattle.gl_box.specs.Cell.{spans_of}
 use Rattle.gl_box.specs.Tuple.{places_of}
 use Rattle.gl_goal.specs.Goal.{IsReached}
 use Rattle.gl_goal.specs.Certificate.{IsClosedFor}
-use Rattle.gl_plain.specs.declared.found.Best.{Best}
+use Rattle.gl_goal.specs.declared.best.Best.{Best}
 use Rattle.gl_plain.specs.Steps.{Closes}
 use Rattle.gl_plain.specs.CellVerdict.{Promises}
 use Rattle.gl_plain.proofs.Stack.{single_reached}

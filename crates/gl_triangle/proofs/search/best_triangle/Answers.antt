@@ -1,5 +1,5 @@
 use Rattle.gl_goal.specs.TriangleGoal.{triangle_rule}
-use Rattle.gl_plain.proofs.Stack.{none_exactly}
+use Rattle.gl_goal.proofs.Totals.{none_exactly}
 use Rattle.gl_triangle.specs.declared.order.Order.TheVariants.{InTime}
 use Rattle.gl_triangle.proofs.Nodes.{ends}
 use Rattle.gl_triangle.proofs.search.best_triangle.Goals as goal

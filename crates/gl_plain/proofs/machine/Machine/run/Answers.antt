@@ -1,6 +1,6 @@
 use Rattle.std.proofs.Common.{sym, subst, List}
 use Rattle.std.proofs.lemmas.List.{drop_more}
-use Rattle.gl_plain.specs.declared.schedule.Step.{Step}
+use Rattle.gl_schedule.specs.declared.schedule.Step.{Step}
 use Rattle.gl_plain.specs.Machine.{Runs}
 use Rattle.gl_plain.specs.Code.Workers.{state_of}
 use Rattle.gl_plain.proofs.Machines.{moves_safe}

@@ -2,10 +2,10 @@
 use Rattle.std.specs.Prelude.{◌≡◌, ◌≢◌, ℕ, ◌+◌, ◌^◌, ◌<◌, ◌≤◌, List, ◌∷◌, ◌++◌, length, map, codes, All}
 use Rattle.std.specs.Fmt.{decimal}
 use Rattle.gl_text.specs.Lines.{lines_of}
-use Rattle.gl_plain.specs.declared.error.StepError.{StepError}
-use Rattle.gl_plain.specs.declared.error.StepError.TheVariants.{Line, TooMany, Memory}
-use Rattle.gl_plain.specs.declared.schedule.Step.{Step}
-use Rattle.gl_plain.specs.declared.schedule.Step.TheVariants.{Take, Steal, Split, Close, Look, Raise}
+use Rattle.gl_schedule.specs.declared.error.StepError.{StepError}
+use Rattle.gl_schedule.specs.declared.error.StepError.TheVariants.{Line, TooMany, Memory}
+use Rattle.gl_schedule.specs.declared.schedule.Step.{Step}
+use Rattle.gl_schedule.specs.declared.schedule.Step.TheVariants.{Take, Steal, Split, Close, Look, Raise}
 
 -- the line of a step: its word and the numbers of its workers, one space, the byte 32, between
 abbrev pub line_of : Step → List ℕ

@@ -1,5 +1,5 @@
 ghost use Rattle.std.specs.Prelude.{◌≡◌};
-ghost use Rattle.gl_plain.specs.declared.error.StepError.TheVariants.{Memory};
+ghost use Rattle.gl_schedule.specs.declared.error.StepError.TheVariants.{Memory};
 
 use std::alloc::{AllocError, AllocFailed};
 use thiserror::Error;

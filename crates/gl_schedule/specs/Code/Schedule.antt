@@ -1,7 +1,7 @@
 -- The line of a step, cut at its spaces.
 use Rattle.std.specs.Prelude.{◌≡◌, ℕ, List}
-use Rattle.gl_plain.specs.declared.schedule.Step.{Step}
-use Rattle.gl_plain.specs.Schedule.{IsStep, line_of}
+use Rattle.gl_schedule.specs.declared.schedule.Step.{Step}
+use Rattle.gl_schedule.specs.Schedule.{IsStep, line_of}
 
 -- a line is that of a step
 pub record IsLineOf (line : List ℕ) (step : Step) : Type 0 where

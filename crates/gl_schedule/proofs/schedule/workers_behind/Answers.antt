@@ -1,7 +1,7 @@
 use Rattle.std.proofs.Common.{◌∙◌, ◌++◌, ◌∷◌, append_assoc}
 use Rattle.std.specs.Fmt.{decimal}
-use Rattle.gl_plain.proofs.StepLines.{workers_front, workers_joined, workers_parted}
-use Rattle.gl_plain.proofs.schedule.workers_behind.Goals as goal
+use Rattle.gl_schedule.proofs.StepLines.{workers_front, workers_joined, workers_parted}
+use Rattle.gl_schedule.proofs.schedule.workers_behind.Goals as goal
 
 pub returns-in_err-behind : goal.returns-in_err-behind
 returns-in_err-behind c = rw c.from_residual.ensures (λ worker other small small_other same.

@@ -6,12 +6,12 @@ use Rattle.std.specs.Fmt.{decimal}
 use Rattle.std.proofs.lemmas.Fmt.{decimal_by_steps, decimal_injective}
 use Rattle.std.proofs.lemmas.List.{append-nil, append_cancel_left, length-append, length-map}
 use Rattle.std.proofs.lemmas.List.Elements.{All-cons, All-head, All-nil, All-push, All-tail}
-use Rattle.gl_plain.specs.declared.error.StepError.{StepError}
-use Rattle.gl_plain.specs.declared.error.StepError.TheVariants.{Line, TooMany, Memory}
-use Rattle.gl_plain.specs.declared.schedule.Step.{Step}
-use Rattle.gl_plain.specs.declared.schedule.Step.TheVariants.{Take, Steal, Split, Close, Look, Raise}
+use Rattle.gl_schedule.specs.declared.error.StepError.{StepError}
+use Rattle.gl_schedule.specs.declared.error.StepError.TheVariants.{Line, TooMany, Memory}
+use Rattle.gl_schedule.specs.declared.schedule.Step.{Step}
+use Rattle.gl_schedule.specs.declared.schedule.Step.TheVariants.{Take, Steal, Split, Close, Look, Raise}
 use Rattle.gl_text.specs.Spaces.{IsSpaced}
-use Rattle.gl_plain.specs.Schedule.{IsRefused, IsSchedule, IsStep, ReadsNot, line_of}
+use Rattle.gl_schedule.specs.Schedule.{IsRefused, IsSchedule, IsStep, ReadsNot, line_of}
 use Rattle.gl_text.proofs.Characters.{first_space}
 
 -- a number is written without a space

@@ -1,12 +1,12 @@
 use Rattle.std.proofs.Common.{◌≡◌, refl, ap, inl, inr, ℕ, List, Result, Ok, Err, Vec, Global}
 use Rattle.std.specs.Prelude.{◌⊎◌, IfErr, IfOk, IsErrOf}
 use Rattle.std.proofs.lemmas.Result.{MatchResult-from_both, IfErr-weaker, IfOk-weaker}
-use Rattle.gl_plain.specs.declared.error.StepError.{StepError}
-use Rattle.gl_plain.specs.declared.error.StepError.TheVariants.{Line, TooMany, Memory}
-use Rattle.gl_plain.specs.declared.schedule.Step.{Step}
-use Rattle.gl_plain.specs.Schedule.{IsRefused, IsSchedule}
-use Rattle.gl_plain.proofs.StepLines.{refused_unique, schedule_refused, schedule_told, schedule_unique}
-use Rattle.gl_plain.proofs.schedule.read_steps.Goals as goal
+use Rattle.gl_schedule.specs.declared.error.StepError.{StepError}
+use Rattle.gl_schedule.specs.declared.error.StepError.TheVariants.{Line, TooMany, Memory}
+use Rattle.gl_schedule.specs.declared.schedule.Step.{Step}
+use Rattle.gl_schedule.specs.Schedule.{IsRefused, IsSchedule}
+use Rattle.gl_schedule.proofs.StepLines.{refused_unique, schedule_refused, schedule_told, schedule_unique}
+use Rattle.gl_schedule.proofs.schedule.read_steps.Goals as goal
 
 pub returns-clause-only : goal.returns-clause-only
 returns-clause-only c = λ steps of.

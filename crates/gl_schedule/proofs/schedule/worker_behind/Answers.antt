@@ -1,6 +1,6 @@
 use Rattle.std.specs.Fmt.{decimal}
-use Rattle.gl_plain.proofs.StepLines.{worker_front}
-use Rattle.gl_plain.proofs.schedule.worker_behind.Goals as goal
+use Rattle.gl_schedule.proofs.StepLines.{worker_front}
+use Rattle.gl_schedule.proofs.schedule.worker_behind.Goals as goal
 
 pub returns-in_err-behind : goal.returns-in_err-behind
 returns-in_err-behind c = rw c.from_residual.ensures (λ worker small. c.in_err-behind.ensures (decimal worker))

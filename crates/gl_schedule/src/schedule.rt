@@ -1,10 +1,10 @@
 ghost use Rattle.std.specs.Prelude.{◌≡◌, ◌≢◌, ◌⊎◌, ◌^◌, ◌++◌, ◌∷◌, ◌<◌, ℕ, List, IfOk, IfErr, IsErrOf, MatchOption, MatchResult};
 ghost use Rattle.std.specs.Fmt.{decimal};
-ghost use Rattle.gl_plain.specs.declared.error.StepError.{StepError};
-ghost use Rattle.gl_plain.specs.declared.error.StepError.TheVariants.{Memory};
-ghost use Rattle.gl_plain.specs.declared.schedule.Step.{Step};
-ghost use Rattle.gl_plain.specs.Code.Schedule.{IsLineOf};
-ghost use Rattle.gl_plain.specs.Schedule.{IsRefused, IsSchedule, ReadsNot};
+ghost use Rattle.gl_schedule.specs.declared.error.StepError.{StepError};
+ghost use Rattle.gl_schedule.specs.declared.error.StepError.TheVariants.{Memory};
+ghost use Rattle.gl_schedule.specs.declared.schedule.Step.{Step};
+ghost use Rattle.gl_schedule.specs.Code.Schedule.{IsLineOf};
+ghost use Rattle.gl_schedule.specs.Schedule.{IsRefused, IsSchedule, ReadsNot};
 
 use crate::error::StepError;
 use gl_text::{next_line, part_at_space, read_u64};

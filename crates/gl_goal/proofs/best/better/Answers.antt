@@ -1,9 +1,9 @@
 use Rattle.std.proofs.Common.{◌∙◌, sym, subst, Option}
 use Rattle.std.proofs.lemmas.Bool.{false≢true}
-use Rattle.gl_plain.specs.declared.found.Best.{Best}
-use Rattle.gl_plain.specs.Search.{IsNoLess, total_of}
-use Rattle.gl_plain.proofs.Totals.{beaten_less, unbeaten_less}
-use Rattle.gl_plain.proofs.found.better.Goals as goal
+use Rattle.gl_goal.specs.declared.best.Best.{Best}
+use Rattle.gl_goal.specs.Best.{IsNoLess, total_of}
+use Rattle.gl_goal.proofs.Totals.{beaten_less, unbeaten_less}
+use Rattle.gl_goal.proofs.best.better.Goals as goal
 
 pub returns-in-Some-clause-no_less : goal.returns-in-Some-clause-no_less
 returns-in-Some-clause-no_less c = beaten_less c.args.one c.in-Some.known.total (c.beats.ensures.0 c.if-beats.true)

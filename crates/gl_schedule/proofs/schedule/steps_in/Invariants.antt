@@ -1,8 +1,8 @@
 use Rattle.std.proofs.Common.{◌≡◌, ◌-◌, ◌++◌, ◌≤◌, length, drop, map}
 use Rattle.std.specs.Prelude.{All}
 use Rattle.gl_text.specs.Lines.{lines_of}
-use Rattle.gl_plain.specs.Schedule.{IsStep, line_of}
-use Rattle.gl_plain.proofs.schedule.steps_in.Given as goal
+use Rattle.gl_schedule.specs.Schedule.{IsStep, line_of}
+use Rattle.gl_schedule.proofs.schedule.steps_in.Given as goal
 
 -- the lines so far are those of the steps
 abbrev pub invariant-lines : goal.invariant-lines
