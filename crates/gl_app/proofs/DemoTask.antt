@@ -63,8 +63,8 @@ demo_document = record { utf8 = IsUtf8-from_is_utf8 task_text demo_utf8; reads =
 
 -- it passes all tests
 pub demo_table_passes : first_failed (tests demo_table) ≡ None
-unfolding toml_on_literals task_text demo_table tests plan_tests head_tests course_tests way_tests people_tests numbered_tests day_tests word_tests lists_tests start_tests time_tests pilot_tests part_tests
-    zone_tests zones_tests finish_tests rules_tests entrant_tests entrants_tests day_of recent_day kind_of list_word_of grid_at grid_of_text is_same_vector other_point number_of day_number
+unfolding toml_on_literals task_text demo_table tests plan_tests head_tests course_tests way_tests people_tests numbered_tests day_tests word_tests lists_tests start_tests time_tests pilot_tests
+    part_tests zone_tests zones_tests finish_tests rules_tests entrant_tests entrants_tests day_of recent_day kind_of list_word_of grid_at grid_of_text is_same_vector other_point number_of day_number
     is_in_calendar angle_of latitude_of longitude_of place_of_text signed_by written_vector written_x written_y written_z product scaled with_sign_of half_turn_sine quarter_sine radians sine_sum
     sine_term written_cosine written_sine is_file_name
 demo_table_passes = refl

@@ -1,5 +1,5 @@
--- The keys of a task file: the row of each in docs/task-file.md, its name, and what its value has to
--- be. The tests of a file and what a task says of it both stand on these.
+-- The keys of a task file: the row of each in docs/task-file.md, its name, and what its value has
+-- to be. The tests of a file and what a task says of it both stand on these.
 use Rattle.std.specs.Prelude.{ℕ, max, codes, List, Option, is_some, Bool, ℤ}
 use Rattle.toml.specs.Data.{Data, Members, as_table, get_member}
 use Rattle.gl_sphere.specs.declared.place.Grid.{Grid}
