@@ -1,5 +1,5 @@
 -- What is gathered from workers, one after another.
-use Rattle.std.proofs.Common.{◌≡◌, ◌∙◌, sym, ap, subst, inl, inr, ℕ, ◌+◌, ◌<◌, ◌≤◌, List, [], ◌∷◌, ◌++◌, length, get_or, map, take, arith}
+use Rattle.std.proofs.Common.{◌≡◌, ◌∙◌, sym, ap, subst, inl, inr, ℕ, ◌+◌, ◌<◌, ◌≤◌, List, [], ◌∷◌, ◌++◌, length, get_or, map, take, append_assoc, arith}
 use Rattle.std.specs.Prelude.{◌⊎◌, All, Contains, IfSome, Option, Some, None}
 use Rattle.std.specs.List.{flat_map}
 use Rattle.std.proofs.lemmas.Grind.{flat_map-append}
@@ -7,27 +7,22 @@ use Rattle.std.proofs.lemmas.List.{append-nil, get_or-map, length-map, map-appen
 use Rattle.std.proofs.lemmas.List.Elements.{All-append, All-head, All-nil, All-push, All-tail, All-weaker, Contains-get_or}
 use Rattle.gl_goal.specs.declared.best.Best.{Best}
 use Rattle.gl_plain.specs.declared.worker.Worker as code
-use Rattle.gl_plain.specs.Machine.{Worker}
 use Rattle.gl_goal.specs.Best.{IsNoLess, total_of}
-use Rattle.gl_plain.specs.Code.Workers.{worker_of, workers_of}
 use Rattle.gl_goal.proofs.Totals.{less_through}
 
 -- what comes from one worker more
 
-pub gathered_more : {X : Type 0} (f : Worker → List X) (workers : List code.Worker) (i : ℕ) (worker : code.Worker) (old new : List X) → i < length workers → worker ≡ get_or workers i worker
-    → old ≡ flat_map f (workers_of (take i workers)) → new ≡ old ++ f (worker_of worker) → new ≡ flat_map f (workers_of (take (i + 1) workers))
+pub gathered_more : {X : Type 0} (f : code.Worker → List X) (workers : List code.Worker) (i : ℕ) (worker : code.Worker) (old new : List X) → i < length workers → worker ≡ get_or workers i worker
+    → old ≡ flat_map f (take i workers) → new ≡ old ++ f worker → new ≡ flat_map f (take (i + 1) workers)
 gathered_more {X} f workers i worker old new below is so_far more =
-    let last = worker_of worker in
-    let longer : workers_of (take (i + 1) workers) ≡ workers_of (take i workers) ++ last ∷ [] =
-    ap workers_of (take_more workers i worker below ∙ ap (λ (w : code.Worker). take i workers ++ w ∷ []) (sym is)) ∙ map-append worker_of (take i workers) (worker ∷ []) in
-    more ∙ ap (λ (xs : List X). xs ++ f last) so_far
-    ∙ ap (λ (xs : List X). flat_map f (workers_of (take i workers)) ++ xs) (sym (append-nil (f last)))
-    ∙ sym (flat_map-append f (workers_of (take i workers)) (last ∷ []))
+    let longer : take (i + 1) workers ≡ take i workers ++ worker ∷ [] = take_more workers i worker below ∙ ap (λ (w : code.Worker). take i workers ++ w ∷ []) (sym is) in
+    more ∙ ap (λ (xs : List X). xs ++ f worker) so_far
+    ∙ ap (λ (xs : List X). flat_map f (take i workers) ++ xs) (sym (append-nil (f worker)))
+    ∙ sym (flat_map-append f (take i workers) (worker ∷ []))
     ∙ ap (flat_map f) (sym longer)
 
-pub gathered_all : {X : Type 0} (f : Worker → List X) (workers : List code.Worker) (i : ℕ) (all : List X) → length workers ≤ i → all ≡ flat_map f (workers_of (take i workers))
-    → all ≡ flat_map f (workers_of workers)
-gathered_all f workers i all past so_far = so_far ∙ ap (λ (ws : List code.Worker). flat_map f (workers_of ws)) (take_all i workers past)
+pub gathered_all : {X : Type 0} (f : code.Worker → List X) (workers : List code.Worker) (i : ℕ) (all : List X) → length workers ≤ i → all ≡ flat_map f (take i workers) → all ≡ flat_map f workers
+gathered_all f workers i all past so_far = so_far ∙ ap (flat_map f) (take_all i workers past)
 
 -- what was kept
 
@@ -68,3 +63,14 @@ all_flat P f [] all = All-nil P
 all_flat {X} P f (x ∷ xs) all =
     let Q : X → Type 0 = λ x. All P (f x) in
     All-append P (f x) (flat_map f xs) (All-head Q x xs all) (all_flat P f xs (All-tail Q x xs all))
+
+-- what stands behind others, one after another
+pub mapped_more : {A B : Type 0} (f : A → B) (xs : List A) (i : ℕ) (x : A) (start old new : List B) → i < length xs → x ≡ get_or xs i x → old ≡ start ++ map f (take i xs) → new ≡ old ++ f x ∷ []
+    → new ≡ start ++ map f (take (i + 1) xs)
+mapped_more {A} {B} f xs i x start old new below is so_far more =
+    let longer : map f (take (i + 1) xs) ≡ map f (take i xs) ++ f x ∷ [] =
+    ap (map f) (take_more xs i x below ∙ ap (λ (y : A). take i xs ++ y ∷ []) (sym is)) ∙ map-append f (take i xs) (x ∷ []) in
+    more ∙ ap (λ (ys : List B). ys ++ f x ∷ []) so_far ∙ append_assoc start (map f (take i xs)) (f x ∷ []) ∙ ap (λ (ys : List B). start ++ ys) (sym longer)
+
+pub mapped_all : {A B : Type 0} (f : A → B) (xs : List A) (i : ℕ) (start all : List B) → length xs ≤ i → all ≡ start ++ map f (take i xs) → all ≡ start ++ map f xs
+mapped_all {A} {B} f xs i start all past so_far = so_far ∙ ap (λ (ys : List A). start ++ map f ys) (take_all i xs past)

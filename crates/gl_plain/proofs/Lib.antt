@@ -1,5 +1,6 @@
 pub mod Flat
 pub mod Gathered
+pub mod GivenWay
 pub mod Kept
 pub mod Machines
 pub mod Outcome

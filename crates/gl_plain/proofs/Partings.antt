@@ -1,5 +1,5 @@
 -- Cells that part a whole: they are the whole alone, or each lies in one of its halves, and those in a half part it.
-use Rattle.std.proofs.Common.{◌≡◌, ◌≢◌, ◌∙◌, sym, ap, refl, subst, ℕ, zero, suc, ◌+◌, ◌<◌, ◌≤◌, Bool, true, false, cond, ◌⊎◌, inl, inr, List, [], ◌∷◌, ◌++◌, length, get_or, take, drop, map, Option, arith}
+use Rattle.std.proofs.Common.{◌≡◌, ◌≢◌, ◌∙◌, sym, ap, refl, subst, ℕ, zero, suc, ◌+◌, ◌-◌, ◌/◌, ◌<◌, ◌≤◌, Bool, true, false, cond, ◌⊎◌, inl, inr, List, [], ◌∷◌, ◌++◌, length, get_or, take, drop, map, Option, arith}
 use Rattle.std.specs.Prelude.{All}
 use Rattle.std.specs.List.{SwappedAt}
 use Rattle.std.proofs.lemmas.Bool.{cases_order}
@@ -12,13 +12,14 @@ use Rattle.gl_box.specs.declared.span.Span.{Span}
 use Rattle.gl_box.specs.declared.cell.Cell.{Cell}
 use Rattle.gl_box.specs.declared.closed.Closed.{Closed}
 use Rattle.gl_box.specs.Cell.{Covers, Holds, ends, holds, spans_of}
-use Rattle.gl_box.specs.Halves.{AreHalves, IsHalf, IsSingle}
+use Rattle.gl_box.specs.Halves.{AreHalves, IsHalf, IsSingle, span_at}
 use Rattle.gl_box.specs.Frontier.{IsFrontier, IsNode, mult}
 use Rattle.gl_box.specs.Frontier.IsFrontier.{alone, parted}
 use Rattle.gl_box.specs.Frontier.IsNode.{whole, half}
 use Rattle.gl_box.proofs.Held.{holds_whole}
 use Rattle.gl_box.proofs.Nodes.{covers_lower, covers_node, covers_upper, holds_through, member_node}
 use Rattle.gl_box.proofs.Parts.{halves_parted, mult-append, mult-held}
+use Rattle.gl_box.proofs.Singles.{AreOrdered, ordered-set}
 use Rattle.gl_box.proofs.Spans.{single-narrow}
 use Rattle.gl_box.specs.Closed.{box_of}
 use Rattle.gl_goal.specs.Goal.{Goal, whole_cell}
@@ -59,20 +60,45 @@ node-single _ _ single (half cell node part below is_half) =
 abbrev pub HasTuple : List (ℕ × ℕ) → Type 0
 HasTuple cell = (tuple : List ℕ) × Holds cell tuple
 
-spans_held : (spans : List Span) → HasTuple (map ends spans)
-spans_held [] = ([], refl)
-spans_held (s ∷ ss) =
-    let rest = spans_held ss in
-    (s.lo ∷ rest.0, holds_whole (ends s) (map ends ss) s.lo rest.0 (omega arith) (omega (arith, s.ordered)) rest.1)
+spans_ordered : (spans : List Span) → AreOrdered (map ends spans)
+unfolding AreOrdered
+spans_ordered [] = tt
+spans_ordered (s ∷ ss) = (s.ordered, spans_ordered ss)
 
-pub cell_held : (cell : Cell) → HasTuple (spans_of cell)
-cell_held cell = spans_held (take cell.axes cell.spans)
+ordered_held : (cell : List (ℕ × ℕ)) → AreOrdered cell → HasTuple cell
+unfolding AreOrdered
+ordered_held [] ordered = ([], refl)
+ordered_held (s ∷ ss) ordered =
+    let rest = ordered_held ss ordered.1 in
+    (s.0 ∷ rest.0, holds_whole s ss s.0 rest.0 (omega arith) ordered.0 rest.1)
 
--- each box has a tuple
-pub boxes_held : (boxes : List Closed) → All HasTuple (cells_of boxes)
-boxes_held [] k d below = absurd (omega arith)
-boxes_held (box ∷ boxes) zero d below = cell_held box.cell
-boxes_held (box ∷ boxes) (suc k) d below = boxes_held boxes k d (omega arith)
+cell_held : (cell : Cell) → HasTuple (spans_of cell)
+cell_held cell = ordered_held (spans_of cell) (spans_ordered (take cell.axes cell.spans))
+
+low_half : (lo hi : ℕ) → 0 < hi - lo → lo ≤ (lo + hi) / 2
+low_half lo hi wide = omega arith
+
+high_half : (lo hi : ℕ) → 0 < hi - lo → (lo + hi) / 2 + 1 ≤ hi
+high_half lo hi wide = omega arith
+
+ordered_half : (cell part : List (ℕ × ℕ)) → IsHalf cell part → AreOrdered cell → AreOrdered part
+ordered_half cell part is_half ordered =
+    let halves = is_half.halves in
+    let span = span_at cell halves.axis in
+    let middle = (span.0 + span.1) / 2 in
+    elim is_half.either [
+      | inl low ↦ subst AreOrdered (sym (low ∙ halves.lower_is)) (ordered-set cell halves.axis (span.0, middle) ordered (low_half span.0 span.1 halves.wide))
+      | inr high ↦ subst AreOrdered (sym (high ∙ halves.upper_is)) (ordered-set cell halves.axis (middle + 1, span.1) ordered (high_half span.0 span.1 halves.wide))
+    ]
+
+ordered_node : (cell node : List (ℕ × ℕ)) → IsNode cell node → AreOrdered cell → AreOrdered node
+ordered_node _ _ (whole cell) ordered = ordered
+ordered_node _ _ (half cell node part below is_half) ordered = ordered_half node part is_half (ordered_node cell node below ordered)
+
+-- each of the cells that part a whole has a tuple
+parts_held : (cell : Cell) (cells : List (List (ℕ × ℕ))) → AreParts (spans_of cell) cells → All HasTuple cells
+parts_held cell cells parts = λ k d below.
+    ordered_held (get_or cells k d) (ordered_node (spans_of cell) (get_or cells k d) (parts.nodes k d below) (spans_ordered (take cell.axes cell.spans)))
 
 -- 1 where a test holds, and else 0
 abbrev counted : Bool → ℕ
@@ -265,17 +291,13 @@ parts-one cell lower upper (part ∷ []) parts halves low high one = elim (node_
 ]
 parts-one cell lower upper (part ∷ (other ∷ cells)) parts halves low high one = absurd (omega arith)
 
--- the cell of a box
-abbrev cell_of : Closed → List (ℕ × ℕ)
-cell_of box = spans_of box.cell
-
 -- of the boxes at some places, those with P come first and the others have none of it
-pub record PartedAt (P : Closed → Type 0) (boxes : List Closed) (count place : ℕ) : Type 0 where
-  pub front : (k : ℕ) (d : Closed) → k < count → P (get_or boxes k d)
-  pub back : (k : ℕ) (d : Closed) → count ≤ k → k < place → P (get_or boxes k d) → ⊥
+pub record PartedAt {B : Type 0} (P : B → Type 0) (boxes : List B) (count place : ℕ) : Type 0 where
+  pub front : (k : ℕ) (d : B) → k < count → P (get_or boxes k d)
+  pub back : (k : ℕ) (d : B) → count ≤ k → k < place → P (get_or boxes k d) → ⊥
 
 -- one more box with P changes places with the first that has none of it
-pub parted_swap : (P : Closed → Type 0) (boxes after : List Closed) (count place : ℕ) → SwappedAt boxes after count place → count ≤ place → ((d : Closed) → P (get_or boxes place d))
+pub parted_swap : {B : Type 0} (P : B → Type 0) (boxes after : List B) (count place : ℕ) → SwappedAt boxes after count place → count ≤ place → ((d : B) → P (get_or boxes place d))
     → PartedAt P boxes count place → PartedAt P after (count + 1) (place + 1)
 parted_swap P boxes after count place swapped order here parted_ = record {
   front = λ k d below. elim (cases_order k count) [
@@ -301,7 +323,7 @@ parted_swap P boxes after count place swapped order here parted_ = record {
 }
 
 -- one more box without P stays where it is
-pub parted_stay : (P : Closed → Type 0) (boxes : List Closed) (count place : ℕ) → ((d : Closed) → P (get_or boxes place d) → ⊥) → PartedAt P boxes count place → PartedAt P boxes count (place + 1)
+pub parted_stay : {B : Type 0} (P : B → Type 0) (boxes : List B) (count place : ℕ) → ((d : B) → P (get_or boxes place d) → ⊥) → PartedAt P boxes count place → PartedAt P boxes count (place + 1)
 parted_stay P boxes count place here parted_ = record {
   front = parted_.front;
   back = λ k d from below has. elim (cases_order k place) [
@@ -314,22 +336,22 @@ parted_stay P boxes count place here parted_ = record {
 }
 
 -- once all boxes were looked at
-pub parted_front : (P : Closed → Type 0) (boxes : List Closed) (count place : ℕ) → PartedAt P boxes count place → All P (take count boxes)
+pub parted_front : {B : Type 0} (P : B → Type 0) (boxes : List B) (count place : ℕ) → PartedAt P boxes count place → All P (take count boxes)
 parted_front P boxes count place parted_ k d below =
     let inside : k < count = omega (arith, length-take count boxes) in
     subst P (sym (get_or-take count boxes k d inside)) (parted_.front k d inside)
 
-pub parted_back : (P : Closed → Type 0) (boxes : List Closed) (count place : ℕ) → length boxes ≤ place → PartedAt P boxes count place → All (λ box. P box → ⊥) (drop count boxes)
+pub parted_back : {B : Type 0} (P : B → Type 0) (boxes : List B) (count place : ℕ) → length boxes ≤ place → PartedAt P boxes count place → All (λ box. P box → ⊥) (drop count boxes)
 parted_back P boxes count place all parted_ k d below has =
     parted_.back (count + k) d (omega arith) (omega (arith, length-drop count boxes)) (subst P (get_or-drop count boxes k d) has)
 
 -- boxes that part a whole do so in any order
-pub parts-permutation : (all : List (ℕ × ℕ)) (boxes after : List Closed) → IsPermutation boxes after → AreParts all (cells_of boxes) → AreParts all (cells_of after)
-parts-permutation all boxes after same parts =
-    let mapped = IsPermutation-map cell_of boxes after same in
+pub parts-permutation : {B : Type 0} (cell : B → List (ℕ × ℕ)) (all : List (ℕ × ℕ)) (boxes after : List B) → IsPermutation boxes after → AreParts all (map cell boxes) → AreParts all (map cell after)
+parts-permutation cell all boxes after same parts =
+    let mapped = IsPermutation-map cell boxes after same in
     record {
-      nodes = All-permutation (IsNode all) (cells_of boxes) (cells_of after) mapped parts.nodes;
-      once = λ tuple held. sum_by-IsPermutation (λ (c : List (ℕ × ℕ)). counted (holds c tuple)) (cells_of boxes) (cells_of after) mapped ∙ parts.once tuple held;
+      nodes = All-permutation (IsNode all) (map cell boxes) (map cell after) mapped parts.nodes;
+      once = λ tuple held. sum_by-IsPermutation (λ (c : List (ℕ × ℕ)). counted (holds c tuple)) (map cell boxes) (map cell after) mapped ∙ parts.once tuple held;
     }
 
 -- a frontier parts its cell
@@ -339,51 +361,54 @@ frontier_parts cell cells frontier = record {
   once = λ tuple held. mult-held cell cells tuple frontier held;
 }
 
-length-cells : (boxes : List Closed) → length boxes ≢ 1 → length (cells_of boxes) ≢ 1
-length-cells boxes more one = more (sym (length-map boxes cell_of) ∙ one)
+-- what holds of boxes, each of which stands for a cell
+module _ {B : Type 0} (of : B → List (ℕ × ℕ)) where
+  length-cells : (boxes : List B) → length boxes ≢ 1 → length (map of boxes) ≢ 1
+  length-cells boxes more one = more (sym (length-map boxes of) ∙ one)
 
--- where the first boxes are a frontier of the lower half, the others part the upper one
-pub boxes_passed : (cell lower upper : Cell) (boxes back : List Closed) (count : ℕ) → AreParts (spans_of cell) (cells_of boxes) → length boxes ≢ 1
-    → AreHalves (spans_of cell) (spans_of lower) (spans_of upper) → IsFrontier (spans_of lower) (take count (cells_of boxes)) → back ≡ drop count boxes → AreParts (spans_of upper) (cells_of back)
-boxes_passed cell lower upper boxes back count parts more halves frontier is =
-    let rest = parts_passed (spans_of cell) (spans_of lower) (spans_of upper) (cells_of boxes) count parts (boxes_held boxes) (length-cells boxes more) halves frontier in
-    subst (AreParts (spans_of upper)) (drop-map cell_of count boxes ∙ ap cells_of (sym is)) rest
+  -- where the first boxes are a frontier of the lower half, the others part the upper one
+  pub boxes_passed : (cell lower upper : Cell) (boxes back : List B) (count : ℕ) → AreParts (spans_of cell) (map of boxes) → length boxes ≢ 1
+      → AreHalves (spans_of cell) (spans_of lower) (spans_of upper) → IsFrontier (spans_of lower) (take count (map of boxes)) → back ≡ drop count boxes → AreParts (spans_of upper) (map of back)
+  boxes_passed cell lower upper boxes back count parts more halves frontier is =
+      let rest = parts_passed (spans_of cell) (spans_of lower) (spans_of upper) (map of boxes) count parts (parts_held cell (map of boxes) parts) (length-cells boxes more) halves frontier in
+      subst (AreParts (spans_of upper)) (drop-map of count boxes ∙ ap (map of) (sym is)) rest
 
--- boxes of which those that the lower half covers come first
-pub boxes_covered : (cell lower upper : Cell) (boxes after front back : List Closed) (count : ℕ) → AreParts (spans_of cell) (cells_of boxes) → length boxes ≢ 1
-    → AreHalves (spans_of cell) (spans_of lower) (spans_of upper) → IsPermutation boxes after → All (λ (box : Closed). Covers (spans_of lower) (spans_of box.cell)) (take count after)
-    → All (λ (box : Closed). Covers (spans_of lower) (spans_of box.cell) → ⊥) (drop count after) → front ≡ take count after → back ≡ drop count after
-    → AreParts (spans_of lower) (cells_of front) × AreParts (spans_of upper) (cells_of back)
-boxes_covered cell lower upper boxes after front back count parts more halves same covered out front_is back_is =
-    let long : length after ≢ 1 = λ one. more (sym (length_permutation boxes after same) ∙ one) in
-    let low = subst (All (Covers (spans_of lower))) (sym (take-map cell_of count after)) (All-map (Covers (spans_of lower)) cell_of (take count after) covered) in
-    let high = subst (All (λ (c : List (ℕ × ℕ)). Covers (spans_of lower) c → ⊥)) (sym (drop-map cell_of count after))
-    (All-map (λ (c : List (ℕ × ℕ)). Covers (spans_of lower) c → ⊥) cell_of (drop count after) out) in
-    let both = parts_covered (spans_of cell) (spans_of lower) (spans_of upper) (cells_of after) count (parts-permutation (spans_of cell) boxes after same parts) (boxes_held after)
-    (length-cells after long) halves low high in (
-      subst (AreParts (spans_of lower)) (take-map cell_of count after ∙ ap cells_of (sym front_is)) both.0,
-      subst (AreParts (spans_of upper)) (drop-map cell_of count after ∙ ap cells_of (sym back_is)) both.1,
-    )
+  -- boxes of which those that the lower half covers come first
+  pub boxes_covered : (cell lower upper : Cell) (boxes after front back : List B) (count : ℕ) → AreParts (spans_of cell) (map of boxes) → length boxes ≢ 1
+      → AreHalves (spans_of cell) (spans_of lower) (spans_of upper) → IsPermutation boxes after → All (λ box. Covers (spans_of lower) (of box)) (take count after)
+      → All (λ box. Covers (spans_of lower) (of box) → ⊥) (drop count after) → front ≡ take count after → back ≡ drop count after
+      → AreParts (spans_of lower) (map of front) × AreParts (spans_of upper) (map of back)
+  boxes_covered cell lower upper boxes after front back count parts more halves same covered out front_is back_is =
+      let long : length after ≢ 1 = λ one. more (sym (length_permutation boxes after same) ∙ one) in
+      let low = subst (All (Covers (spans_of lower))) (sym (take-map of count after)) (All-map (Covers (spans_of lower)) of (take count after) covered) in
+      let high = subst (All (λ (c : List (ℕ × ℕ)). Covers (spans_of lower) c → ⊥)) (sym (drop-map of count after))
+      (All-map (λ (c : List (ℕ × ℕ)). Covers (spans_of lower) c → ⊥) of (drop count after) out) in
+      let moved = parts-permutation of (spans_of cell) boxes after same parts in
+      let both = parts_covered (spans_of cell) (spans_of lower) (spans_of upper) (map of after) count moved (parts_held cell (map of after) moved)
+      (length-cells after long) halves low high in (
+        subst (AreParts (spans_of lower)) (take-map of count after ∙ ap (map of) (sym front_is)) both.0,
+        subst (AreParts (spans_of upper)) (drop-map of count after ∙ ap (map of) (sym back_is)) both.1,
+      )
 
--- frontiers of both halves, one behind the other
-pub boxes_joined : (cell lower upper : Cell) (front back : List Closed) → AreHalves (spans_of cell) (spans_of lower) (spans_of upper) → IsFrontier (spans_of lower) (cells_of front)
-    → IsFrontier (spans_of upper) (cells_of back) → IsFrontier (spans_of cell) (cells_of (front ++ back))
-boxes_joined cell lower upper front back halves low high = parted (spans_of cell) (spans_of lower) (spans_of upper) (cells_of front) (cells_of back) (cells_of (front ++ back)) halves low high
-    (map-append cell_of front back)
+  -- frontiers of both halves, one behind the other
+  pub boxes_joined : (cell lower upper : Cell) (front back : List B) → AreHalves (spans_of cell) (spans_of lower) (spans_of upper) → IsFrontier (spans_of lower) (map of front)
+      → IsFrontier (spans_of upper) (map of back) → IsFrontier (spans_of cell) (map of (front ++ back))
+  boxes_joined cell lower upper front back halves low high = parted (spans_of cell) (spans_of lower) (spans_of upper) (map of front) (map of back) (map of (front ++ back)) halves low high
+      (map-append of front back)
 
-pub boxes_single : (cell : Cell) (boxes : List Closed) → AreParts (spans_of cell) (cells_of boxes) → IsSingle (spans_of cell) → IsFrontier (spans_of cell) (cells_of boxes)
-boxes_single cell boxes parts single = parts-single (spans_of cell) (cells_of boxes) parts single (cell_held cell)
+  pub boxes_single : (cell : Cell) (boxes : List B) → AreParts (spans_of cell) (map of boxes) → IsSingle (spans_of cell) → IsFrontier (spans_of cell) (map of boxes)
+  boxes_single cell boxes parts single = parts-single (spans_of cell) (map of boxes) parts single (cell_held cell)
 
-pub boxes_one : (cell lower upper : Cell) (boxes : List Closed) → AreParts (spans_of cell) (cells_of boxes) → AreHalves (spans_of cell) (spans_of lower) (spans_of upper) → length boxes ≡ 1
-    → IsFrontier (spans_of cell) (cells_of boxes)
-boxes_one cell lower upper boxes parts halves one = parts-one (spans_of cell) (spans_of lower) (spans_of upper) (cells_of boxes) parts halves (cell_held lower) (cell_held upper)
-    (length-map boxes cell_of ∙ one)
+  pub boxes_one : (cell lower upper : Cell) (boxes : List B) → AreParts (spans_of cell) (map of boxes) → AreHalves (spans_of cell) (spans_of lower) (spans_of upper) → length boxes ≡ 1
+      → IsFrontier (spans_of cell) (map of boxes)
+  boxes_one cell lower upper boxes parts halves one = parts-one (spans_of cell) (spans_of lower) (spans_of upper) (map of boxes) parts halves (cell_held lower) (cell_held upper)
+      (length-map boxes of ∙ one)
 
 -- boxes that certify a total, in any order, part the cell that they certify
 pub certified_parts : (rule : Goal) (total : Option ℕ) (fixes : List ℕ) (boxes after : List Closed) → IsCertificate rule total fixes (map box_of boxes) → IsPermutation boxes after
     → AreParts (whole_cell rule.axes) (cells_of after)
 certified_parts rule total fixes boxes after certificate same =
-    parts-permutation (whole_cell rule.axes) boxes after same (frontier_parts (whole_cell rule.axes) (cells_of boxes)
+    parts-permutation (λ (box : Closed). spans_of box.cell) (whole_cell rule.axes) boxes after same (frontier_parts (whole_cell rule.axes) (cells_of boxes)
     (subst (IsFrontier (whole_cell rule.axes)) (map-boxes boxes) certificate.frontier))
 
 -- boxes that are a frontier of the whole cell, as others that were closed for a total, certify that total

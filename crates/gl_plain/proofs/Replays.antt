@@ -1,45 +1,48 @@
 -- What workers leave, searched to its end, is a certificate.
-use Rattle.std.proofs.Common.{◌≡◌, ◌∙◌, sym, ap, refl, subst, ℕ, ◌+◌, ◌<◌, ◌≤◌, List, [], ◌∷◌, ◌++◌, length, get_or, map, reverse, cond, arith}
+use Rattle.std.proofs.Common.{◌≡◌, ◌∙◌, sym, ap, refl, subst, ℕ, ◌+◌, ◌<◌, ◌≤◌, List, [], ◌∷◌, ◌++◌, length, get_or, map, arith}
 use Rattle.std.specs.Prelude.{All, Contains, IfSome, IsPermutation, Option, Some, None, option_map, slice_get}
 use Rattle.std.specs.List.{flat_map, sum_by}
 use Rattle.std.specs.Option.{option_to_list}
-use Rattle.std.proofs.lemmas.List.{get_or-map, length-map, map-append}
+use Rattle.std.proofs.lemmas.Grind.{flat_map-append}
+use Rattle.std.proofs.lemmas.List.{append-nil, get_or-map, length-map, map-append}
 use Rattle.std.proofs.lemmas.List.Elements.{All-append, All-contains, All-cons, All-map, All-nil, All-weaker}
-use Rattle.std.proofs.lemmas.List.Sorted.{All-permutation, Contains-permutation, IsPermutation-append_comm, IsPermutation-map, IsPermutation-reverse, IsPermutation-sym, IsPermutation-trans, sum_by-IsPermutation}
+use Rattle.std.proofs.lemmas.List.Sorted.{All-permutation, Contains-permutation, IsPermutation-append_left, IsPermutation-sym, IsPermutation-trans}
 use Rattle.std.proofs.lemmas.List.Sums.{sum_by-append}
 use Rattle.std.proofs.lemmas.Option.{slice_get-get_or, slice_get_within}
 use Rattle.gl_box.specs.declared.cell.Cell.{Cell}
 use Rattle.gl_box.specs.declared.closed.Closed.{Closed}
 use Rattle.gl_box.specs.declared.closed.Why.{Why}
-use Rattle.gl_box.specs.Cell.{holds, spans_of}
+use Rattle.gl_box.specs.Cell.{spans_of}
 use Rattle.gl_box.specs.Closed.{box_of}
 use Rattle.gl_box.specs.Frontier.{IsFrontier, IsNode, mult}
 use Rattle.gl_box.proofs.Parts.{mult-append}
 use Rattle.gl_goal.specs.Goal.{Goal, IsReached, whole_cell}
-use Rattle.gl_goal.specs.Certificate.{IsClosedFor}
+use Rattle.gl_goal.specs.Certificate.{IsCertificate, IsClosedFor}
 use Rattle.gl_walk.specs.InLists.{boxes_in}
 use Rattle.gl_goal.specs.declared.best.Best.{Best}
-use Rattle.gl_plain.specs.declared.found.Found.{Found}
 use Rattle.gl_plain.specs.declared.search.Finished.{Finished}
 use Rattle.gl_plain.specs.declared.machine.Machine.{Machine}
 use Rattle.gl_plain.specs.declared.replayed.Left.{Left}
 use Rattle.gl_plain.specs.declared.replayed.Replayed.{Replayed}
 use Rattle.gl_schedule.specs.declared.schedule.Step.{Step}
 use Rattle.gl_plain.specs.declared.worker.Worker as code
-use Rattle.gl_plain.specs.Code.Steps.{IsFinished}
-use Rattle.gl_plain.specs.Found.{IsCertified}
+use Rattle.gl_plain.specs.declared.part.Part.{Part}
+use Rattle.gl_plain.specs.declared.part.Part.TheVariants.{Open, Done}
+use Rattle.gl_plain.specs.Code.Parts.{IsDoneFor, IsFinished, cell_of, done, done_in, opened, opened_in, parts_left}
 use Rattle.gl_plain.specs.Machine.{Runs, State, Worker, closed_in, open_cells, open_in, start}
 use Rattle.gl_plain.specs.Order.{AreParts, cells_of}
 use Rattle.gl_plain.specs.Code.Workers.{IsLeft, kept_of, state_of, worker_of, workers_of}
 use Rattle.gl_plain.specs.Replayed.{IsReplay}
 use Rattle.gl_plain.specs.Safe.{IsKept, IsSafe, IsSafeWorker, worker_cells}
-use Rattle.gl_goal.specs.Best.{IsNoLess, IsSound, total_of}
+use Rattle.gl_goal.specs.Best.{IsNoLess, IsSound, fixes_of, total_of}
 use Rattle.gl_plain.specs.Steps.{LiesInOne}
 use Rattle.gl_plain.proofs.Gathered.{all_flat}
 use Rattle.gl_plain.proofs.Machines.{closed_few, closed_seen, runs_safe, start_safe}
 use Rattle.gl_plain.proofs.Outcome.{runs_one}
-use Rattle.gl_plain.proofs.Roots.{lie_each, mult-each, nodes_each}
-use Rattle.gl_plain.proofs.Stack.{certificate_made, map-boxes}
+use Rattle.gl_plain.proofs.Flat.{flat-permutation}
+use Rattle.gl_plain.proofs.GivenWay.{All_done, All_parts, apart, frontiers_of, joined, mult_parts}
+use Rattle.gl_plain.proofs.Roots.{frontier_through}
+use Rattle.gl_plain.proofs.Stack.{certificate_made}
 use Rattle.gl_goal.proofs.Totals.{less_through}
 use Rattle.gl_text.proofs.Lists.{All-unmap}
 
@@ -88,11 +91,69 @@ word_known : (word known : Option ℕ) → ((total : ℕ) → word ≡ Some tota
 word_known None known kept = tt
 word_known (Some total) known kept = kept total refl
 
+-- the open and the closed cells of workers, part by part
+
+opened_done : (boxes : List Closed) → opened_in (map Done boxes) ≡ []
+opened_done [] = refl
+opened_done (box ∷ boxes) = opened_done boxes
+
+opened_open : (cells : List Cell) → opened_in (map Open cells) ≡ map spans_of cells
+opened_open [] = refl
+opened_open (cell ∷ cells) = ap (λ (rest : List (List (ℕ × ℕ))). spans_of cell ∷ rest) (opened_open cells)
+
+done_done : (boxes : List Closed) → done_in (map Done boxes) ≡ map box_of boxes
+done_done [] = refl
+done_done (box ∷ boxes) = ap (λ (rest : List Box). box_of box ∷ rest) (done_done boxes)
+
+done_open : (cells : List Cell) → done_in (map Open cells) ≡ []
+done_open [] = refl
+done_open (cell ∷ cells) = done_open cells
+
+hand_of : (hand : Option Cell) → map spans_of (option_to_list hand) ≡ option_to_list (option_map spans_of hand)
+hand_of None = refl
+hand_of (Some cell) = refl
+
+opened_left : (worker : code.Worker) → opened_in (parts_left worker) ≡ open_cells (worker_of worker)
+opened_left worker =
+    let closed = map Done worker.closed.items in
+    let deque = map Open worker.deque.items in
+    let hand = map Open (option_to_list worker.hand) in
+    flat_map-append opened closed (deque ++ hand)
+    ∙ ap (λ (cells : List (List (ℕ × ℕ))). cells ++ opened_in (deque ++ hand)) (opened_done worker.closed.items)
+    ∙ flat_map-append opened deque hand
+    ∙ ap (λ (cells : List (List (ℕ × ℕ))). cells ++ opened_in hand) (opened_open worker.deque.items)
+    ∙ ap (λ (cells : List (List (ℕ × ℕ))). map spans_of worker.deque.items ++ cells) (opened_open (option_to_list worker.hand) ∙ hand_of worker.hand)
+
+done_left : (worker : code.Worker) → done_in (parts_left worker) ≡ (worker_of worker).closed
+done_left worker =
+    let closed = map Done worker.closed.items in
+    let deque = map Open worker.deque.items in
+    let hand = map Open (option_to_list worker.hand) in
+    let none : done_in (deque ++ hand) ≡ [] = flat_map-append done deque hand
+    ∙ ap (λ (boxes : List Box). boxes ++ done_in hand) (done_open worker.deque.items)
+    ∙ done_open (option_to_list worker.hand) in
+    flat_map-append done closed (deque ++ hand)
+    ∙ ap (λ (boxes : List Box). done_in closed ++ boxes) none
+    ∙ append-nil (done_in closed)
+    ∙ done_done worker.closed.items
+
+opened_all : (workers : List code.Worker) → opened_in (flat_map parts_left workers) ≡ flat_map open_cells (workers_of workers)
+opened_all [] = refl
+opened_all (worker ∷ workers) = flat_map-append opened (parts_left worker) (flat_map parts_left workers)
+    ∙ ap (λ (cells : List (List (ℕ × ℕ))). cells ++ opened_in (flat_map parts_left workers)) (opened_left worker)
+    ∙ ap (λ (cells : List (List (ℕ × ℕ))). open_cells (worker_of worker) ++ cells) (opened_all workers)
+
+done_all : (workers : List code.Worker) → done_in (flat_map parts_left workers) ≡ flat_map (λ (worker : Worker). worker.closed) (workers_of workers)
+done_all [] = refl
+done_all (worker ∷ workers) = flat_map-append done (parts_left worker) (flat_map parts_left workers)
+    ∙ ap (λ (boxes : List Box). boxes ++ done_in (flat_map parts_left workers)) (done_left worker)
+    ∙ ap (λ (boxes : List Box). (worker_of worker).closed ++ boxes) (done_all workers)
+
 pub left_by : (rule : Goal) (workers : ℕ) (steps : List Step) (machine : Machine) (left : Left) (shown : List code.Worker) → Runs rule (start rule workers) steps (state_of machine)
-    → shown ≡ machine.workers.items → map spans_of left.open_cells.items ≡ flat_map open_cells (workers_of shown) → map box_of left.closed.items ≡ flat_map (λ worker. worker.closed) (workers_of shown)
+    → shown ≡ machine.workers.items → left.parts.items ≡ flat_map parts_left shown
     → IfSome left.known (λ best. Contains (map (λ worker. worker.kept) shown) (Some best)) → All (λ worker. IsNoLess (total_of worker.kept) (total_of left.known)) shown
     → IsLeft rule workers steps left
-left_by rule workers steps machine left shown after is open_cells_are closed_are among no_less =
+left_by rule workers steps machine left shown after is parts among no_less =
     let items = machine.workers.items in
     let safe = runs_safe rule steps (start rule workers) (state_of machine) after (start_safe rule workers) in
     let kept = subst (λ (ws : List code.Worker). IfSome left.known (λ best. Contains (map (λ (w : code.Worker). w.kept) ws) (Some best))) is among in
@@ -100,8 +161,8 @@ left_by rule workers steps machine left shown after is open_cells_are closed_are
     record {
       state = state_of machine;
       after = after;
-      open_ = open_cells_are ∙ ap (λ (ws : List code.Worker). flat_map open_cells (workers_of ws)) is;
-      closed = closed_are ∙ ap (λ (ws : List code.Worker). flat_map (λ (w : Worker). w.closed) (workers_of ws)) is;
+      open_ = ap opened_in parts ∙ opened_all shown ∙ ap (λ (ws : List code.Worker). flat_map open_cells (workers_of ws)) is;
+      closed = ap done_in parts ∙ done_all shown ∙ ap (λ (ws : List code.Worker). flat_map (λ (w : Worker). w.closed) (workers_of ws)) is;
       sound = best_sound rule (map (λ (w : code.Worker). w.kept) items) left.known (worker_sound rule items machine.word safe.workers) kept;
       known = word_known machine.word (total_of left.known) (λ total word. kept_known items left.known total (safe.word total word) least);
     }
@@ -155,98 +216,77 @@ parts_mult (w ∷ ws) tuple =
       mult-append (map cell w.closed) (map cell closed) tuple,
     )
 
--- the cells that a search began with
+-- what workers left parts the whole cell, and each closed cell is closed for what is known
 
-pub left_nodes : (rule : Goal) (workers : ℕ) (steps : List Step) (left : Left) → IsLeft rule workers steps left → All (λ (c : Cell). IsNode (whole_cell rule.axes) (spans_of c)) left.open_cells.items
+left_nodes : (rule : Goal) (workers : ℕ) (steps : List Step) (left : Left) → IsLeft rule workers steps left → All (λ part. IsNode (whole_cell rule.axes) (cell_of part)) left.parts.items
 left_nodes rule workers steps left of =
     let node = IsNode (whole_cell rule.axes) in
-    All-unmap node spans_of left.open_cells.items (subst (All node) (sym of.open_) (open_nodes rule of.state (left_safe rule workers steps left of)))
+    let safe = left_safe rule workers steps left of in
+    All_parts node left.parts.items (subst (All node) (sym of.open_) (open_nodes rule of.state safe)) (subst (All (λ (box : Box). node box.0)) (sym of.closed) (closed_nodes rule of.state safe))
 
-closed_cells : (rule : Goal) (workers : ℕ) (steps : List Step) (left : Left) → IsLeft rule workers steps left → All (IsNode (whole_cell rule.axes)) (cells_of left.closed.items)
-closed_cells rule workers steps left of =
-    let node = IsNode (whole_cell rule.axes) in
-    let boxes = subst (All (λ (box : Box). node box.0)) (sym of.closed) (closed_nodes rule of.state (left_safe rule workers steps left of)) in
-    All-map node (λ (b : Closed). spans_of b.cell) left.closed.items (All-unmap (λ (box : Box). node box.0) box_of left.closed.items boxes)
+pub left_parts : (rule : Goal) (workers : ℕ) (steps : List Step) (left : Left) → IsLeft rule workers steps left → AreParts (whole_cell rule.axes) (map cell_of left.parts.items)
+left_parts rule workers steps left of = record {
+  nodes = All-map (IsNode (whole_cell rule.axes)) cell_of left.parts.items (left_nodes rule workers steps left of);
+  once = λ tuple held.
+      let hold : List (List (ℕ × ℕ)) → ℕ = λ cells. mult cells tuple in
+      omega (
+        arith,
+        mult_parts left.parts.items tuple,
+        ap hold of.open_,
+        ap (λ (boxes : List Box). hold (map (λ (box : Box). box.0) boxes)) of.closed,
+        parts_mult of.state.workers tuple,
+        (left_safe rule workers steps left of).once tuple held,
+      );
+}
 
-pub parts_made : (rule : Goal) (workers : ℕ) (steps : List Step) (left : Left) (found : Finished) (boxes : List Closed) → IsLeft rule workers steps left
-    → IsFinished rule (reverse (map spans_of left.open_cells.items)) left.known found → boxes ≡ found.closed.items ++ left.closed.items → AreParts (whole_cell rule.axes) (cells_of boxes)
-parts_made rule workers steps left found boxes of end are =
-    let node = IsNode (whole_cell rule.axes) in
-    let opened = map spans_of left.open_cells.items in
-    let finished = cells_of found.closed.items in
-    let closed = cells_of left.closed.items in
-    let split : cells_of boxes ≡ finished ++ closed = ap cells_of are ∙ map-append (λ (b : Closed). spans_of b.cell) found.closed.items left.closed.items in
-    let roots_nodes = All-permutation node opened (reverse opened) (IsPermutation-reverse opened) (All-map node spans_of left.open_cells.items (left_nodes rule workers steps left of)) in
-    let made : AreParts (whole_cell rule.axes) (finished ++ closed) = record {
-      nodes = All-append node finished closed (nodes_each (whole_cell rule.axes) (reverse opened) finished end.parted roots_nodes) (closed_cells rule workers steps left of);
-      once = λ tuple held.
-          let hold : List (List (ℕ × ℕ)) → ℕ = λ cells. mult cells tuple in
-          let turned : mult (reverse opened) tuple ≡ mult opened tuple = sum_by-IsPermutation (λ (cell : List (ℕ × ℕ)). cond (holds cell tuple) 1 0) opened (reverse opened)
-          (IsPermutation-reverse opened) in
-          let plain : closed ≡ map (λ (box : Box). box.0) (closed_in of.state) = sym (map-boxes left.closed.items) ∙ ap (map (λ (box : Box). box.0)) of.closed in
-          omega (
-            arith,
-            mult-append finished closed tuple,
-            mult-each (reverse opened) finished tuple end.parted,
-            turned,
-            ap hold of.open_,
-            ap hold plain,
-            parts_mult of.state.workers tuple,
-            (left_safe rule workers steps left of).once tuple held,
-          );
-    } in
-    subst (AreParts (whole_cell rule.axes)) (sym split) made
+pub ordered_nodes : (rule : Goal) (workers : ℕ) (steps : List Step) (left : Left) (ordered : List Part) → IsLeft rule workers steps left → IsPermutation left.parts.items ordered
+    → All (λ part. IsNode (whole_cell rule.axes) (cell_of part)) ordered
+ordered_nodes rule workers steps left ordered of moved =
+    All-permutation (λ (part : Part). IsNode (whole_cell rule.axes) (cell_of part)) left.parts.items ordered moved (left_nodes rule workers steps left of)
+
+pub ordered_done : (rule : Goal) (workers : ℕ) (steps : List Step) (left : Left) (ordered : List Part) → IsLeft rule workers steps left → IsPermutation left.parts.items ordered
+    → All (IsDoneFor rule (total_of left.known)) ordered
+ordered_done rule workers steps left ordered of moved =
+    let for : Box → Type 0 = λ box. IsClosedFor rule (total_of left.known) box.0 box.1 in
+    let closed = subst (All for) (sym of.closed) (closed_for rule of.state (total_of left.known) (left_safe rule workers steps left of) of.known) in
+    All-permutation (IsDoneFor rule (total_of left.known)) left.parts.items ordered moved (All_done rule (total_of left.known) left.parts.items closed)
 
 -- what is answered
 
-pub boxes_closed : (rule : Goal) (workers : ℕ) (steps : List Step) (left : Left) (found : Finished) → IsLeft rule workers steps left
-    → IsFinished rule (reverse (map spans_of left.open_cells.items)) left.known found
-    → All (λ (b : Closed). IsClosedFor rule (total_of found.best) (spans_of b.cell) b.why) (found.closed.items ++ left.closed.items)
-boxes_closed rule workers steps left found of end =
-    let total = total_of found.best in
-    let for : Box → Type 0 = λ box. IsClosedFor rule total box.0 box.1 in
-    let more = less_through of.state.word (total_of left.known) total of.known end.no_less in
-    let by_steps = All-unmap for box_of left.closed.items (subst (All for) (sym of.closed) (closed_for rule of.state total (left_safe rule workers steps left of) more)) in
-    All-append (λ (b : Closed). IsClosedFor rule total (spans_of b.cell) b.why) found.closed.items left.closed.items end.closed by_steps
+pub certified : (rule : Goal) (parts : List Part) (known : Option Best) (found : Finished) (boxes : List Closed) → IsFrontier (whole_cell rule.axes) (map cell_of parts) → IsFinished rule parts known found
+    → boxes ≡ found.closed.items → IsCertificate rule (total_of found.best) (fixes_of rule found.best) (map box_of boxes)
+certified rule parts known found boxes frontier end are =
+    let frontiers = frontiers_of parts end.gave.lists end.gave.each in
+    let whole = frontier_through (whole_cell rule.axes) (map cell_of parts) (cells_of (joined end.gave.lists)) frontier frontiers in
+    subst (λ (bs : List Closed). IsCertificate rule (total_of found.best) (fixes_of rule found.best) (map box_of bs)) (sym are)
+    (certificate_made rule found.best found.closed.items end.sound (subst (λ (bs : List Closed). IsFrontier (whole_cell rule.axes) (cells_of bs)) (sym end.gave.all) whole) end.closed)
 
-pub certified : (rule : Goal) (workers : ℕ) (steps : List Step) (left : Left) (found : Finished) (answer : Found) (boxes : List Closed) → IsLeft rule workers steps left
-    → IsFinished rule (reverse (map spans_of left.open_cells.items)) left.known found → boxes ≡ found.closed.items ++ left.closed.items → answer.best ≡ found.best
-    → IsFrontier (whole_cell rule.axes) (cells_of (boxes_in answer.closed)) → IsPermutation boxes (boxes_in answer.closed) → IsCertified rule answer
-certified rule workers steps left found answer boxes of end are best frontier moved =
-    let for : Option Best → Closed → Type 0 = λ b box. IsClosedFor rule (total_of b) (spans_of box.cell) box.why in
-    let closed = subst (All (for found.best)) (sym are) (boxes_closed rule workers steps left found of end) in
-    certificate_made rule answer.best (boxes_in answer.closed) (subst (IsSound rule) (sym best) end.sound) frontier
-    (subst (λ (b : Option Best). All (for b) (boxes_in answer.closed)) (sym best) (All-permutation (for found.best) boxes (boxes_in answer.closed) moved closed))
-
-lies_turned : (cells : List (List (ℕ × ℕ))) (part : List (ℕ × ℕ)) → LiesInOne (reverse cells) part → LiesInOne cells part
-lies_turned cells part lies = (lies.0, Contains-permutation (reverse cells) cells lies.0 (IsPermutation-sym cells (reverse cells) (IsPermutation-reverse cells)) lies.1, lies.2)
-
-pub replay_made : (rule : Goal) (workers : ℕ) (steps : List Step) (left : Left) (found : Finished) (boxes : List Closed) (replayed : Replayed) → IsLeft rule workers steps left
-    → IsFinished rule (reverse (map spans_of left.open_cells.items)) left.known found → boxes ≡ found.closed.items ++ left.closed.items → IsPermutation boxes (boxes_in replayed.found.closed)
-    → replayed.by_steps ≡ length left.closed.items → IsReplay rule workers steps replayed
-replay_made rule workers steps left found boxes replayed of end are moved count =
-    let opened = map spans_of left.open_cells.items in
-    let finished = map box_of found.closed.items in
-    let closed = map box_of left.closed.items in
-    let all : map box_of boxes ≡ finished ++ closed = ap (map box_of) are ∙ map-append box_of found.closed.items left.closed.items in
-    let joined : IsPermutation (closed ++ finished) (map box_of boxes) = subst (IsPermutation (closed ++ finished)) (sym all) (IsPermutation-append_comm closed finished) in
-    let ordered = IsPermutation-trans (closed ++ finished) (map box_of boxes) (map box_of (boxes_in replayed.found.closed)) joined
-    (IsPermutation-map box_of boxes (boxes_in replayed.found.closed) moved) in
-    let inside = All-weaker (LiesInOne (reverse opened)) (LiesInOne opened) (lies_turned opened) (cells_of found.closed.items) (lie_each (reverse opened) (cells_of found.closed.items) end.parted) in
-    let plain = All-unmap (LiesInOne opened) (λ (b : Closed). spans_of b.cell) found.closed.items inside in
+pub replay_made : (rule : Goal) (workers : ℕ) (steps : List Step) (left : Left) (ordered : List Part) (found : Finished) (replayed : Replayed) → IsLeft rule workers steps left
+    → IsPermutation left.parts.items ordered → IsFinished rule ordered left.known found → boxes_in replayed.found.closed ≡ found.closed.items
+    → replayed.by_steps ≡ length (done_in left.parts.items) → IsReplay rule workers steps replayed
+replay_made rule workers steps left ordered found replayed of moved end are count =
+    let split = apart ordered end.gave.lists end.gave.each in
+    let done_moved = flat-permutation done left.parts.items ordered moved in
+    let opened_moved = flat-permutation opened left.parts.items ordered moved in
+    let joined_ : IsPermutation (done_in left.parts.items ++ split.finished) (map box_of (joined end.gave.lists)) =
+    IsPermutation-trans (done_in left.parts.items ++ split.finished) (done_in ordered ++ split.finished) (map box_of (joined end.gave.lists))
+    (IsPermutation-append_left split.finished (done_in left.parts.items) (done_in ordered) done_moved) split.boxes_are in
+    let answered : map box_of (joined end.gave.lists) ≡ map box_of (boxes_in replayed.found.closed) = ap (map box_of) (sym (are ∙ end.gave.all)) in
     record {
       state = of.state;
       after = of.after;
       safe = left_safe rule workers steps left of;
       only = λ other also. runs_one rule steps (start rule workers) other of.state also of.after;
-      finished = finished;
-      boxes = subst (λ (cs : List Box). IsPermutation (cs ++ finished) (map box_of (boxes_in replayed.found.closed))) of.closed ordered;
-      inside = All-map (λ (box : Box). LiesInOne (open_in of.state) box.0) box_of found.closed.items
-          (subst (λ (cs : List (List (ℕ × ℕ))). All (λ (b : Closed). LiesInOne cs (spans_of b.cell)) found.closed.items) of.open_ plain);
-      by_steps = count ∙ sym (length-map left.closed.items box_of) ∙ ap length of.closed;
+      finished = split.finished;
+      boxes = subst (IsPermutation (closed_in of.state ++ split.finished)) answered (subst (λ (cs : List Box). IsPermutation (cs ++ split.finished) (map box_of (joined end.gave.lists))) of.closed joined_);
+      inside = All-weaker (λ (box : Box). LiesInOne (opened_in ordered) box.0) (λ (box : Box). LiesInOne (open_in of.state) box.0)
+          (λ box lies.
+          let back = Contains-permutation (opened_in ordered) (opened_in left.parts.items) lies.0 (IsPermutation-sym (opened_in left.parts.items) (opened_in ordered) opened_moved) lies.1 in
+          (lies.0, subst (λ (cells : List (List (ℕ × ℕ))). Contains cells lies.0) of.open_ back, lies.2))
+          split.finished split.inside;
+      by_steps = count ∙ ap length of.closed;
     }
 
 -- the steps close no more cells than there are steps
-pub left_few : (rule : Goal) (workers : ℕ) (steps : List Step) (left : Left) → IsLeft rule workers steps left → length left.closed.items ≤ length steps
-left_few rule workers steps left of =
-    omega (arith, closed_few rule workers steps of.state of.after, length-map left.closed.items box_of, ap length of.closed)
+pub left_few : (rule : Goal) (workers : ℕ) (steps : List Step) (left : Left) → IsLeft rule workers steps left → length (done_in left.parts.items) ≤ length steps
+left_few rule workers steps left of = omega (arith, closed_few rule workers steps of.state of.after, ap length of.closed)

@@ -7,6 +7,7 @@ mod dive;
 mod found;
 mod machine;
 mod order;
+mod part;
 mod replayed;
 mod runs;
 mod search;

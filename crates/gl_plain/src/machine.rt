@@ -9,7 +9,7 @@ use gl_schedule::Step;
 use std::alloc::{AllocError, Global};
 
 /// Workers that search together, one step at a time.
-#[derive(Debug, Drop)]
+#[derive(Drop)]
 pub(crate) struct Machine {
     pub(crate) workers: Vec<Worker>,
     /// The best word, which every worker can see: the greatest total that one raised.

@@ -1,4 +1,4 @@
-ghost use Rattle.std.specs.Prelude.{◌≤◌, ℕ, List, drop, length, take, All, IfOk, IfSome, IsPermutation, OnOk};
+ghost use Rattle.std.specs.Prelude.{◌≤◌, ℕ, List, drop, length, map, take, All, IfOk, IfSome, IsPermutation, OnOk};
 ghost use Rattle.std.specs.List.{flat_map};
 ghost use Rattle.gl_box.specs.Cell.{Covers, spans_of};
 ghost use Rattle.gl_box.specs.Frontier.{IsFrontier};
@@ -7,7 +7,7 @@ ghost use Rattle.gl_walk.specs.InLists.{boxes_in};
 
 use crate::runs::{bring_runs, way_to};
 use gl_box::{Cell, Closed, covers, halve};
-use gl_walk::{Boxes, go_down};
+use gl_walk::{Boxed, Boxes, go_down};
 use std::alloc::{AllocError, Global};
 
 /// Room for open cells: each cut adds one, and a cell can be cut at most 32 times on each axis.
@@ -15,19 +15,19 @@ const OPEN_ROOM: usize = 512;
 
 /// How many of the first boxes are a frontier of the cell. `None` where they don't begin with one.
 /// `opened` is room to work in. The only error is want of memory.
-fn frontier_len(
+fn frontier_len<B: Boxed>(
     cell: Cell,
-    boxes: &[Closed],
+    boxes: &[B],
     opened: &mut Vec<Cell>,
 ) -> Result<Option<usize>, AllocError>
     ensures within { IfOk result (λ count. IfSome count (λ count. count ≤ length boxes.now)) }
     ensures frontier { IfOk result (λ count. IfSome count
-        (λ count. IsFrontier (spans_of cell) (take count (cells_of boxes.now)))) }
+        (λ count. IsFrontier (spans_of cell) (take count (map B.spans boxes.now)))) }
 {
     opened.clear();
     opened.push(cell)?;
     for (count, next) in boxes.iter().enumerate() {
-        if !go_down(opened, &next.cell)? {
+        if !go_down(opened, next.cell())? {
             return Ok(None);
         }
         if opened.is_empty() {
@@ -38,17 +38,17 @@ fn frontier_len(
 }
 
 /// Brings the boxes that a cell covers to the front, and answers how many they are.
-fn part(cell: &Cell, boxes: &mut [Closed]) -> usize
+fn part<B: Boxed>(cell: &Cell, boxes: &mut [B]) -> usize
     ensures within { result ≤ length boxes.new }
     ensures permutation { IsPermutation boxes.old boxes.new }
-    ensures front { All (λ box. Covers (spans_of cell.now) (spans_of box.cell))
+    ensures front { All (λ box. Covers (spans_of cell.now) (B.spans box))
         (take result boxes.new) }
-    ensures back { All (λ box. Covers (spans_of cell.now) (spans_of box.cell) → ⊥)
+    ensures back { All (λ box. Covers (spans_of cell.now) (B.spans box) → ⊥)
         (drop result boxes.new) }
 {
     let mut count = 0;
     for place in 0..boxes.len() {
-        if covers(cell, &boxes[place].cell) {
+        if covers(cell, boxes[place].cell()) {
             boxes.swap(count, place);
             count += 1;
         }
@@ -59,14 +59,14 @@ fn part(cell: &Cell, boxes: &mut [Closed]) -> usize
 /// Puts boxes that part a cell into the order of the split tree. Where those of the lower half come
 /// first and in order, they stay as they are. `opened` is room to work in. The only error is want
 /// of memory.
-fn put_in_order(
+fn put_in_order<B: Boxed>(
     mut cell: Cell,
-    boxes: &mut [Closed],
+    boxes: &mut [B],
     opened: &mut Vec<Cell>,
 ) -> Result<(), AllocError>
-    requires { AreParts (spans_of cell) (cells_of boxes.old) }
+    requires { AreParts (spans_of cell) (map B.spans boxes.old) }
     ensures permutation { OnOk result (IsPermutation boxes.old boxes.new) }
-    ensures frontier { OnOk result (IsFrontier (spans_of cell) (cells_of boxes.new)) }
+    ensures frontier { OnOk result (IsFrontier (spans_of cell) (map B.spans boxes.new)) }
 {
     let Some(lower) = halve(&mut cell) else {
         return Ok(());
@@ -88,14 +88,14 @@ fn put_in_order(
 /// in exactly one of them. Boxes that come as a few runs in order take little more than three
 /// passes, and one where they are in order; no list of boxes is made beside theirs. The only error
 /// is want of memory.
-pub fn in_order(
+pub fn in_order<B: Boxed + Drop>(
     alloc: Global,
     whole: &Cell,
-    mut closed: Vec<Closed>,
-) -> Result<Vec<Closed>, AllocError>
-    requires { AreParts (spans_of whole.now) (cells_of closed.items) }
+    mut closed: Vec<B>,
+) -> Result<Vec<B>, AllocError>
+    requires { AreParts (spans_of whole.now) (map B.spans closed.items) }
     ensures frontier { IfOk result
-        (λ boxes. IsFrontier (spans_of whole.now) (cells_of boxes.items)) }
+        (λ boxes. IsFrontier (spans_of whole.now) (map B.spans boxes.items)) }
     ensures permutation { IfOk result (λ boxes. IsPermutation closed.items boxes.items) }
 {
     let mut opened = Vec::with_capacity(alloc, OPEN_ROOM)?;

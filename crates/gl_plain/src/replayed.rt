@@ -1,17 +1,17 @@
 ghost use Rattle.std.specs.Prelude.{◌≡◌, ◌≤◌, ◌↔◌, ◌++◌, All, Contains, IfOk, IfSome, IsNone, OnOk, Some, length, map};
 ghost use Rattle.std.specs.List.{flat_map};
-ghost use Rattle.gl_box.specs.Cell.{spans_of};
-ghost use Rattle.gl_box.specs.Closed.{box_of};
 ghost use Rattle.gl_goal.specs.Goal.{HasNoLegal, IsOptimum};
 ghost use Rattle.gl_plain.specs.Found.{HoldsEachOnce, IsCertified};
-ghost use Rattle.gl_plain.specs.Machine.{open_cells};
-ghost use Rattle.gl_plain.specs.Code.Workers.{IsLeft, worker_of, workers_of};
+ghost use Rattle.gl_plain.specs.declared.part.Part.TheVariants.{Done, Open};
+ghost use Rattle.gl_plain.specs.Code.Parts.{done_in, parts_left};
+ghost use Rattle.gl_plain.specs.Code.Workers.{IsLeft};
 ghost use Rattle.gl_plain.specs.Replayed.{IsReplay};
 ghost use Rattle.gl_goal.specs.Best.{IsNoLess, IsSound, total_of};
 
 use crate::found::Found;
 use crate::machine::Machine;
 use crate::order::in_order;
+use crate::part::Part;
 use crate::search::{Finished, finish};
 use crate::worker::Worker;
 use gl_box::{Cell, Closed};
@@ -30,14 +30,12 @@ pub struct Replayed {
 }
 
 /// What workers left after their steps.
-#[derive(Debug, Drop)]
+#[derive(Drop)]
 struct Left {
     /// The best legal tuple that one of them kept.
     known: Option<Best>,
-    /// The cells that are still open.
-    open_cells: Vec<Cell>,
-    /// The cells that they closed.
-    closed: Vec<Closed>,
+    /// Their open cells, and those that they closed.
+    parts: Vec<Part>,
 }
 
 /// The best of the tuples that workers kept.
@@ -54,42 +52,62 @@ fn best_kept(workers: &[Worker]) -> Option<Best>
     best
 }
 
-/// Appends the open cells of a worker. The only error is want of memory.
-fn push_open(cells: &mut Vec<Cell>, worker: &Worker) -> Result<(), AllocError>
-    ensures { OnOk result (map spans_of cells.new.items
-        ≡ map spans_of cells.old.items ++ open_cells (worker_of worker.now)) }
+/// Appends open cells. The only error is want of memory.
+fn push_open(parts: &mut Vec<Part>, cells: &[Cell]) -> Result<(), AllocError>
+    ensures { OnOk result (parts.new.items ≡ parts.old.items ++ map Open cells.now) }
 {
-    let (front, back) = worker.deque.as_slices();
-    cells.extend_from_slice(front)?;
-    cells.extend_from_slice(back)?;
-    if let Some(cell) = worker.hand {
-        cells.push(cell)?;
+    for cell in cells {
+        parts.push(Part::Open(*cell))?;
     }
     Ok(())
 }
 
-/// The cells that are open in the deques and hands of workers. The only error is want of memory.
-fn open_of(alloc: Global, workers: &[Worker]) -> Result<Vec<Cell>, AllocError>
-    ensures { IfOk result (λ cells.
-        map spans_of cells.items ≡ flat_map open_cells (workers_of workers.now)) }
+/// Appends closed cells. The only error is want of memory.
+fn push_done(parts: &mut Vec<Part>, boxes: &[Closed]) -> Result<(), AllocError>
+    ensures { OnOk result (parts.new.items ≡ parts.old.items ++ map Done boxes.now) }
 {
-    let mut cells = Vec::new(alloc);
-    for worker in workers {
-        push_open(&mut cells, worker)?;
+    for closed in boxes {
+        parts.push(Part::Done(*closed))?;
     }
-    Ok(cells)
+    Ok(())
 }
 
-/// The cells that workers closed. The only error is want of memory.
-fn closed_of(alloc: Global, workers: &[Worker]) -> Result<Vec<Closed>, AllocError>
-    ensures { IfOk result (λ boxes.
-        map box_of boxes.items ≡ flat_map (λ worker. worker.closed) (workers_of workers.now)) }
+/// Appends the cells of a worker. The only error is want of memory.
+fn push_parts(parts: &mut Vec<Part>, worker: &Worker) -> Result<(), AllocError>
+    ensures { OnOk result (parts.new.items ≡ parts.old.items ++ parts_left worker.now) }
 {
-    let mut boxes = Vec::new(alloc);
-    for worker in workers {
-        boxes.extend_from_slice(worker.closed.as_slice())?;
+    push_done(parts, worker.closed.as_slice())?;
+    let (front, back) = worker.deque.as_slices();
+    push_open(parts, front)?;
+    push_open(parts, back)?;
+    if let Some(cell) = worker.hand {
+        parts.push(Part::Open(cell))?;
     }
-    Ok(boxes)
+    Ok(())
+}
+
+/// The cells of workers, open and closed. The only error is want of memory.
+fn parts_of(alloc: Global, workers: &[Worker]) -> Result<Vec<Part>, AllocError>
+    ensures { IfOk result (λ parts. parts.items ≡ flat_map parts_left workers.now) }
+{
+    let mut parts = Vec::new(alloc);
+    for worker in workers {
+        push_parts(&mut parts, worker)?;
+    }
+    Ok(parts)
+}
+
+/// How many parts the steps closed.
+fn count_done(parts: &[Part]) -> usize
+    ensures { result ≡ length (done_in parts.now) }
+{
+    let mut count = 0;
+    for part in parts {
+        if let Part::Done(_) = part {
+            count += 1;
+        }
+    }
+    count
 }
 
 /// Lets so many workers make the steps. The only error is want of memory.
@@ -102,8 +120,7 @@ fn work<G: Goal>(alloc: Global, goal: &G, workers: u32, steps: &[Step]) -> Resul
     let workers = machine.workers.as_slice();
     Ok(Left {
         known: best_kept(workers),
-        open_cells: open_of(alloc, workers)?,
-        closed: closed_of(alloc, workers)?,
+        parts: parts_of(alloc, workers)?,
     })
 }
 
@@ -111,6 +128,9 @@ fn work<G: Goal>(alloc: Global, goal: &G, workers: u32, steps: &[Step]) -> Resul
 /// make the steps one after another, as docs/schedules.md has it, and worker 0 searches what they
 /// left open. Whatever the order, no choice is lost, and no cell is closed wrongly. The only error
 /// is want of memory.
+///
+/// What the workers left is put into the order of the split tree before any of it is searched, so
+/// that the boxes come out in order, and their list is never sorted.
 pub fn replay<G: Goal>(
     alloc: Global,
     goal: &G,
@@ -129,11 +149,11 @@ pub fn replay<G: Goal>(
         (λ replayed. IsNone replayed.found.best ↔ HasNoLegal (G.rule goal.now)) }
     ensures steps { IfOk result (IsReplay (G.rule goal.now) workers steps.now) }
 {
-    let left = work(alloc, goal, workers, steps)?;
-    let by_steps = left.closed.len() as u32;
-    let Finished { best, mut closed } = finish(alloc, goal, left.known, left.open_cells)?;
-    closed.extend_from_slice(left.closed.as_slice())?;
-    let closed = Boxes::from_list(in_order(alloc, &whole(goal), closed)?);
+    let Left { known, parts } = work(alloc, goal, workers, steps)?;
+    let by_steps = count_done(&parts) as u32;
+    let parts = in_order(alloc, &whole(goal), parts)?;
+    let Finished { best, closed } = finish(alloc, goal, known, &parts)?;
+    let closed = Boxes::from_list(closed);
     Ok(Replayed {
         found: Found { best, closed },
         by_steps,

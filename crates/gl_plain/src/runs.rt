@@ -1,6 +1,7 @@
 ghost use Rattle.std.specs.Prelude.{◌≡◌, ◌+◌, ◌^◌, ◌<◌, ◌≤◌, length, IfOk, IsPermutation, OnOk};
 
-use gl_box::{Cell, Closed, covers, halve};
+use gl_box::{Cell, covers, halve};
+use gl_walk::Boxed;
 use std::alloc::{AllocError, Global};
 
 /// How many runs are put into order at most. Where there are more, they stay as they are.
@@ -10,7 +11,7 @@ const MOST_RUNS: usize = 4_096;
 const MOST_TURNS: u32 = 128;
 
 /// Boxes that follow one another, and the way to the first one.
-#[derive(Clone, Copy, Debug)]
+#[derive(Clone, Copy)]
 struct Run {
     start: usize,
     len: usize,
@@ -40,13 +41,17 @@ pub(crate) fn way_to(whole: &Cell, node: &Cell) -> u128 {
 
 /// How many of the first boxes follow one another in the split tree of a cell. `opened` is room to
 /// work in. The only error is want of memory.
-fn run_len(mut cell: Cell, boxes: &[Closed], opened: &mut Vec<Cell>) -> Result<usize, AllocError>
+fn run_len<B: Boxed>(
+    mut cell: Cell,
+    boxes: &[B],
+    opened: &mut Vec<Cell>,
+) -> Result<usize, AllocError>
     ensures { IfOk result (λ count. count ≤ length boxes.now) }
 {
     opened.clear();
     let mut count = 0;
     'halves: while count < boxes.len() {
-        let next = &boxes[count].cell;
+        let next = boxes[count].cell();
         if *next == cell {
             count += 1;
             match opened.pop() {
@@ -69,10 +74,10 @@ fn run_len(mut cell: Cell, boxes: &[Closed], opened: &mut Vec<Cell>) -> Result<u
 }
 
 /// The runs of some boxes. The only error is want of memory.
-fn runs_of(
+fn runs_of<B: Boxed>(
     alloc: Global,
     whole: &Cell,
-    boxes: &[Closed],
+    boxes: &[B],
     opened: &mut Vec<Cell>,
 ) -> Result<Vec<Run>, AllocError> {
     let mut runs = Vec::new(alloc);
@@ -85,7 +90,7 @@ fn runs_of(
         runs.push(Run {
             start,
             len,
-            way: way_to(whole, &boxes[start].cell),
+            way: way_to(whole, boxes[start].cell()),
         })?;
         start += len;
     }
@@ -93,7 +98,7 @@ fn runs_of(
 }
 
 /// So many boxes change places with as many behind them.
-fn trade(boxes: &mut [Closed], front: usize, back: usize, count: usize)
+fn trade<B>(boxes: &mut [B], front: usize, back: usize, count: usize)
     requires front { front + count ≤ length boxes.old }
     requires back { back + count ≤ length boxes.old }
     ensures permutation { IsPermutation boxes.old boxes.new }
@@ -144,7 +149,7 @@ fn move_runs(
 }
 
 /// Brings runs to the front, one after the other. The only error is want of memory.
-fn place(boxes: &mut [Closed], runs: &mut Vec<Run>) -> Result<(), AllocError>
+fn place<B>(boxes: &mut [B], runs: &mut Vec<Run>) -> Result<(), AllocError>
     ensures { OnOk result (IsPermutation boxes.old boxes.new) }
 {
     let mut placed = 0;
@@ -177,10 +182,10 @@ fn place(boxes: &mut [Closed], runs: &mut Vec<Run>) -> Result<(), AllocError>
 
 /// Brings boxes closer to the order of the split tree of a cell: the runs of which they consist
 /// come in the order of their first boxes. The only error is want of memory.
-pub(crate) fn bring_runs(
+pub(crate) fn bring_runs<B: Boxed>(
     alloc: Global,
     whole: &Cell,
-    boxes: &mut [Closed],
+    boxes: &mut [B],
     opened: &mut Vec<Cell>,
 ) -> Result<(), AllocError>
     ensures { OnOk result (IsPermutation boxes.old boxes.new) }

@@ -1,13 +1,15 @@
-ghost use Rattle.std.specs.Prelude.{◌<◌, ◌↔◌, [], ℕ, List, All, IfOk, IsNone, OnOk, map, reverse, vec_len};
+ghost use Rattle.std.specs.Prelude.{◌<◌, ◌↔◌, All, IfOk, IsNone, OnOk, vec_len};
 ghost use Rattle.gl_box.specs.Cell.{Covers, spans_of};
 ghost use Rattle.gl_box.specs.Frontier.{IsNode};
 ghost use Rattle.gl_goal.specs.Goal.{HasNoLegal, IsOptimum, whole_cell};
 ghost use Rattle.gl_goal.specs.Best.{IsNoLess, IsSound, total_of};
-ghost use Rattle.gl_plain.specs.Code.Steps.{Advances, IsUnderWay, IsFinished};
+ghost use Rattle.gl_plain.specs.Code.Parts.{IsDoneFor, IsFinished, cell_of};
+ghost use Rattle.gl_plain.specs.Code.Steps.{Advances, IsSearched};
 ghost use Rattle.gl_plain.specs.Steps.{Closes};
 ghost use Rattle.gl_plain.specs.Found.{AreNeeded, HoldsEachOnce, IsCertified};
 
 use crate::found::Found;
+use crate::part::Part;
 use crate::verdict::{CellVerdict, test};
 use crate::warm::warm_start;
 use gl_box::{Cell, Closed, Why, halve};
@@ -21,9 +23,9 @@ const OPEN_ROOM: usize = 512;
 /// Room for closed boxes at the start.
 const CLOSED_ROOM: usize = 65_536;
 
-/// What a search from some cells came to: the best of what was known and found, and the boxes to
-/// which the cells gave way.
-#[derive(Debug, Drop)]
+/// What a search came to: the best of what was known and found, and the boxes to which the cells
+/// gave way.
+#[derive(Drop)]
 pub(crate) struct Finished {
     pub(crate) best: Option<Best>,
     pub(crate) closed: Vec<Closed>,
@@ -80,51 +82,63 @@ fn advance<G: Goal>(
     Ok(())
 }
 
-/// Goes on until no cell is open. The only error is want of memory.
-fn run<G: Goal>(
+/// Searches a cell until nothing in it is open, and adds the boxes to which it gives way. `cells`
+/// is room to work in. The only error is want of memory.
+fn search_cell<G: Goal>(
     goal: &G,
+    cell: Cell,
     best: &mut Option<Best>,
     cells: &mut Vec<Cell>,
     boxes: &mut Vec<Closed>,
     legs: &mut [Leg],
 ) -> Result<(), AllocError>
-    ghost roots: { List (List (ℕ × ℕ)) }
-    requires under_way { IsUnderWay (G.rule goal.now) roots best.old cells.old.items
-        boxes.old.items }
+    requires node { IsNode (whole_cell (G.rule goal.now).axes) (spans_of cell) }
+    requires sound { IsSound (G.rule goal.now) best.old }
     requires legs { G.are_legs goal.now legs.old }
-    ensures over { OnOk result (IsUnderWay (G.rule goal.now) roots best.new [] boxes.new.items) }
+    ensures searched { OnOk result
+        (IsSearched (G.rule goal.now) (spans_of cell) best.new boxes.old.items boxes.new.items) }
+    ensures sound { OnOk result (IsSound (G.rule goal.now) best.new) }
+    ensures legs { OnOk result (G.are_legs goal.now legs.new) }
     ensures grows { OnOk result (IsNoLess (total_of best.old) (total_of best.new)) }
 {
+    cells.clear();
+    cells.push(cell)?;
     while !cells.is_empty() {
         advance(goal, best, cells, boxes, legs)?;
     }
     Ok(())
 }
 
-/// Searches the open cells of a goal until none is open, with a legal tuple that is known, if there
-/// is one, or a better one that is soon found. The only error is want of memory.
+/// Takes on what some cells were left as, one after another: an open one is searched until nothing
+/// in it is open, and one that was closed stays as it is. A legal tuple is known, if there is one,
+/// or a better one that is soon found. The only error is want of memory.
 pub(crate) fn finish<G: Goal>(
     alloc: Global,
     goal: &G,
     known: Option<Best>,
-    mut cells: Vec<Cell>,
+    parts: &[Part],
 ) -> Result<Finished, AllocError>
     requires sound { IsSound (G.rule goal.now) known }
-    requires nodes { All (λ cell. IsNode (whole_cell (G.rule goal.now).axes) (spans_of cell))
-        cells.items }
-    ensures { IfOk result
-        (IsFinished (G.rule goal.now) (reverse (map spans_of cells.items)) known) }
+    requires nodes { All (λ part. IsNode (whole_cell (G.rule goal.now).axes) (cell_of part))
+        parts.now }
+    requires done { All (IsDoneFor (G.rule goal.now) (total_of known)) parts.now }
+    ensures { IfOk result (IsFinished (G.rule goal.now) parts.now known) }
 {
     let mut measured = measured_legs(alloc, goal)?;
     let legs = measured.as_mut_slice();
     let warm = warm_start(alloc, goal, legs)?;
     let mut best = better(known, warm);
-    let mut boxes = Vec::with_capacity(alloc, CLOSED_ROOM)?;
-    run(goal, &mut best, &mut cells, &mut boxes, legs)?;
-    Ok(Finished {
-        best,
-        closed: boxes,
-    })
+    let mut cells = Vec::with_capacity(alloc, OPEN_ROOM)?;
+    let mut closed = Vec::with_capacity(alloc, CLOSED_ROOM)?;
+    for part in parts {
+        match part {
+            Part::Open(cell) => {
+                search_cell(goal, *cell, &mut best, &mut cells, &mut closed, legs)?;
+            }
+            Part::Done(done) => closed.push(*done)?,
+        }
+    }
+    Ok(Finished { best, closed })
 }
 
 /// The optimum of a goal, and boxes that certify it: in the order of the split tree they are a
@@ -139,9 +153,7 @@ pub fn search_one<G: Goal>(alloc: Global, goal: &G) -> Result<Found, AllocError>
     ensures none { IfOk result (λ found. IsNone found.best ↔ HasNoLegal (G.rule goal.now)) }
     ensures needed { IfOk result (AreNeeded (G.rule goal.now)) }
 {
-    let mut cells = Vec::with_capacity(alloc, OPEN_ROOM)?;
-    cells.push(whole(goal))?;
-    let Finished { best, closed } = finish(alloc, goal, None, cells)?;
+    let Finished { best, closed } = finish(alloc, goal, None, &[Part::Open(whole(goal))])?;
     Ok(Found {
         best,
         closed: Boxes::from_list(closed),

@@ -12,7 +12,7 @@ use std::alloc::{AllocError, Global};
 use std::collections::VecDeque;
 
 /// One of several workers that search together.
-#[derive(Debug, Drop)]
+#[derive(Drop)]
 pub(crate) struct Worker {
     /// Its open cells. It takes the last one, and others steal the first one.
     pub(crate) deque: VecDeque<Cell>,

@@ -196,7 +196,9 @@ fn a_claim_is_written(rt: HostRuntime) -> Result<(), Fail> {
 fn boxes_of_several_lists_are_written_one_after_the_other(rt: HostRuntime) -> Result<(), Fail> {
     let mut cells = Boxes::empty(rt.alloc());
     for apart in [false, true, true] {
-        cells.begin_if(apart)?;
+        if apart {
+            cells.begin_list()?;
+        }
         cells.push(first_box())?;
     }
     let claim = Claim {

@@ -76,7 +76,7 @@ fn verdict_on(alloc: Global, goal: &FreeGoal, cells: Boxes) -> Result<Verdict, A
 fn lists_of_one(alloc: Global, boxes: &[Closed]) -> Result<Boxes, AllocError> {
     let mut cells = Boxes::empty(alloc);
     for closed in boxes {
-        cells.begin_if(true)?;
+        cells.begin_list()?;
         cells.push(*closed)?;
     }
     Ok(cells)

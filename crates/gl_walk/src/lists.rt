@@ -77,25 +77,14 @@ impl Boxes {
         Ok(())
     }
 
-    /// Begins another list. The only error is want of memory.
-    fn begin_list(&mut self) -> Result<(), AllocError>
+    /// Begins another list, for what comes next. The only error is want of memory.
+    pub fn begin_list(&mut self) -> Result<(), AllocError>
         ensures boxes { OnOk result (boxes_in self.new ≡ boxes_in self.old) }
         ensures begun { OnOk result (self.new.last.items ≡ []) }
     {
         let alloc = *self.last.allocator();
         let last = mem::replace(&mut self.last, Vec::new(alloc));
         self.lists.push(last)?;
-        Ok(())
-    }
-
-    /// Begins another list for what comes next, if that lies apart. The only error is want of
-    /// memory.
-    pub fn begin_if(&mut self, apart: bool) -> Result<(), AllocError>
-        ensures { OnOk result (boxes_in self.new ≡ boxes_in self.old) }
-    {
-        if apart {
-            self.begin_list()?;
-        }
         Ok(())
     }
 

@@ -4,6 +4,7 @@ use Rattle.gl_box.specs.Cell.{spans_of, Covers}
 use Rattle.gl_box.specs.Closed.{box_of}
 use Rattle.gl_box.specs.Tuple.{places_of}
 use Rattle.gl_goal.specs.Goal.{Goal, whole_cell}
+use Rattle.gl_plain.specs.Code.Parts.{done_in, opened_in}
 use Rattle.gl_plain.specs.Machine.{IsAfter, State, closed_in, open_in, Worker}
 use Rattle.gl_goal.specs.Best.{IsNoLess, IsSound, total_of}
 use Rattle.gl_goal.specs.declared.best.Best.{Best}
@@ -17,8 +18,8 @@ use Rattle.gl_plain.specs.declared.worker.Worker as code
 pub record IsLeft (goal : Goal) (workers : ℕ) (steps : List Step) (left : Left) : Type 0 where
   pub state : State
   pub after : IsAfter goal workers steps state
-  pub open_ : map spans_of left.open_cells.items ≡ open_in state
-  pub closed : map box_of left.closed.items ≡ closed_in state
+  pub open_ : opened_in left.parts.items ≡ open_in state
+  pub closed : done_in left.parts.items ≡ closed_in state
   pub sound : IsSound goal left.known
   pub known : IsNoLess state.word (total_of left.known)
 

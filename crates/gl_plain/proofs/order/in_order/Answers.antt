@@ -2,20 +2,19 @@ use Rattle.std.proofs.Common.{sym, subst, List, arith}
 use Rattle.std.specs.List.Sorted.{IsPermutation}
 use Rattle.std.proofs.lemmas.List.Sorted.{IsPermutation-trans, length_permutation}
 use Rattle.std.proofs.lemmas.List.{with_items_is}
-use Rattle.gl_box.specs.declared.closed.Closed.{Closed}
 use Rattle.gl_box.specs.Cell.{spans_of}
 use Rattle.gl_plain.proofs.Partings.{parts-permutation}
 use Rattle.gl_plain.proofs.order.in_order.Goals as goal
 
 pub put_in_order-requires : goal.put_in_order-requires
-put_in_order-requires c =
-    let brought = subst (λ (boxes : List Closed). IsPermutation boxes c.bring_runs.new.boxes) c.as_mut_slice-boxes.ensures.value c.in_ok-bring_runs.ensures in
-    parts-permutation (spans_of c.args.whole.now) c.args.closed.items c.bring_runs.new.boxes brought c.requires
+put_in_order-requires g c =
+    let brought = subst (λ (boxes : List g.row.B.Denot). IsPermutation boxes c.bring_runs.new.boxes) c.as_mut_slice-boxes.ensures.value c.in_ok-bring_runs.ensures in
+    parts-permutation g.B.Boxed.spans (spans_of c.args.whole.now) c.args.closed.items c.bring_runs.new.boxes brought c.requires
 
 pub returns-clause-permutation : goal.returns-clause-permutation
-returns-clause-permutation c =
+returns-clause-permutation g c =
     let closed = c.args.closed in
     let boxes = c.put_in_order.new.boxes in
-    let brought = subst (λ (lent : List Closed). IsPermutation lent c.bring_runs.new.boxes) c.as_mut_slice-boxes.ensures.value c.in_ok-bring_runs.ensures in
+    let brought = subst (λ (lent : List g.row.B.Denot). IsPermutation lent c.bring_runs.new.boxes) c.as_mut_slice-boxes.ensures.value c.in_ok-bring_runs.ensures in
     let same = IsPermutation-trans closed.items c.bring_runs.new.boxes boxes brought c.in_ok-put_in_order.ensures.permutation in
     subst (IsPermutation closed.items) (sym (with_items_is closed boxes (omega (arith, length_permutation closed.items boxes same, closed.ok.0)))) same

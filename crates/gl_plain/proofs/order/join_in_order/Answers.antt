@@ -2,6 +2,7 @@ use Rattle.std.proofs.Common.{◌∙◌, sym, subst}
 use Rattle.std.specs.List.{flat_map}
 use Rattle.std.specs.List.Sorted.{IsPermutation}
 use Rattle.std.proofs.lemmas.List.Sorted.{IsPermutation-trans}
+use Rattle.gl_box.specs.declared.closed.Closed.{Closed}
 use Rattle.gl_box.specs.Cell.{spans_of}
 use Rattle.gl_plain.proofs.Flat.{flat-permutation}
 use Rattle.gl_plain.proofs.Partings.{parts-permutation}
@@ -12,7 +13,7 @@ in_order-requires c =
     let before = flat_map (λ list. list.items) c.args.lists.items in
     let same = flat-permutation (λ list. list.items) c.args.lists.items c.sort_by_cached_key.new.self.items c.sort_by_cached_key.ensures.permutation in
     let listed = c.in_ok-into_list.ensures ∙ c.from_lists-boxes.ensures in
-    parts-permutation (spans_of c.args.whole.now) before c.in_ok-into_list.field-0.items (subst (IsPermutation before) (sym listed) same) c.requires
+    parts-permutation (λ (box : Closed). spans_of box.cell) (spans_of c.args.whole.now) before c.in_ok-into_list.field-0.items (subst (IsPermutation before) (sym listed) same) c.requires
 
 pub returns-then-branch-clause-permutation : goal.returns-then-branch-clause-permutation
 returns-then-branch-clause-permutation c =

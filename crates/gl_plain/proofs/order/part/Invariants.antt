@@ -6,8 +6,8 @@ use Rattle.gl_plain.proofs.order.part.Given as goal
 
 -- of the boxes so far, those that the cell covers come first
 abbrev pub invariant-loop-place : goal.invariant-loop-place
-invariant-loop-place l = record {
+invariant-loop-place g l = record {
   within : l.count ≤ l.place;
   permutation : IsPermutation l.fn.boxes l.boxes;
-  parted : PartedAt (λ box. Covers (spans_of l.cell) (spans_of box.cell)) l.boxes l.count l.place;
+  parted : PartedAt (λ box. Covers (spans_of l.cell) (g.B.Boxed.spans box)) l.boxes l.count l.place;
 }

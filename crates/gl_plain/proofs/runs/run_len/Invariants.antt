@@ -5,8 +5,8 @@ use Rattle.gl_plain.proofs.runs.run_len.Given as goal
 use Rattle.gl_box.proofs.Work.{turns, work_of}
 
 abbrev pub invariant-halves : goal.invariant-halves
-invariant-halves l = l.count ≤ length l.boxes
+invariant-halves g l = l.count ≤ length l.boxes
 
 -- the work that the cell and the open cells can still make
 abbrev pub decreases-halves : goal.decreases-halves
-decreases-halves l = turns (spread (spans_of l.cell)) + work_of l.opened.items
+decreases-halves g l = turns (spread (spans_of l.cell)) + work_of l.opened.items

@@ -3,7 +3,7 @@ use Rattle.std.specs.List.Sorted.{IsPermutation}
 use Rattle.gl_plain.proofs.runs.trade.Given as goal
 
 abbrev pub invariant-loop-offset : goal.invariant-loop-offset
-invariant-loop-offset l = record {
+invariant-loop-offset g l = record {
   permutation : IsPermutation l.fn.boxes l.boxes;
   long : length l.boxes ≡ length l.fn.boxes;
 }

@@ -1,7 +1,10 @@
-use Rattle.std.proofs.Common.{map, reverse}
-use Rattle.gl_box.specs.Cell.{spans_of}
+use Rattle.std.specs.Prelude.{take}
+use Rattle.gl_plain.proofs.GivenWay.{HasGiven}
 use Rattle.gl_plain.proofs.search.finish.Given as goal
 
--- the cells that are open at first, the last one first
-abbrev pub ghost-run : goal.ghost-run
-ghost-run g a = reverse (map spans_of a.cells.now.items)
+-- the parts so far gave way
+abbrev pub invariant-loop-part : goal.invariant-loop-part
+invariant-loop-part g l = record {
+  given : HasGiven (g.G.Goal.rule l.goal) l.parts (take l.part-index l.parts) l.fn.known l.best l.closed.items;
+  legs : g.G.Goal.are_legs l.goal l.legs;
+}

@@ -3,6 +3,7 @@ use Rattle.std.specs.List.{flat_map}
 use Rattle.std.specs.List.Sorted.{IsPermutation}
 use Rattle.std.proofs.lemmas.List.Sorted.{All-permutation, IsPermutation-trans}
 use Rattle.std.proofs.lemmas.Result.{IfOk-weaker}
+use Rattle.gl_box.specs.declared.closed.Closed.{Closed}
 use Rattle.gl_box.specs.Cell.{spans_of}
 use Rattle.gl_plain.proofs.Flat.{flat-permutation}
 use Rattle.gl_plain.proofs.Partings.{parts-permutation}
@@ -24,7 +25,7 @@ pub join_in_order-requires : goal.join_in_order-requires
 join_in_order-requires c =
     let before = listed_in c.args.lists.items in
     let moved = flat-permutation (λ list. list.boxes.items) c.args.lists.items c.sort_by_key.new.self.items c.sort_by_key.ensures.permutation in
-    parts-permutation (spans_of c.args.whole.now) before (flat_map (λ list. list.items) c.in_ok-all.all.items) (subst (IsPermutation before) (sym c.in_ok-all.ensures.boxes) moved) c.requires.parts
+    parts-permutation (λ (box : Closed). spans_of box.cell) (spans_of c.args.whole.now) before (flat_map (λ list. list.items) c.in_ok-all.all.items) (subst (IsPermutation before) (sym c.in_ok-all.ensures.boxes) moved) c.requires.parts
 
 pub returns-clause-permutation : goal.returns-clause-permutation
 returns-clause-permutation c =

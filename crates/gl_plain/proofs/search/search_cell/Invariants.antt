@@ -1,13 +1,14 @@
+use Rattle.gl_box.specs.Cell.{spans_of}
 use Rattle.gl_goal.specs.Best.{IsNoLess, total_of}
-use Rattle.gl_plain.specs.Code.Steps.{IsUnderWay}
-use Rattle.gl_plain.proofs.search.run.Given as goal
+use Rattle.gl_plain.specs.Code.Steps.{GoesOn}
+use Rattle.gl_plain.proofs.search.search_cell.Given as goal
 use Rattle.gl_box.proofs.Work.{work_of}
 
 abbrev pub invariant-loop-best : goal.invariant-loop-best
 invariant-loop-best g l = record {
-  under_way : IsUnderWay (g.G.Goal.rule l.goal) g.roots l.best l.cells.items l.boxes.items;
+  on : GoesOn (g.G.Goal.rule l.goal) (spans_of l.fn.cell) l.best l.cells.items l.fn.boxes.items l.boxes.items;
   legs : g.G.Goal.are_legs l.goal l.legs;
-  grows : IsNoLess (total_of l.initial.best) (total_of l.best);
+  grows : IsNoLess (total_of l.fn.best) (total_of l.best);
 }
 
 -- the work that the open cells can still make
