@@ -4,7 +4,7 @@ use gl_hull::{Hull, max_sq, min_sq};
 use gl_sphere::dist;
 
 /// How long a leg is at least and at most, in centimetres.
-#[derive(Clone, Copy, Debug)]
+#[derive(Clone, Copy)]
 pub(crate) struct Leg {
     pub least: u64,
     pub most: u64,

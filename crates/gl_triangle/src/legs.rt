@@ -19,7 +19,7 @@ const GREATEST_LARGE_SHARE: u64 = 45;
 
 /// How long the legs of a triangle are at least and at most: from the first corner to the second,
 /// from there to the third, and back to the first.
-#[derive(Clone, Copy, Debug)]
+#[derive(Clone, Copy)]
 pub(crate) struct Legs {
     pub first: Leg,
     pub second: Leg,

@@ -16,7 +16,7 @@ use gl_goal::TriangleGoal;
 
 /// Spans that may hold a better triangle than what was found, the least and the greatest number of
 /// the fixes in each, the legs between them, and how long fair legs are there at most.
-#[derive(Clone, Copy, Debug)]
+#[derive(Clone, Copy)]
 pub(crate) struct Node {
     pub spans: Spans,
     pub numbers: Spans,

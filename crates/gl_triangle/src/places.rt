@@ -1,7 +1,7 @@
 use gl_box::Tuple;
 
 /// A place for each of the three fixes of a triangle.
-#[derive(Clone, Copy, Debug)]
+#[derive(Clone, Copy)]
 pub(crate) struct Places {
     pub first: u32,
     pub second: u32,

@@ -5,7 +5,7 @@ use gl_box::Span;
 use gl_hull::{Hulls, max_sq};
 
 /// A corner of a triangle.
-#[derive(Clone, Copy, Debug, PartialEq, Eq)]
+#[derive(Clone, Copy, PartialEq, Eq)]
 pub(crate) enum Corner {
     First,
     Second,
@@ -13,7 +13,7 @@ pub(crate) enum Corner {
 }
 
 /// A span of places for each corner of a triangle.
-#[derive(Clone, Copy, Debug)]
+#[derive(Clone, Copy)]
 pub(crate) struct Spans {
     pub first: Span,
     pub second: Span,

@@ -9,7 +9,7 @@ use gl_sphere::{dist, sq};
 use std::alloc::{AllocError, Global};
 
 /// Places to choose from for each of the three fixes of a triangle.
-#[derive(Debug, Drop)]
+#[derive(Drop)]
 pub(crate) struct Choices {
     pub first: Vec<u32>,
     pub second: Vec<u32>,
@@ -17,21 +17,21 @@ pub(crate) struct Choices {
 }
 
 /// The length of a leg, in centimetres.
-#[derive(Clone, Copy, Debug)]
+#[derive(Clone, Copy)]
 struct Length {
     centimetres: u64,
     ghost below: { centimetres < 2 ^ 40 },
 }
 
 /// Three places and the length of the legs round them.
-#[derive(Clone, Copy, Debug)]
+#[derive(Clone, Copy)]
 pub(crate) struct Chosen {
     pub total: u64,
     pub places: Places,
 }
 
 /// The leg from a first place to a second one.
-#[derive(Clone, Copy, Debug)]
+#[derive(Clone, Copy)]
 struct FirstLeg {
     from: u32,
     to: u32,
