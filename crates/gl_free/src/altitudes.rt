@@ -1,7 +1,7 @@
 ghost use Rattle.std.specs.Prelude.{pos, neg_ℤ, ◌≤ℤ◌};
 
 /// Altitudes from the lowest to the highest, in metres.
-#[derive(Clone, Copy, Debug)]
+#[derive(Clone, Copy)]
 pub(crate) struct Altitudes {
     pub lowest: i32,
     pub highest: i32,

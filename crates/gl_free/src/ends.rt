@@ -4,7 +4,7 @@ use crate::side::Side;
 use gl_hull::Hull;
 
 /// The fixes that may end a choice on one side: those from the lowest to the highest altitude.
-#[derive(Clone, Copy, Debug, PartialEq, Eq)]
+#[derive(Clone, Copy, PartialEq, Eq)]
 pub(crate) struct Ends {
     pub side: Side,
     pub lowest: i32,
@@ -12,7 +12,7 @@ pub(crate) struct Ends {
 }
 
 /// The ends that are allowed on both sides.
-#[derive(Clone, Copy, Debug)]
+#[derive(Clone, Copy)]
 pub(crate) struct Sides {
     pub before: Ends,
     pub after: Ends,

@@ -12,7 +12,7 @@ use gl_sphere::{GREATEST_SQUARE, dist};
 
 /// A place, and one more than how far it is, by a distance or by a squared chord: 0 where there is
 /// none.
-#[derive(Clone, Copy, Debug)]
+#[derive(Clone, Copy)]
 pub(crate) struct Far {
     pub value: u64,
     pub place: u32,

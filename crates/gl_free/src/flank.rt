@@ -22,7 +22,7 @@ const MORE_THAN_ARMS: u64 = 1 << 41;
 
 /// What is kept of one side of the middle fix: the farthest ends that are known, and candidates for
 /// the inner fix.
-#[derive(Debug, Drop)]
+#[derive(Drop)]
 pub(crate) struct Flank {
     pub known: Vec<Known>,
     pub candidates: Vec<Candidate>,

@@ -16,7 +16,7 @@ use gl_places::ByPlace;
 use std::alloc::{AllocError, Global};
 
 /// One side of the middle fix: the farthest allowed end from each fix, and the ways from there.
-#[derive(Debug, Drop)]
+#[derive(Drop)]
 pub(crate) struct Half {
     pub allowed: Ends,
     pub ends: Vec<Far>,

@@ -14,7 +14,7 @@ use gl_places::ByPlace;
 use std::alloc::{AllocError, Global};
 
 /// Both sides of the middle fix.
-#[derive(Debug, Drop)]
+#[derive(Drop)]
 pub(crate) struct Halves {
     pub before: Half,
     pub after: Half,

@@ -8,7 +8,7 @@ use gl_hull::{Hull, Hulls, max_sq};
 use gl_sphere::{GREATEST_SQUARE, dist};
 
 /// A span of places and the hull of the fixes there.
-#[derive(Clone, Copy, Debug)]
+#[derive(Clone, Copy)]
 pub(crate) struct Node {
     pub span: Span,
     pub hull: Hull,

@@ -1,5 +1,5 @@
 /// A first and a last fix of which the last is too low.
-#[derive(Clone, Copy, Debug)]
+#[derive(Clone, Copy)]
 pub(crate) struct Pair {
     pub first: u32,
     pub last: u32,

@@ -19,7 +19,7 @@ use std::alloc::AllocError;
 
 /// What a search has found so far, what it keeps of both sides of the middle fix, and how many
 /// candidates it may still look at: at the start of a run so many at least.
-#[derive(Debug, Drop)]
+#[derive(Drop)]
 pub(crate) struct Search {
     pub before: Flank,
     pub after: Flank,

@@ -5,7 +5,7 @@ ghost use Rattle.gl_free.specs.Code.Ends.{IsInside, IsPast};
 use gl_box::Span;
 
 /// The side of the middle fix on which the first two fixes stand, or the last two.
-#[derive(Clone, Copy, Debug, PartialEq, Eq)]
+#[derive(Clone, Copy, PartialEq, Eq)]
 pub(crate) enum Side {
     Before,
     After,

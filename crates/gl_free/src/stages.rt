@@ -12,7 +12,7 @@ const LEGS: usize = 4;
 
 /// Places for each of the five fixes, in time order, and the legs from each place of one of them to
 /// each place of the next.
-#[derive(Debug, Drop)]
+#[derive(Drop)]
 pub(crate) struct Stages {
     pub places: [[u32; MOST_PLACES]; 5],
     pub count: usize,
@@ -23,7 +23,7 @@ pub(crate) struct Stages {
 
 /// The places of the five fixes, and one more than the sum of the legs between those from one of
 /// them on: 0 where there is no way.
-#[derive(Clone, Copy, Debug)]
+#[derive(Clone, Copy)]
 pub(crate) struct Way {
     pub length: u64,
     pub places: [u32; 5],

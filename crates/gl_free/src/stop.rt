@@ -5,7 +5,7 @@ use crate::pair::Pair;
 
 /// How a search came to its end: with nothing better left, at ends of which the last is too low, or
 /// after so many looks that it was given up.
-#[derive(Clone, Copy, Debug)]
+#[derive(Clone, Copy)]
 pub(crate) enum Stop {
     Done,
     Low(Pair),

@@ -21,7 +21,7 @@ const FEW: u32 = 32;
 
 /// How long the way to each fix is, with one more, 0 where there is none, and what is known of the
 /// spans of the order by place.
-#[derive(Debug, Drop)]
+#[derive(Drop)]
 pub(crate) struct Tree {
     pub ways: Vec<u64>,
     pub branches: Vec<Branch>,

@@ -5,7 +5,7 @@ use gl_sphere::Vec3;
 
 /// How long a way to a fix of a group is at most, with one more, and the greatest squared chord
 /// from there: no way is 0.
-#[derive(Clone, Copy, Debug)]
+#[derive(Clone, Copy)]
 pub(crate) struct Most {
     pub way: u64,
     pub chord: u64,
@@ -15,7 +15,7 @@ pub(crate) struct Most {
 
 /// The longest way to a fix that was found, with one more, and the fix before it there. `way` and
 /// `chord` are of the leg that was found, or less.
-#[derive(Clone, Copy, Debug)]
+#[derive(Clone, Copy)]
 pub(crate) struct Longest {
     pub length: u64,
     pub from: u32,
@@ -24,7 +24,7 @@ pub(crate) struct Longest {
 }
 
 /// A fix to which ways go on, and the side of it on which the fixes before it on them stand.
-#[derive(Clone, Copy, Debug)]
+#[derive(Clone, Copy)]
 pub(crate) struct Target {
     pub number: u32,
     pub side: Side,
