@@ -18,7 +18,7 @@ pub struct ByPlace {
 }
 
 /// What parts fixes: a component of their points, or their numbers.
-#[derive(Clone, Copy, Debug, PartialEq, Eq)]
+#[derive(Clone, Copy, PartialEq, Eq)]
 enum Key {
     X,
     Y,
@@ -27,7 +27,7 @@ enum Key {
 }
 
 /// The least and the greatest of some values.
-#[derive(Clone, Copy, Debug)]
+#[derive(Clone, Copy)]
 struct Extent {
     least: i32,
     greatest: i32,
