@@ -4,7 +4,7 @@ use gl_hull::Hull;
 use gl_sphere::Vec3;
 
 /// The legs along some points: how long they are, in centimetres, and where they end.
-#[derive(Clone, Copy, Debug)]
+#[derive(Clone, Copy)]
 pub(crate) struct Way {
     pub length: u64,
     pub end: Vec3,
@@ -12,7 +12,7 @@ pub(crate) struct Way {
 }
 
 /// The greatest legs from hull to hull: how long they are, in centimetres, and where they end.
-#[derive(Clone, Copy, Debug)]
+#[derive(Clone, Copy)]
 pub(crate) struct GreatestWay {
     pub length: u64,
     pub end: Hull,
