@@ -14,6 +14,7 @@ pub mod Orders
 pub mod Searched
 pub mod Sheets
 pub mod Summed
+pub mod Taken
 pub mod Tallied
 pub mod Texts
 pub mod Unique

@@ -1,13 +1,12 @@
 -- How the line of a member of a team reads.
-use Rattle.std.proofs.Common.{◌≡◌, ◌≢◌, ◌∙◌, sym, ap, refl, ℕ, zero, suc, ◌+◌, true, List, [], ◌∷◌, ◌++◌, length, get_or}
-use Rattle.std.specs.Prelude.{All, IsTrue}
+use Rattle.std.proofs.Common.{◌≡◌, ◌≢◌, ◌∙◌, sym, ap, subst, ℕ, true, List, [], ◌∷◌, ◌++◌, Option, None}
+use Rattle.std.specs.Prelude.{All, IsTrue, IsUtf8, MatchOption}
 use Rattle.std.specs.Char.{is_ascii_alphanumeric}
 use Rattle.std.specs.List.{list_all}
 use Rattle.std.specs.Str.{IsAscii}
 use Rattle.std.proofs.lemmas.Bool.{false≢true, and_parts}
-use Rattle.std.proofs.lemmas.Bool.Decides.{nat_tests}
-use Rattle.std.proofs.lemmas.List.{get_or_at, length-append}
-use Rattle.std.proofs.lemmas.List.Elements.{All-cons, All-nil, All-tail}
+use Rattle.std.proofs.lemmas.Str.{IsUtf8-from_ascii}
+use Rattle.std.proofs.lemmas.List.Elements.{All-cons, All-nil}
 use Rattle.gl_text.specs.Spaces.{IsSpaced}
 use Rattle.gl_text.specs.Forms.{is_number, is_short}
 use Rattle.gl_text.proofs.Characters.{first_space, letters_ascii}
@@ -32,3 +31,9 @@ member_parted rest one another number team is_number spaced same =
 
 pub number_ascii : (text : List ℕ) → IsTrue (is_number text) → IsAscii text
 number_ascii text is = letters_ascii text (letters_of text is)
+
+-- what isn't text is no number
+pub not_number : {X : Type 0} (found : Option X) (Q : X → Type 0) (field bytes : List ℕ) → found ≡ None → bytes ≡ field → (IsUtf8 bytes → ⊥) → MatchOption found (IsTrue (is_number field) → ⊥) Q
+not_number found Q field bytes none same unread =
+    let no : IsTrue (is_number field) → ⊥ = λ is. unread (subst IsUtf8 (sym same) (IsUtf8-from_ascii field (number_ascii field is))) in
+    subst (λ o. MatchOption o (IsTrue (is_number field) → ⊥) Q) (sym none) no
