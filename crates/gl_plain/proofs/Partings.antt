@@ -1,5 +1,5 @@
 -- Cells that part a whole: they are the whole alone, or each lies in one of its halves, and those in a half part it.
-use Rattle.std.proofs.Common.{◌≡◌, ◌≢◌, ◌∙◌, sym, ap, refl, subst, ℕ, zero, suc, ◌+◌, ◌-◌, ◌/◌, ◌<◌, ◌≤◌, Bool, true, false, cond, ◌⊎◌, inl, inr, List, [], ◌∷◌, ◌++◌, length, get_or, take, drop, map, Option, arith}
+use Rattle.std.proofs.Common.{◌≡◌, ◌≢◌, ◌∙◌, sym, ap, refl, subst, ℕ, zero, suc, ◌+◌, ◌/◌, ◌<◌, ◌≤◌, Bool, true, false, cond, ◌⊎◌, inl, inr, List, [], ◌∷◌, ◌++◌, length, get_or, take, drop, map, Option, arith}
 use Rattle.std.specs.Prelude.{All}
 use Rattle.std.specs.List.{SwappedAt}
 use Rattle.std.proofs.lemmas.Bool.{cases_order}
@@ -75,20 +75,14 @@ ordered_held (s ∷ ss) ordered =
 cell_held : (cell : Cell) → HasTuple (spans_of cell)
 cell_held cell = ordered_held (spans_of cell) (spans_ordered (take cell.axes cell.spans))
 
-low_half : (lo hi : ℕ) → 0 < hi - lo → lo ≤ (lo + hi) / 2
-low_half lo hi wide = omega arith
-
-high_half : (lo hi : ℕ) → 0 < hi - lo → (lo + hi) / 2 + 1 ≤ hi
-high_half lo hi wide = omega arith
-
 ordered_half : (cell part : List (ℕ × ℕ)) → IsHalf cell part → AreOrdered cell → AreOrdered part
 ordered_half cell part is_half ordered =
     let halves = is_half.halves in
     let span = span_at cell halves.axis in
     let middle = (span.0 + span.1) / 2 in
     elim is_half.either [
-      | inl low ↦ subst AreOrdered (sym (low ∙ halves.lower_is)) (ordered-set cell halves.axis (span.0, middle) ordered (low_half span.0 span.1 halves.wide))
-      | inr high ↦ subst AreOrdered (sym (high ∙ halves.upper_is)) (ordered-set cell halves.axis (middle + 1, span.1) ordered (high_half span.0 span.1 halves.wide))
+      | inl low ↦ subst AreOrdered (sym (low ∙ halves.lower_is)) (ordered-set cell halves.axis (span.0, middle) ordered (omega (arith, halves.wide)))
+      | inr high ↦ subst AreOrdered (sym (high ∙ halves.upper_is)) (ordered-set cell halves.axis (middle + 1, span.1) ordered (omega (arith, halves.wide)))
     ]
 
 ordered_node : (cell node : List (ℕ × ℕ)) → IsNode cell node → AreOrdered cell → AreOrdered node
