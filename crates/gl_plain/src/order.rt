@@ -84,10 +84,10 @@ fn put_in_order<B: Boxed>(
     put_in_order(cell, back, opened)
 }
 
-/// The same boxes in the order of the split tree of a cell which they part: each of its tuples lies
-/// in exactly one of them. Boxes that come as a few runs in order take little more than three
-/// passes, and one where they are in order; no list of boxes is made beside theirs. The only error
-/// is want of memory.
+/// The same boxes, or other things that stand for cells, in the order of the split tree of a cell
+/// which they part: each of its tuples lies in exactly one of them. Those that come as a few runs
+/// in order take little more than three passes, and one where they are in order; no list is made
+/// beside theirs. The only error is want of memory.
 pub fn in_order<B: Boxed + Drop>(
     alloc: Global,
     whole: &Cell,

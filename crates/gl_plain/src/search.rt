@@ -109,9 +109,9 @@ fn search_cell<G: Goal>(
     Ok(())
 }
 
-/// Takes on what some cells were left as, one after another: an open one is searched until nothing
-/// in it is open, and one that was closed stays as it is. A legal tuple is known, if there is one,
-/// or a better one that is soon found. The only error is want of memory.
+/// Goes over cells as they were left, one after another: an open one is searched until nothing in
+/// it is open, and a closed one becomes its box. A legal tuple may be known, and a better one is
+/// looked for first. The only error is want of memory.
 pub(crate) fn finish<G: Goal>(
     alloc: Global,
     goal: &G,
