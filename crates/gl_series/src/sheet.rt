@@ -1,11 +1,11 @@
-ghost use Rattle.std.specs.Prelude.{◌≡◌, ◌≢◌, ◌⊎◌, ◌↔◌, ◌≤◌, ◌++◌, ◌∷◌, [], ℕ, All, IfOk, IfErr, IsErrOf, IsTrue, IsUtf8, MatchOption, MatchResult, length, map};
+ghost use Rattle.std.specs.Prelude.{◌≡◌, ◌≢◌, ◌⊎◌, ◌↔◌, ◌≤◌, ◌++◌, ◌∷◌, [], ℕ, false, All, IfOk, IfErr, IsErrOf, IsTrue, IsUtf8, MatchOption, MatchResult, length, map};
 ghost use Rattle.std.specs.Fmt.{decimal};
 ghost use Rattle.csv.specs.Records.{fields_of};
 ghost use Rattle.gl_series.specs.declared.day.DayRow.{DayRow};
 ghost use Rattle.gl_series.specs.declared.day.DaySheet.{DaySheet};
 ghost use Rattle.gl_series.specs.declared.error.SheetError.{SheetError};
 ghost use Rattle.gl_series.specs.declared.error.SheetError.TheVariants.{Memory};
-ghost use Rattle.gl_series.specs.Code.AddingRows.{IsNextRow, row_written, HasNumbers};
+ghost use Rattle.gl_series.specs.Code.AddingRows.{AddsRow, IsNextRow, row_written, HasNumbers};
 ghost use Rattle.gl_text.specs.Forms.{is_name, is_number};
 ghost use Rattle.gl_series.specs.SheetText.{IsRefusedSheet, IsRowOf, IsSheetOf, field_of, sheet_heading};
 ghost use Rattle.gl_series.specs.Totals.{IsDay};
@@ -189,6 +189,30 @@ fn next_row(
     Ok(Some(row))
 }
 
+/// Adds the row of a record behind others, and its number to theirs, where there is one that fits to
+/// them; answers whether there is. The only error is want of memory.
+fn add_row(
+    alloc: Global,
+    rows: &mut Vec<DayRow>,
+    numbers: &mut Numbers,
+    columns: &ByteRecord,
+) -> Result<bool, AllocError>
+    requires day { IsDay rows.old.items }
+    requires kept { HasNumbers numbers.old (map (λ row. row.number) rows.old.items) }
+    ensures added { IfOk result (λ added. IsTrue added
+        → AddsRow (fields_of columns.now) rows.old.items rows.new.items numbers.new) }
+    ensures none { IfOk result (λ added. (added ≡ false)
+        → (row : DayRow) → IsNextRow rows.old.items (fields_of columns.now) row → ⊥) }
+    ensures same { IfOk result (λ added. (added ≡ false) → rows.new ≡ rows.old) }
+{
+    let Some(row) = next_row(alloc, rows, numbers, columns)? else {
+        return Ok(false);
+    };
+    numbers.add(alloc, &row.number)?;
+    rows.push(row)?;
+    Ok(true)
+}
+
 /// The rows of a sheet, or why the text is none. Reading from memory fails for want of memory
 /// alone, and records may have any length.
 fn sheet_in(alloc: Global, text: &[u8]) -> Result<DaySheet, SheetError>
@@ -206,11 +230,9 @@ fn sheet_in(alloc: Global, text: &[u8]) -> Result<DaySheet, SheetError>
     let mut rows = Vec::new(alloc);
     let mut numbers = Numbers::new(alloc);
     for record in reader.into_byte_records() {
-        let Some(row) = next_row(alloc, &rows, &numbers, &record?)? else {
+        if !add_row(alloc, &mut rows, &mut numbers, &record?)? {
             return Err(SheetError::Record(rows.len() as u32 + 2));
-        };
-        numbers.add(alloc, &row.number)?;
-        rows.push(row)?;
+        }
     }
     Ok(DaySheet {
         rows: Items::from_vec(rows),

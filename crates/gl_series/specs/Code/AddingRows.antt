@@ -2,7 +2,7 @@
 use Rattle.std.specs.BTreeSet.{contains}
 use Rattle.std.specs.Cmp.Lexicographic.{slice_cmp}
 use Rattle.std.specs.Ordering.{nat_cmp}
-use Rattle.std.specs.Prelude.{ℕ, List, [], ◌∷◌, ◌++◌, ◌≡◌, ◌≢◌, ◌↔◌, All, false}
+use Rattle.std.specs.Prelude.{ℕ, List, [], ◌∷◌, ◌++◌, ◌≡◌, ◌≢◌, ◌↔◌, All, false, map}
 use Rattle.gl_series.specs.SheetText.{IsRowOf}
 use Rattle.gl_series.specs.Totals.{IsDay}
 use Rattle.gl_series.specs.declared.day.DayRow.{DayRow}
@@ -27,3 +27,11 @@ abbrev pub HasNumbers : Numbers → List (List ℕ) → Type 0
 HasNumbers kept numbers = (number : List ℕ)
     → (contains (slice_cmp nat_cmp) kept.seen number ≡ false)
     ↔ All (λ other. other ≢ number) numbers
+
+-- the row of a record was added behind those before it, and its number is kept
+pub record AddsRow (fields : List (List ℕ)) (before after : List DayRow)
+    (numbers : Numbers) : Type 0 where
+  pub row : DayRow
+  pub next : IsNextRow before fields row
+  pub added : after ≡ before ++ row ∷ []
+  pub kept : HasNumbers numbers (map (λ row. row.number) after)

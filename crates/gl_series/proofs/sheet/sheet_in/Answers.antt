@@ -1,4 +1,4 @@
-use Rattle.std.proofs.Common.{◌≡◌, ◌∙◌, sym, subst, inl, inr, List, [], ◌∷◌, arith}
+use Rattle.std.proofs.Common.{◌≡◌, ◌∙◌, sym, ap, subst, inl, inr, List, [], ◌∷◌, length, Vec, Global, arith}
 use Rattle.std.proofs.lemmas.Bool.{false≢true}
 use Rattle.csv.specs.Reading.{Ready, default_config, strip_bom}
 use Rattle.csv.specs.Records.{fields_of}
@@ -6,9 +6,7 @@ use Rattle.csv.specs.declared.parser.State.TheVariants as st
 use Rattle.csv.specs.declared.reader.Trim.TheVariants as trim
 use Rattle.csv.proofs.ReadFacts.{rows-end, rows-more}
 use Rattle.gl_series.specs.declared.day.DayRow.{DayRow}
-use Rattle.gl_series.specs.Code.AddingRows.{IsNextRow}
 use Rattle.gl_series.specs.SheetText.{IsSheetOf, sheet_heading}
-use Rattle.gl_series.proofs.Kept.{kept_item}
 use Rattle.gl_series.proofs.Sheets.{first_read, left_of, rows_all, rows_further, rows_none, unread_heading, wrong_heading, wrong_here}
 use Rattle.gl_series.proofs.sheet.sheet_in.Goals as goal
 use Rattle.gl_series.proofs.sheet.sheet_in.Goals.{then-not-branch-via-then-not-branch, then-not-branch-via-else-not-branch+then-not-is_heading}
@@ -57,8 +55,8 @@ loop-record-init c =
       rows = rows_none text fields new.state first.0 first.2 is_heading;
     })
 
-pub returns-in_default-clause-refused : goal.returns-in_default-clause-refused
-returns-in_default-clause-refused c =
+pub returns-then-not-branch-2-clause-refused : goal.returns-then-not-branch-2-clause-refused
+returns-then-not-branch-2-clause-refused c =
     let inv = c.loop-record.invariant in
     let s = rw (c.in-Some.is, c.in_ok-record.was) at ((c.next.ensures.steps inv.more inv.plain).0 inv.ready) in
     let before = c.loop-record.record-iterator.rdr in
@@ -67,8 +65,9 @@ returns-in_default-clause-refused c =
     let text = c.args.text.now in
     let rows = c.loop-record.rows.items in
     let m = rows-more left_of before after fields default_config st.StartRecord (strip_bom text) inv.ahead (sheet_heading ∷ inv.rows.read) inv.config inv.source inv.rows.reached s.0 in
-    let none = rw (c.in_default.is, c.deref.ensures.value) at c.in_ok-row.ensures in
-    wrong_here text rows before.state after.state inv.ahead m.0 inv.rows fields _ m.2 none (omega (arith, c.len.ensures))
+    let none = c.in_ok-add_row.ensures.none c.if-not-branch-2.true in
+    let long = ap (λ (kept : Vec DayRow Global). length kept.items) (c.in_ok-add_row.ensures.same c.if-not-branch-2.true) in
+    wrong_here text rows before.state after.state inv.ahead m.0 inv.rows fields _ m.2 none (omega (arith, c.len.ensures, long, c.add_row-in-loop-record.new.rows.ok.0))
 
 pub loop-record-preserved : goal.loop-record-preserved
 loop-record-preserved c =
@@ -80,8 +79,7 @@ loop-record-preserved c =
     let text = c.args.text.now in
     let rows = c.loop-record.rows.items in
     let m = rows-more left_of before after fields default_config st.StartRecord (strip_bom text) inv.ahead (sheet_heading ∷ inv.rows.read) inv.config inv.source inv.rows.reached s.0 in
-    let row = c.in-Some-2.row in
-    let next : IsNextRow rows fields row = rw (c.in-Some-2.is, c.deref.ensures.value) at c.in_ok-row.ensures in
+    let adds = c.in_ok-add_row.ensures.added c.if-not-branch-2.false in
     record {
       plain = s.0.3 ∙ inv.plain;
       ready = inl s.1;
@@ -89,8 +87,8 @@ loop-record-preserved c =
       config = s.0.2 ∙ inv.config;
       ahead = m.0;
       source = m.1;
-      kept = kept_item (λ (row : DayRow). row.number) c.loop-record.numbers.seen c.add.new.self.seen rows c.push.new.self.items row c.in_ok-push.ensures.items c.in_ok-add.ensures inv.kept;
-      rows = rows_further text rows c.push.new.self.items before.state after.state inv.ahead m.0 inv.rows fields row m.2 next c.in_ok-push.ensures.items;
+      kept = adds.kept;
+      rows = rows_further text rows c.add_row-in-loop-record.new.rows.items before.state after.state inv.ahead m.0 inv.rows fields adds.row m.2 adds.next adds.added;
     }
 
 pub returns-clause-ok : goal.returns-clause-ok
