@@ -1,13 +1,1 @@
-pub mod Accepting
-pub mod BadgeLaws
-pub mod Badges
-pub mod CheckLaws
-pub mod DemoLaws
-pub mod ScoreLaws
-pub mod Commanded
-pub mod DayLines
-pub mod DemoTask
-pub mod Demos
-pub mod OneAnswer
 pub mod Rights
-pub mod PartOfDay

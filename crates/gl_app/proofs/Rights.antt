@@ -18,15 +18,15 @@ use Rattle.gl_app.specs.Run.{promise_of}
 use Rattle.gl_answer.specs.Statuses.{stop_at}
 use Rattle.gl_answer.specs.Texts.{IsLine, usage_line}
 use Rattle.gl_flights.specs.Triangle.{IsTriangleText}
-use Rattle.gl_app.proofs.BadgeLaws.{badge_check_lawful, badge_lawful}
-use Rattle.gl_app.proofs.CheckLaws.{check_lawful}
-use Rattle.gl_app.proofs.DemoLaws.{demo_lawful}
+use Rattle.gl_claims.proofs.BadgeLaws.{badge_check_lawful, badge_lawful}
+use Rattle.gl_claims.proofs.CheckLaws.{check_lawful}
+use Rattle.gl_claims.proofs.DemoLaws.{demo_lawful}
 use Rattle.gl_answer.proofs.LineTexts.{line_of}
 use Rattle.gl_flights.proofs.NearLaws.{near_check_lawful, near_lawful}
 use Rattle.gl_flights.proofs.OfFileLaws.{of_file_lawful}
 use Rattle.gl_answer.proofs.Promises.{IsLawful, result_goes_on, result_no_words}
 use Rattle.gl_flights.proofs.ReplayLaws.{replay_lawful}
-use Rattle.gl_app.proofs.ScoreLaws.{score_lawful}
+use Rattle.gl_claims.proofs.ScoreLaws.{score_lawful}
 use Rattle.gl_flights.proofs.SeriesLaws.{series_lawful}
 
 -- Each command keeps the laws. A further command has its line here.

@@ -1,27 +1,22 @@
 -- The promises of the commands, and how a run ends.
-use Rattle.std.specs.Prelude.{◌≡◌, ◌≢◌, ◌↔◌, ℕ, IfNone, IsNone, List, [], Option, None, Some, take, ◌⊎◌, MatchOption}
+use Rattle.std.specs.Prelude.{◌≡◌, ◌≢◌, ◌↔◌, ℕ, IfNone, IsNone, List, Option, None, Some}
 use Rattle.gl_desk.specs.Answers.{CountsFaults}
-use Rattle.gl_desk.specs.Desk.{FilesByName, Told, followed_by}
-use Rattle.gl_desk.specs.declared.error.DeskError.{DeskError}
+use Rattle.gl_desk.specs.Desk.{FilesByName, Told}
 use Rattle.gl_day.specs.Flight.{StewardRules}
 use Rattle.gl_words.specs.Words.{Badge, BadgeCheck, Check, Command, Demo, Free, Near, NearCheck, Point, Replay, Score, Series, Triangle, command_of}
-use Rattle.gl_answer.specs.Appending.{HasGiven, IsAppended}
-use Rattle.gl_answer.specs.declared.answer.Answer as code
 use Rattle.gl_answer.specs.declared.status.Status.{Status}
 use Rattle.gl_answer.specs.declared.status.Status.TheVariants.{Done, Refused, Words}
-use Rattle.gl_answer.specs.Answer.{Answer, answer_with}
-use Rattle.gl_app.specs.Badge.{badge_check_promise, badge_promise}
-use Rattle.gl_app.specs.Check.{check_promise}
-use Rattle.gl_app.specs.Demo.{demo_promise}
+use Rattle.gl_claims.specs.Badge.{badge_check_promise, badge_promise}
+use Rattle.gl_claims.specs.Check.{check_promise}
+use Rattle.gl_claims.specs.Demo.{demo_promise}
 use Rattle.gl_flights.specs.Free.{free_promise}
 use Rattle.gl_flights.specs.Near.{near_check_promise, near_promise, point_promise}
 use Rattle.gl_answer.specs.Given.{Ends, SaidLine}
 use Rattle.gl_answer.specs.Promise.{Promise, no_command}
 use Rattle.gl_flights.specs.Replay.{replay_promise}
-use Rattle.gl_app.specs.Score.{score_promise}
+use Rattle.gl_claims.specs.Score.{score_promise}
 use Rattle.gl_flights.specs.Series.{series_promise}
 use Rattle.gl_answer.specs.Statuses.{stop_at}
-use Rattle.gl_answer.specs.Texts.{IsLine}
 use Rattle.gl_flights.specs.Triangle.{triangle_promise}
 
 -- The promise of a command, or of words of no form. A further command has its line here.

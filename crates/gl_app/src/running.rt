@@ -10,13 +10,13 @@ ghost use Rattle.gl_answer.specs.Given.{Ends, HasAnswered, IsStopped, SaidLine};
 ghost use Rattle.gl_app.specs.Run.{IsRun, promise_of};
 ghost use Rattle.gl_answer.specs.Statuses.{stop_at};
 
-use crate::badge::badge;
-use crate::badge_check::badge_check;
-use crate::check::check;
-use crate::demo::demo;
 use crate::racing::{Racing, race};
-use crate::score::score;
 use gl_answer::{Answer, Status, usage};
+use gl_claims::badge::badge;
+use gl_claims::badge_check::badge_check;
+use gl_claims::check::check;
+use gl_claims::demo::demo;
+use gl_claims::score::score;
 use gl_day::{Alone, Search};
 use gl_desk::{Desk, DeskError, Name};
 use gl_flights::near::near;

@@ -9,5 +9,6 @@ pub mod Pourings
 pub mod Readings
 pub mod ReadsTwice
 pub mod ReplayTests
+pub mod SameFiles
 pub mod SeriesTests
 pub mod TaskSame

@@ -1,11 +1,7 @@
 -- The laws of `near` and `nearcheck`.
-use Rattle.std.proofs.Common.{◌≡◌, ◌≢◌, ◌∙◌, refl, sym, ap, subst, ℕ, ◌≤◌, ◌⊎◌, inl, inr, true, List, length, map, Option, None, Some, Result, Ok}
+use Rattle.std.proofs.Common.{◌≡◌, ◌≢◌, ◌∙◌, refl, sym, ap, subst, ℕ, ◌≤◌, ◌⊎◌, inl, inr, true, List, length, map, Option, None, Some}
 use Rattle.std.specs.Prelude.{IsNone, IsSome, IsSomeAnd}
 use Rattle.gl_desk.specs.Desk.{FilesByName}
-use Rattle.gl_igc.proofs.SameRecording.{recording_same}
-use Rattle.gl_igc.specs.Reading.{Reading}
-use Rattle.gl_igc.specs.Recording.{reading_of}
-use Rattle.gl_igc.specs.declared.error.IgcError.{IgcError}
 use Rattle.gl_igc.specs.declared.recording.Recording.{Recording}
 use Rattle.gl_near.proofs.Judged.{certificate_yes}
 use Rattle.gl_near.proofs.Reading.{text_unique}
@@ -24,6 +20,7 @@ use Rattle.gl_files.specs.declared.refusal.Refusal.{Refusal}
 use Rattle.gl_files.specs.FileTests.{AllPass, FirstFails, IsRecordingOf, most_proof_bytes}
 use Rattle.gl_files.specs.NearFiles.{AreNearRead, IsNearSeen, NearSeen, near_check_tests, near_tests}
 use Rattle.gl_files.proofs.FileTests.{AreNamed, none_fails}
+use Rattle.gl_files.proofs.SameFiles.{one_recording, still}
 use Rattle.gl_answer.specs.declared.status.Status.{Status}
 use Rattle.gl_answer.specs.declared.status.Status.TheVariants as status
 use Rattle.gl_answer.specs.Answer.{Answer, refused}
@@ -108,12 +105,6 @@ found_of before words answer (seen, is, inr (refusal, fails, same)) done =
     let e : ◌≡◌ {A = Status} status.Refused status.Done = sym (ap (λ (a : Answer). a.status) same) ∙ done in
     absurd (cc)
 
--- a file that was seen is another than one that wasn't, and is as it was
-pub still : (before files : FilesByName) (file proof : List ℕ) (seen unseen : Option (List ℕ)) → before file ≡ seen → before proof ≡ unseen → IsSome seen → IsNone unseen
-    → ((other : List ℕ) → other ≢ proof → files other ≡ before other) → files file ≡ seen
-still before files file proof seen unseen is not some none others =
-    others file (λ same. let e : seen ≡ unseen = sym is ∙ ap before same ∙ not in cc) ∙ is
-
 -- what is seen in the folder with the proof
 abbrev seen_with : NearSeen → List ℕ → NearSeen
 seen_with seen text = record { flight = seen.flight; other = seen.other; proof = Some text }
@@ -138,13 +129,6 @@ all_pass : (words : NearWords) (seen : NearSeen) (text : List ℕ) (best : Optio
 all_pass words seen text best boxes passes small is =
     let rest = passes.1.1.1 in
     (passes.0, (passes.1.0, (refl, (rest.0, (rest.1.0, (rest.1.1.0, (rest.1.1.1.0, (small, ((best, boxes, is), tt)))))))))
-
--- a text has one recording
-pub one_recording : (seen : Option (List ℕ)) (day : _) (a b : Recording) → IsSomeAnd seen (λ text. IsRecordingOf day text a) → IsSomeAnd seen (λ text. IsRecordingOf day text b) → a ≡ b
-one_recording None day a b is_a is_b = absurd is_a
-one_recording (Some text) day a b is_a is_b =
-    let e : ◌≡◌ {A = Result Reading IgcError} (Ok (reading_of a)) (Ok (reading_of b)) = sym is_a ∙ is_b in
-    recording_same a b (cc)
 
 same_pairs : (seen : NearSeen) (text : List ℕ) (seconds : ℕ) (one other : Recording × Recording) → AreNearRead seen one → AreNearRead (seen_with seen text) other
     → pairs_of other seconds ≡ pairs_of one seconds

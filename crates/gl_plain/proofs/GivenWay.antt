@@ -27,10 +27,10 @@ use Rattle.gl_plain.specs.declared.part.Part.TheVariants.{Open, Done}
 use Rattle.gl_plain.specs.declared.search.Finished.{Finished}
 use Rattle.gl_plain.specs.Code.Parts.{GiveWay, GivesWay, IsDoneFor, IsFinished, IsMet, cell_of, done_in, opened_in}
 use Rattle.gl_plain.specs.Code.Steps.{IsMetFrom, IsSearched}
-use Rattle.gl_plain.specs.Order.{cells_of}
+use Rattle.gl_order.specs.Order.{cells_of}
 use Rattle.gl_plain.specs.Search.{IsNeeded}
 use Rattle.gl_plain.specs.Steps.{LiesInOne}
-use Rattle.gl_plain.proofs.Flat.{turned}
+use Rattle.gl_order.proofs.Flat.{turned}
 use Rattle.gl_plain.proofs.Roots.{All_members}
 use Rattle.gl_plain.proofs.Stack.{closed_longer}
 use Rattle.gl_text.proofs.Lists.{AllZip-push, All-unmap}

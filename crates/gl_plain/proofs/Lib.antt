@@ -1,10 +1,9 @@
-pub mod Flat
+pub mod Certified
 pub mod Gathered
 pub mod GivenWay
 pub mod Kept
 pub mod Machines
 pub mod Outcome
-pub mod Partings
 pub mod Places
 pub mod Replays
 pub mod Roots

@@ -30,7 +30,7 @@ use Rattle.gl_plain.specs.declared.part.Part.{Part}
 use Rattle.gl_plain.specs.declared.part.Part.TheVariants.{Open, Done}
 use Rattle.gl_plain.specs.Code.Parts.{IsDoneFor, IsFinished, cell_of, done, done_in, opened, opened_in, parts_left}
 use Rattle.gl_plain.specs.Machine.{Runs, State, Worker, closed_in, open_cells, open_in, start}
-use Rattle.gl_plain.specs.Order.{AreParts, cells_of}
+use Rattle.gl_order.specs.Order.{AreParts, cells_of}
 use Rattle.gl_plain.specs.Code.Workers.{IsLeft, kept_of, state_of, worker_of, workers_of}
 use Rattle.gl_plain.specs.Replayed.{IsReplay}
 use Rattle.gl_plain.specs.Safe.{IsKept, IsSafe, IsSafeWorker, worker_cells}
@@ -39,7 +39,7 @@ use Rattle.gl_plain.specs.Steps.{LiesInOne}
 use Rattle.gl_plain.proofs.Gathered.{all_flat}
 use Rattle.gl_plain.proofs.Machines.{closed_few, closed_seen, runs_safe, start_safe}
 use Rattle.gl_plain.proofs.Outcome.{runs_one}
-use Rattle.gl_plain.proofs.Flat.{flat-permutation}
+use Rattle.gl_order.proofs.Flat.{flat-permutation}
 use Rattle.gl_plain.proofs.GivenWay.{All_done, All_parts, apart, frontiers_of, joined, mult_parts}
 use Rattle.gl_plain.proofs.Roots.{frontier_through}
 use Rattle.gl_plain.proofs.Stack.{certificate_made}

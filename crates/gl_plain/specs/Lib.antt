@@ -3,7 +3,6 @@ pub mod CellVerdict
 pub mod Code
 pub mod Found
 pub mod Machine
-pub mod Order
 pub mod Replayed
 pub mod Safe
 pub mod Search

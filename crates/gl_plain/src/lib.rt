@@ -6,10 +6,8 @@ mod climb;
 mod dive;
 mod found;
 mod machine;
-mod order;
 mod part;
 mod replayed;
-mod runs;
 mod search;
 mod spaced;
 mod verdict;
@@ -17,7 +15,6 @@ mod warm;
 mod worker;
 
 pub use found::Found;
-pub use order::{in_order, join_in_order};
 pub use replayed::{Replayed, replay};
 pub use search::search_one;
 pub use verdict::{CellVerdict, test_for};

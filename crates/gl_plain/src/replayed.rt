@@ -10,12 +10,12 @@ ghost use Rattle.gl_goal.specs.Best.{IsNoLess, IsSound, total_of};
 
 use crate::found::Found;
 use crate::machine::Machine;
-use crate::order::in_order;
 use crate::part::Part;
 use crate::search::{Finished, finish};
 use crate::worker::Worker;
 use gl_box::{Cell, Closed};
 use gl_goal::{Best, Goal, better, whole};
+use gl_order::sorted;
 use gl_schedule::Step;
 use gl_walk::Boxes;
 use std::alloc::{AllocError, Global};
@@ -151,7 +151,7 @@ pub fn replay<G: Goal>(
 {
     let Left { known, parts } = work(alloc, goal, workers, steps)?;
     let by_steps = count_done(&parts) as u32;
-    let parts = in_order(alloc, &whole(goal), parts)?;
+    let parts = sorted(alloc, &whole(goal), parts)?;
     let Finished { best, closed } = finish(alloc, goal, known, &parts)?;
     let closed = Boxes::from_list(closed);
     Ok(Replayed {

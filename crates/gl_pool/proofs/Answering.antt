@@ -15,10 +15,10 @@ use Rattle.gl_goal.proofs.Optimum.{certificate_optimum}
 use Rattle.gl_goal.specs.declared.best.Best.{Best}
 use Rattle.gl_plain.specs.declared.found.Found.{Found}
 use Rattle.gl_plain.specs.Answer.{IsAnswer}
-use Rattle.gl_plain.specs.Order.{AreParts, cells_of}
+use Rattle.gl_order.specs.Order.{AreParts, cells_of}
 use Rattle.gl_goal.specs.Best.{fixes_of, total_of as found_total}
 use Rattle.gl_plain.specs.Search.{IsNeeded}
-use Rattle.gl_plain.proofs.Partings.{certificate_of}
+use Rattle.gl_plain.proofs.Certified.{certificate_of}
 use Rattle.gl_goal.proofs.Totals.{none_exactly}
 use Rattle.gl_best.specs.declared.word.BestWord.{BestWord}
 use Rattle.gl_best.specs.Rule.{sixteen, times}
@@ -31,7 +31,7 @@ use Rattle.gl_pool.specs.Code.Tally.{IsTally, word_of}
 use Rattle.gl_pool.proofs.Hearing.{closed_longer}
 use Rattle.gl_pool.proofs.Together.{closed_needed, closed_parts}
 use Rattle.gl_walk.specs.InLists.{boxes_in}
-use Rattle.gl_pool.specs.Listed.{listed_in}
+use Rattle.gl_order.specs.InRuns.{boxes_in_runs}
 
 -- the word for what was found says its total
 total_of-word : (best : Option Best) → total_of (word_of best) ≡ found_total best
@@ -39,25 +39,25 @@ total_of-word None = refl
 total_of-word (Some best) = ap total_of (add-one best.total)
 
 pub parts_to_order : (rule : Goal) (all : Cell) (tally_after : Tally) → spans_of all ≡ whole_cell rule.axes → ComesToAll rule tally_after
-    → AreParts (spans_of all) (cells_of (listed_in tally_after.closed.items))
-parts_to_order rule all tally_after is comes = subst (λ (c : List (ℕ × ℕ)). AreParts c (cells_of (listed_in tally_after.closed.items))) (sym is)
-    (closed_parts rule comes.first comes.taken comes.put (listed_in tally_after.closed.items) comes.strange comes.all)
+    → AreParts (spans_of all) (cells_of (boxes_in_runs tally_after.closed.items))
+parts_to_order rule all tally_after is comes = subst (λ (c : List (ℕ × ℕ)). AreParts c (cells_of (boxes_in_runs tally_after.closed.items))) (sym is)
+    (closed_parts rule comes.first comes.taken comes.put (boxes_in_runs tally_after.closed.items) comes.strange comes.all)
 
 pub answered : (rule : Goal) (word : BestWord) (all : Cell) (tally_after : Tally) (found : Found) → IsGoal rule → spans_of all ≡ whole_cell rule.axes → IsTally rule word tally_after
     → ComesToAll rule tally_after → (view_of tally_after.seat).seen ≤ (view_of tally_after.seat).raised → found.best ≡ tally_after.best → IsFrontier (spans_of all) (cells_of (boxes_in found.closed))
-    → IsPermutation (listed_in tally_after.closed.items) (boxes_in found.closed) → IsAnswer rule found
+    → IsPermutation (boxes_in_runs tally_after.closed.items) (boxes_in found.closed) → IsAnswer rule found
 answered rule word all tally_after found goal is is_tally comes seen best frontier same =
     let heard : (view_of tally_after.seat).seen ≤ word_of tally_after.best = omega (arith, seen, is_tally.raised) in
-    let each : All (λ (b : Closed). IsClosedFor rule (found_total tally_after.best) (spans_of b.cell) b.why) (listed_in tally_after.closed.items) = λ k d below.
-    subst (λ (total : Option ℕ). IsClosedFor rule total (spans_of (get_or (listed_in tally_after.closed.items) k d).cell) (get_or (listed_in tally_after.closed.items) k d).why)
+    let each : All (λ (b : Closed). IsClosedFor rule (found_total tally_after.best) (spans_of b.cell) b.why) (boxes_in_runs tally_after.closed.items) = λ k d below.
+    subst (λ (total : Option ℕ). IsClosedFor rule total (spans_of (get_or (boxes_in_runs tally_after.closed.items) k d).cell) (get_or (boxes_in_runs tally_after.closed.items) k d).why)
     (total_of-word tally_after.best)
-    (closed_longer rule (view_of tally_after.seat).seen (word_of tally_after.best) (spans_of (get_or (listed_in tally_after.closed.items) k d).cell)
-    (get_or (listed_in tally_after.closed.items) k d).why heard (is_tally.closed k d below)) in
-    let certificate = certificate_of rule tally_after.best (listed_in tally_after.closed.items) (boxes_in found.closed) is_tally.sound
+    (closed_longer rule (view_of tally_after.seat).seen (word_of tally_after.best) (spans_of (get_or (boxes_in_runs tally_after.closed.items) k d).cell)
+    (get_or (boxes_in_runs tally_after.closed.items) k d).why heard (is_tally.closed k d below)) in
+    let certificate = certificate_of rule tally_after.best (boxes_in_runs tally_after.closed.items) (boxes_in found.closed) is_tally.sound
     (subst (λ (c : List (ℕ × ℕ)). IsFrontier c (cells_of (boxes_in found.closed))) is frontier) same each in
     let optimum = certificate_optimum rule (found_total tally_after.best) (fixes_of rule tally_after.best) _ goal certificate in
-    let needed = All-permutation (λ (b : Closed). IsNeeded rule (spans_of b.cell)) (listed_in tally_after.closed.items) (boxes_in found.closed) same
-    (closed_needed rule comes.first comes.taken comes.put (listed_in tally_after.closed.items) comes.strange comes.all) in
+    let needed = All-permutation (λ (b : Closed). IsNeeded rule (spans_of b.cell)) (boxes_in_runs tally_after.closed.items) (boxes_in found.closed) same
+    (closed_needed rule comes.first comes.taken comes.put (boxes_in_runs tally_after.closed.items) comes.strange comes.all) in
     subst (λ (b : Option Best). IsAnswer rule (record { best = b; closed = found.closed })) (sym best) (record {
       certificate = certificate;
       once = λ tuple held. mult-held (whole_cell rule.axes) (map (λ box. box.0) (map box_of (boxes_in found.closed))) tuple certificate.frontier held;

@@ -15,7 +15,7 @@ use Rattle.gl_pool.specs.declared.crew.Worker.{Worker}
 use Rattle.gl_pool.specs.declared.tally.Tally.{Tally}
 use Rattle.gl_pool.specs.Code.Crew.{closed_by, times_seated}
 use Rattle.gl_pool.specs.Code.Tally.{Gathers, IsTally}
-use Rattle.gl_pool.specs.Listed.{listed_in}
+use Rattle.gl_order.specs.InRuns.{boxes_in_runs}
 
 -- some workers at the end of a list are collected, and the rest is still to come
 pub record Collecting (word : BestWord) (worked rest : List (Result Worker AllocError)) (places : List Place) (tally : Tally) : Type 0 where
@@ -23,7 +23,7 @@ pub record Collecting (word : BestWord) (worked rest : List (Result Worker Alloc
   pub rest_is : worked ≡ rest ++ map Ok workers
   pub places_are : places ≡ reverse (map (λ worker. worker.place) workers)
   pub is_tally : (rule : Goal) → All (λ worker. IsTally rule word worker.tally) workers → IsTally rule word tally
-  pub closed : (listed_in tally.closed.items) ≡ closed_by workers
+  pub closed : (boxes_in_runs tally.closed.items) ≡ closed_by workers
   pub numbers : (number : ℕ) → times number (view_of tally.seat).numbers ≡ times_seated number workers
 
 abbrev place_in : Worker → Place
@@ -48,7 +48,7 @@ collecting_more word worked rest less places more tally after worker is one gath
   places_are = one ∙ ap (λ (l : List Place). l ++ worker.place ∷ []) so_far.places_are ∙ sym (reverse-append (worker.place ∷ []) (map place_in so_far.workers));
   is_tally = λ rule all. gathers.keeps rule (so_far.is_tally rule (All-tail (λ (w : Worker). IsTally rule word w.tally) worker so_far.workers all))
       (All-head (λ (w : Worker). IsTally rule word w.tally) worker so_far.workers all);
-  closed = gathers.joined ∙ ap (λ l. l ++ (listed_in worker.tally.closed.items)) so_far.closed;
+  closed = gathers.joined ∙ ap (λ l. l ++ (boxes_in_runs worker.tally.closed.items)) so_far.closed;
   numbers = λ number.
       let sum = sum_by-cons (λ (w : Worker). times number (view_of w.tally.seat).numbers) worker so_far.workers in
       let both = times-append number (view_of tally.seat).numbers (view_of worker.tally.seat).numbers in

@@ -18,7 +18,7 @@ use Rattle.gl_pool.specs.Parts.{ArePartedInto}
 use Rattle.gl_pool.specs.Taken.{duty_of, ends_of, stolen_weight, taken_weight}
 use Rattle.gl_pool.specs.Code.Tally.{Turns}
 use Rattle.gl_pool.proofs.Together.{worked_both}
-use Rattle.gl_pool.specs.Listed.{listed_in}
+use Rattle.gl_order.specs.InRuns.{boxes_in_runs}
 
 -- the first places are worked at
 pub record Finishing (rule : Goal) (before places : List Place) (tally tally_now : Tally) (count : ℕ) : Type 0 where
@@ -28,7 +28,7 @@ pub record Finishing (rule : Goal) (before places : List Place) (tally tally_now
   pub put : List Cell
   pub strange : List Cell
   pub is_whole : spans_of first ≡ whole_cell rule.axes
-  pub parts : ArePartedInto rule None taken (listed_in tally_now.closed.items) put strange
+  pub parts : ArePartedInto rule None taken (boxes_in_runs tally_now.closed.items) put strange
   pub balanced : (weight : Cell → ℕ) → sum_by weight taken + put_weight weight (drop count places) ≡ weight first + sum_by weight put + got_weight weight (drop count places)
   pub same : drop count places ≡ drop count before
   pub long : length places ≡ length before
@@ -92,7 +92,7 @@ finishing_more rule before places tally tally_now tally_after count place after 
       strange = so_far.strange ++ turn.strange;
       is_whole = so_far.is_whole;
       parts = subst (λ (l : List Closed). ArePartedInto rule None (so_far.taken ++ turn.taken) l (so_far.put ++ turn.put) (so_far.strange ++ turn.strange)) (sym turn.joined)
-          (worked_both rule so_far.taken so_far.put (listed_in tally_now.closed.items) so_far.strange turn.taken turn.put turn.closed turn.strange so_far.parts turn.parts);
+          (worked_both rule so_far.taken so_far.put (boxes_in_runs tally_now.closed.items) so_far.strange turn.taken turn.put turn.closed turn.strange so_far.parts turn.parts);
       balanced = λ weight.
           let put_of : Place → ℕ = λ p. sum_by weight (hand_view p.hand).put in
           let got_of : Place → ℕ = λ p. taken_weight weight p + sum_by weight (hand_view p.hand).gathered in

@@ -21,8 +21,8 @@ use Rattle.gl_pool.specs.declared.tally.Tally.{Tally}
 use Rattle.gl_pool.specs.Code.Crew.{AreSeated, times_seated}
 use Rattle.gl_pool.specs.Kept.{seen_by}
 use Rattle.gl_pool.specs.Code.Tally.{IsTally, word_of}
-use Rattle.gl_pool.specs.Code.Listed.{ArePassed, IsPassed}
-use Rattle.gl_pool.specs.Listed.{listed_in}
+use Rattle.gl_order.specs.Runs.{ArePassed, IsPassed}
+use Rattle.gl_order.specs.InRuns.{boxes_in_runs}
 
 -- a worker with a seat that is shared, who has found and closed nothing
 pub record IsFresh (word : BestWord) (worker : Worker) : Type 0 where
@@ -36,7 +36,7 @@ fresh_tally rule word worker fresh = record {
   is_seat = fresh.is_seat;
   sound = subst (IsSound rule) (sym fresh.none) tt;
   raised = fresh.raised ∙ ap word_of (sym fresh.none);
-  closed = All-same (λ (box : Closed). IsClosedFor rule (seen_by worker.tally.seat) (spans_of box.cell) box.why) (listed_in worker.tally.closed.items) [] (ap listed_in fresh.nothing)
+  closed = All-same (λ (box : Closed). IsClosedFor rule (seen_by worker.tally.seat) (spans_of box.cell) box.why) (boxes_in_runs worker.tally.closed.items) [] (ap boxes_in_runs fresh.nothing)
       (All-nil (λ (box : Closed). IsClosedFor rule (seen_by worker.tally.seat) (spans_of box.cell) box.why));
   passed = subst ArePassed (sym fresh.nothing) (All-nil IsPassed);
 }
@@ -54,8 +54,8 @@ still_tally rule word before after still is = record {
   is_seat = still.is_seat;
   sound = subst (IsSound rule) (sym still.best) is.sound;
   raised = still.raised ∙ is.raised ∙ ap word_of (sym still.best);
-  closed = All-same (λ (box : Closed). IsClosedFor rule (seen_by after.seat) (spans_of box.cell) box.why) (listed_in after.closed.items) (listed_in before.closed.items) (ap listed_in still.closed)
-      (subst (λ (word : ℕ). All (λ (box : Closed). IsClosedFor rule (total_of word) (spans_of box.cell) box.why) (listed_in before.closed.items)) (sym still.seen) is.closed);
+  closed = All-same (λ (box : Closed). IsClosedFor rule (seen_by after.seat) (spans_of box.cell) box.why) (boxes_in_runs after.closed.items) (boxes_in_runs before.closed.items) (ap boxes_in_runs still.closed)
+      (subst (λ (word : ℕ). All (λ (box : Closed). IsClosedFor rule (total_of word) (spans_of box.cell) box.why) (boxes_in_runs before.closed.items)) (sym still.seen) is.closed);
   passed = subst ArePassed (sym still.closed) is.passed;
 }
 
@@ -122,9 +122,9 @@ seated_all word places rest last before tally workers all worker none place own 
       tallies = λ rule is. All-same (λ (w : Worker). IsTally rule word w.tally) all (workers ++ worker ∷ []) one
           (All-push (λ (w : Worker). IsTally rule word w.tally) workers worker (All-weaker (IsFresh word) (λ (w : Worker). IsTally rule word w.tally) (fresh_tally rule word) workers so_far.fresh)
           (still_tally rule word before worker.tally still is));
-      nothing = λ empty. All-same (λ (w : Worker). (listed_in w.tally.closed.items) ≡ []) all (workers ++ worker ∷ []) one
-          (All-push (λ (w : Worker). (listed_in w.tally.closed.items) ≡ []) workers worker
-          (All-weaker (IsFresh word) (λ (w : Worker). (listed_in w.tally.closed.items) ≡ []) (λ w fresh. ap listed_in fresh.nothing) workers so_far.fresh) (ap listed_in still.closed ∙ empty));
+      nothing = λ empty. All-same (λ (w : Worker). (boxes_in_runs w.tally.closed.items) ≡ []) all (workers ++ worker ∷ []) one
+          (All-push (λ (w : Worker). (boxes_in_runs w.tally.closed.items) ≡ []) workers worker
+          (All-weaker (IsFresh word) (λ (w : Worker). (boxes_in_runs w.tally.closed.items) ≡ []) (λ w fresh. ap boxes_in_runs fresh.nothing) workers so_far.fresh) (ap boxes_in_runs still.closed ∙ empty));
       numbers = λ number.
           let sum = sum_by-append (λ (w : Worker). times number (view_of w.tally.seat).numbers) workers (worker ∷ []) in
           let lone = sum_by-cons (λ (w : Worker). times number (view_of w.tally.seat).numbers) worker [] in

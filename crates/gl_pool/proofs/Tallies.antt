@@ -22,8 +22,8 @@ use Rattle.gl_pool.specs.Work.{HasHauled}
 use Rattle.gl_pool.proofs.Hearing.{all_closed_longer}
 use Rattle.gl_pool.proofs.Together.{parted_any}
 use Rattle.gl_pool.specs.Trail.{boxes_in}
-use Rattle.gl_pool.specs.Code.Listed.{ArePassed, IsPassed}
-use Rattle.gl_pool.specs.Listed.{listed_in}
+use Rattle.gl_order.specs.Runs.{ArePassed, IsPassed}
+use Rattle.gl_order.specs.InRuns.{boxes_in_runs}
 
 kept_sound : (rule : Goal) (before after : View) (kept best : Option Best) → IsKept rule before after kept → IsSound rule best → IsSound rule (option_or kept best)
 kept_sound rule before after None best is sound = sound
@@ -35,20 +35,20 @@ kept_raised rule before after (Some kept) best is raised = is.1
 
 -- what a worker kept and closed joins the tally
 pub tally_on : (rule : Goal) (word : BestWord) (place place' : Place) (tally after : Tally) (share : Haul) → IsTally rule word tally → HasHauled rule word place place' tally.seat after.seat share
-    → after.best ≡ option_or share.kept tally.best → (listed_in after.closed.items) ≡ (listed_in tally.closed.items) ++ (boxes_in share.closed)
+    → after.best ≡ option_or share.kept tally.best → (boxes_in_runs after.closed.items) ≡ (boxes_in_runs tally.closed.items) ++ (boxes_in share.closed)
     → (ArePassed tally.closed.items → ArePassed after.closed.items) → IsTally rule word after
 tally_on rule word place place' tally after share is worked best closed passed = record {
   is_seat = worked.seat.is_seat;
   sound = subst (IsSound rule) (sym best) (kept_sound rule (view_of tally.seat) (view_of after.seat) share.kept tally.best worked.kept is.sound);
   raised = kept_raised rule (view_of tally.seat) (view_of after.seat) share.kept tally.best worked.kept is.raised ∙ ap word_of (sym best);
   closed = All-same (λ (box : Closed). IsClosedFor rule (seen_by after.seat) (spans_of box.cell) box.why) _ _ closed
-      (All-append (λ (box : Closed). IsClosedFor rule (seen_by after.seat) (spans_of box.cell) box.why) (listed_in tally.closed.items) (boxes_in share.closed)
-      (all_closed_longer rule tally.seat after.seat (listed_in tally.closed.items) worked.seat.no_less is.closed) worked.reasons);
+      (All-append (λ (box : Closed). IsClosedFor rule (seen_by after.seat) (spans_of box.cell) box.why) (boxes_in_runs tally.closed.items) (boxes_in share.closed)
+      (all_closed_longer rule tally.seat after.seat (boxes_in_runs tally.closed.items) worked.seat.no_less is.closed) worked.reasons);
   passed = passed is.passed;
 }
 
 pub turns_on : (rule : Goal) (word : BestWord) (place place' : Place) (tally after : Tally) (share : Haul) → HasHauled rule word place place' tally.seat after.seat share
-    → (listed_in after.closed.items) ≡ (listed_in tally.closed.items) ++ (boxes_in share.closed) → Turns rule place place' tally after
+    → (boxes_in_runs after.closed.items) ≡ (boxes_in_runs tally.closed.items) ++ (boxes_in share.closed) → Turns rule place place' tally after
 turns_on rule word place place' tally after share worked closed = record {
   taken = worked.taken;
   put = worked.put;
@@ -65,7 +65,7 @@ turns_on rule word place place' tally after share worked closed = record {
 pub gathered : (word : BestWord) (tally other after : Tally) → IsSeatOf word after.seat → view_of after.seat ≡ both_of (view_of tally.seat) (view_of other.seat)
     → IsGreater tally.best other.best after.best → after.closed.items ≡ tally.closed.items ++ other.closed.items → Gathers word tally other after
 gathered word tally other after seat both greater appended =
-    let joined : listed_in after.closed.items ≡ listed_in tally.closed.items ++ listed_in other.closed.items = ap listed_in appended
+    let joined : boxes_in_runs after.closed.items ≡ boxes_in_runs tally.closed.items ++ boxes_in_runs other.closed.items = ap boxes_in_runs appended
     ∙ flat_map-append (λ list. list.boxes.items) tally.closed.items other.closed.items in
     let seen : (view_of after.seat).seen ≡ max (view_of tally.seat).seen (view_of other.seat).seen = ap (λ (v : View). v.seen) both in
     let raised : (view_of after.seat).raised ≡ max (view_of tally.seat).raised (view_of other.seat).raised = ap (λ (v : View). v.raised) both in
@@ -79,9 +79,9 @@ gathered word tally other after seat both greater appended =
         ];
         raised = omega (arith, raised, greater.greatest, one.raised, two.raised);
         closed = All-same (λ (box : Closed). IsClosedFor rule (seen_by after.seat) (spans_of box.cell) box.why) _ _ joined
-            (All-append (λ (box : Closed). IsClosedFor rule (seen_by after.seat) (spans_of box.cell) box.why) (listed_in tally.closed.items) (listed_in other.closed.items)
-            (all_closed_longer rule tally.seat after.seat (listed_in tally.closed.items) (omega (arith, seen)) one.closed)
-            (all_closed_longer rule other.seat after.seat (listed_in other.closed.items) (omega (arith, seen)) two.closed));
+            (All-append (λ (box : Closed). IsClosedFor rule (seen_by after.seat) (spans_of box.cell) box.why) (boxes_in_runs tally.closed.items) (boxes_in_runs other.closed.items)
+            (all_closed_longer rule tally.seat after.seat (boxes_in_runs tally.closed.items) (omega (arith, seen)) one.closed)
+            (all_closed_longer rule other.seat after.seat (boxes_in_runs other.closed.items) (omega (arith, seen)) two.closed));
         passed = subst ArePassed (sym appended) (All-append IsPassed tally.closed.items other.closed.items one.passed two.passed);
       };
       joined = joined;

@@ -16,7 +16,7 @@ use Rattle.gl_deal.specs.Code.Copies.{is_same}
 use Rattle.gl_deal.proofs.Balance.{is-same, same-is}
 use Rattle.gl_goal.specs.Goal.{Goal, whole_cell}
 use Rattle.gl_plain.specs.Search.{IsNeeded}
-use Rattle.gl_plain.specs.Order.{AreParts, cells_of}
+use Rattle.gl_order.specs.Order.{AreParts, cells_of}
 use Rattle.gl_pool.specs.Code.Many.{CameToAll, WeighSame}
 use Rattle.gl_pool.specs.Parts.{ArePartedInto, IsCutFrom, IsFromTaken, IsPartOfTaken, IsStrange, IsTakenInside, times_held}
 use Rattle.gl_pool.proofs.Parting.{times_closed-append, times_held-append}

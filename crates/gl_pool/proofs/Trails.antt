@@ -1,18 +1,16 @@
 -- Boxes that lead from open cells to others, and what becomes of a worker's trail with each step.
-use Rattle.std.proofs.Common.{◌≡◌, ◌∙◌, sym, ap, refl, subst, ℕ, List, [], ◌∷◌, ◌++◌, map, reverse, append_assoc}
+use Rattle.std.proofs.Common.{◌≡◌, ◌∙◌, sym, ap, refl, subst, ℕ, List, [], ◌∷◌, ◌++◌, map, append_assoc}
 use Rattle.std.proofs.lemmas.List.{append-nil, map-append}
 use Rattle.gl_box.specs.declared.cell.Cell.{Cell}
 use Rattle.gl_box.specs.declared.closed.Closed.{Closed}
 use Rattle.gl_box.specs.declared.closed.Why.{Why}
 use Rattle.gl_box.specs.Cell.{spans_of}
 use Rattle.gl_box.specs.Halves.{AreHalves}
-use Rattle.gl_box.specs.Frontier.{IsFrontier}
 use Rattle.gl_box.specs.Frontier.IsFrontier.{parted}
-use Rattle.gl_plain.specs.Order.{cells_of}
 use Rattle.gl_walk.specs.Walk.{AreFrontiers, open_cells}
 use Rattle.gl_walk.proofs.Frontiers.{open_push, passed_on}
 use Rattle.gl_pool.specs.declared.trail.Trail.{Trail}
-use Rattle.gl_pool.specs.Code.Listed.{Lead}
+use Rattle.gl_order.specs.Runs.{Lead}
 use Rattle.gl_pool.specs.Code.Trail.{IsTrail}
 
 -- one box more
@@ -82,16 +80,3 @@ put_on trail cells rest opened cell way first put =
 -- a worker has no cell any more
 pub lead_done : (trail : Trail) → IsTrail trail [] → Lead trail.last.before.items trail.last.boxes.items trail.last.after.items
 lead_done trail way = subst (Lead trail.last.before.items trail.last.boxes.items) (append-nil trail.last.after.items) way.leads
-
--- boxes of a whole are passed: with whatever is made of frontiers of the open cells they are one of the whole
-abbrev pub Completes : List (ℕ × ℕ) → List Closed → List Cell → Type 0
-Completes whole passed opened = (more : List (List (ℕ × ℕ))) → AreFrontiers (open_cells opened) more → IsFrontier whole (cells_of passed ++ more)
-
--- one list more is passed
-pub completes_on : (whole : List (ℕ × ℕ)) (passed boxes : List Closed) (opened before after : List Cell) → map spans_of opened ≡ map spans_of before → Lead before boxes after
-    → Completes whole passed opened → Completes whole (passed ++ boxes) after
-completes_on whole passed boxes opened before after same lead completes more fronts =
-    let start : AreFrontiers (open_cells opened) (cells_of boxes ++ more) = subst (λ (l : List (List (ℕ × ℕ))). AreFrontiers (reverse l) (cells_of boxes ++ more)) (sym same) (lead more fronts) in
-    let regroup : cells_of (passed ++ boxes) ++ more ≡ cells_of passed ++ (cells_of boxes ++ more) =
-    ap (λ (l : List (List (ℕ × ℕ))). l ++ more) (map-append (λ (b : Closed). spans_of b.cell) passed boxes) ∙ append_assoc (cells_of passed) (cells_of boxes) more in
-    subst (IsFrontier whole) (sym regroup) (completes (cells_of boxes ++ more) start)

@@ -21,7 +21,7 @@ use Rattle.gl_pool.specs.Parts.{ArePartedInto, IsFromTaken, IsPartOfTaken, IsStr
 use Rattle.gl_pool.specs.Taken.{Moves, taken_weight}
 use Rattle.gl_pool.specs.Code.Tally.{IsTally}
 use Rattle.gl_pool.proofs.Together.{worked_both}
-use Rattle.gl_pool.specs.Listed.{listed_in}
+use Rattle.gl_order.specs.InRuns.{boxes_in_runs}
 
 -- each worker of a list has turned into that of another
 pub TurnedAll : Goal → BestWord → List Worker → List Worker → Type 0
@@ -89,7 +89,7 @@ pub record TurnsTogether (rule : Goal) (word : BestWord) (before after : List Wo
   pub tallies : All (λ worker. IsTally rule word worker.tally) after
   pub numbers : (number : ℕ) → times_seated number after ≡ times_seated number before
 
-pub turn_together : (rule : Goal) (word : BestWord) (before after : List Worker) → TurnedAll rule word before after → All (λ worker. (listed_in worker.tally.closed.items) ≡ []) before
+pub turn_together : (rule : Goal) (word : BestWord) (before after : List Worker) → TurnedAll rule word before after → All (λ worker. (boxes_in_runs worker.tally.closed.items) ≡ []) before
     → TurnsTogether rule word before after
 unfolding TurnedAll
 turn_together rule word [] [] turned nothing = record {
@@ -104,10 +104,10 @@ turn_together rule word [] [] turned nothing = record {
 turn_together rule word [] (a ∷ afters) turned nothing = absurd turned
 turn_together rule word (b ∷ bs) [] turned nothing = absurd turned
 turn_together rule word (b ∷ bs) (a ∷ afters) turned nothing =
-    let empty : (listed_in b.tally.closed.items) ≡ [] = All-head (λ (w : Worker). (listed_in w.tally.closed.items) ≡ []) b bs nothing in
-    let rest = turn_together rule word bs afters turned.1 (All-tail (λ (w : Worker). (listed_in w.tally.closed.items) ≡ []) b bs nothing) in
+    let empty : (boxes_in_runs b.tally.closed.items) ≡ [] = All-head (λ (w : Worker). (boxes_in_runs w.tally.closed.items) ≡ []) b bs nothing in
+    let rest = turn_together rule word bs afters turned.1 (All-tail (λ (w : Worker). (boxes_in_runs w.tally.closed.items) ≡ []) b bs nothing) in
     let turn = turned.0.turn in
-    let own : (listed_in a.tally.closed.items) ≡ turn.closed = turn.joined ∙ ap (λ (l : List Closed). l ++ turn.closed) empty in
+    let own : (boxes_in_runs a.tally.closed.items) ≡ turn.closed = turn.joined ∙ ap (λ (l : List Closed). l ++ turn.closed) empty in
     let both = worked_both rule rest.taken rest.put (closed_by afters) rest.strange turn.taken turn.put turn.closed turn.strange rest.parts turn.parts in
     record {
       taken = rest.taken ++ turn.taken;
@@ -137,7 +137,7 @@ turned_ok rule word before results after same all each =
 
 -- what workers found and did, once they are collected
 pub worked_all : (rule : Goal) (word : BestWord) (places after : List Place) (tally tally_after : Tally) (before : List Worker) (results : List (Result Worker AllocError)) → IsTally rule word tally
-    → (listed_in tally.closed.items) ≡ [] → AreSeated word places tally before → length results ≡ length before
+    → (boxes_in_runs tally.closed.items) ≡ [] → AreSeated word places tally before → length results ≡ length before
     → ((k : ℕ) (d : Result Worker AllocError) (e : Worker) → k < length before → IfOk (get_or results k d) (HasTurned rule word (get_or before k e))) → Collects word results after tally_after
     → IsTally rule word tally_after × WorkedAll rule places after tally tally_after
 worked_all rule word places after tally tally_after before results is empty seated same each collects =

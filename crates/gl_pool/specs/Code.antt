@@ -2,7 +2,6 @@
 -- caller
 -- cites them.
 pub mod Crew
-pub mod Listed
 pub mod Many
 pub mod Settle
 pub mod Taken

@@ -1,5 +1,4 @@
 pub mod Code
-pub mod Listed
 pub mod Trail
 pub mod Taken
 pub mod Parts

@@ -1,7 +1,7 @@
 ghost use Rattle.std.specs.Prelude.{◌≡◌, ◌≤◌, ◌<◌, [], All, IfOk, OnOk, length, map};
 ghost use Rattle.gl_best.specs.Seats.{IsSeatOf, view_of};
 ghost use Rattle.gl_pool.specs.Code.Tally.{IsTally};
-ghost use Rattle.gl_pool.specs.Listed.{listed_in};
+ghost use Rattle.gl_order.specs.InRuns.{boxes_in_runs};
 ghost use Rattle.gl_pool.specs.Code.Crew.{AreSeated, Collects, HasTurned, WorkedAll, has_seat};
 
 use crate::crowd::Crowd;
@@ -135,7 +135,7 @@ pub(crate) fn work_all<Rt: Threads + Wait + Sync, G: Goal + Sync, K: Gate + Sync
     tally: Tally,
 ) -> Result<(Vec<Place>, Tally), AllocError>
     requires tally { IsTally (G.rule goal.now) word.now tally }
-    requires nothing { listed_in tally.closed.items ≡ [] }
+    requires nothing { boxes_in_runs tally.closed.items ≡ [] }
     requires some { 0 < length places.items }
     requires few { length places.items ≤ 16 }
     requires enough { length places.items ≤ length (view_of tally.seat).numbers }

@@ -6,7 +6,6 @@ mod bench;
 mod crew;
 mod crowd;
 mod gate;
-mod joined;
 mod many;
 mod settle;
 mod share;

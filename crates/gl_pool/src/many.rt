@@ -4,18 +4,18 @@ ghost use Rattle.gl_best.specs.Seats.{HasAll, IsSeatOf, view_of};
 ghost use Rattle.gl_plain.specs.Answer.{IsAnswer};
 ghost use Rattle.gl_goal.specs.Best.{IsSound};
 ghost use Rattle.gl_pool.specs.Code.Many.{ComesToAll, IsDealt, IsLeft};
-ghost use Rattle.gl_pool.specs.Listed.{listed_in};
+ghost use Rattle.gl_order.specs.InRuns.{boxes_in_runs};
 ghost use Rattle.gl_pool.specs.Code.Tally.{IsTally};
 
 use crate::crew::work_all;
 use crate::crowd::Crowd;
 use crate::gate::{Gate, OpenGate};
-use crate::joined::join_listed;
 use crate::settle::settle_all;
 use crate::tally::{Tally, take_turn};
 use gl_best::{BestWord, Seat};
 use gl_deal::{Place, deal};
 use gl_goal::{Best, Goal, measured_legs, whole};
+use gl_order::in_order;
 use gl_plain::{Found, search_one, warm_start};
 use std::alloc::{AllocError, Global};
 use std::sync::Wait;
@@ -60,7 +60,7 @@ fn first_tally<G: Goal>(
     requires view { view_of seat ≡ first_view }
     requires sound { IsSound (G.rule goal.now) best }
     ensures tally { IsTally (G.rule goal.now) word.now result }
-    ensures nothing { listed_in result.closed.items ≡ [] }
+    ensures nothing { boxes_in_runs result.closed.items ≡ [] }
     ensures numbers { (view_of result.seat).numbers ≡ (view_of seat).numbers }
 {
     if let Some(known) = best {
@@ -123,7 +123,7 @@ fn answer<G: Goal>(
     word.close(seat);
     Ok(Found {
         best,
-        closed: join_listed(alloc, &whole(goal), closed)?,
+        closed: in_order(alloc, &whole(goal), closed)?,
     })
 }
 

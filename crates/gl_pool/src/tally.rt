@@ -5,11 +5,12 @@ ghost use Rattle.gl_pool.specs.Code.Tally.{Gathers, IsGreater, IsTally, Turns};
 use crate::crowd::Crowd;
 use crate::gate::Gate;
 use crate::share::Haul;
-use crate::trail::{Listed, add_trail, join_lists};
+use crate::trail::{add_trail, join_runs};
 use crate::worker::work_on;
 use gl_best::{BestWord, Seat};
 use gl_deal::Place;
 use gl_goal::{Best, Goal};
+use gl_order::Run;
 use std::alloc::{AllocError, Global};
 use std::sync::Wait;
 use std::thread::Threads;
@@ -19,7 +20,7 @@ use std::thread::Threads;
 pub(crate) struct Tally {
     pub(crate) seat: Seat,
     pub(crate) best: Option<Best>,
-    pub(crate) closed: Vec<Listed>,
+    pub(crate) closed: Vec<Run>,
 }
 
 /// The one that is worth more.
@@ -65,5 +66,5 @@ pub(crate) fn gather(word: &BestWord, tally: &mut Tally, other: Tally) -> Result
     let Tally { seat, best, closed } = other;
     word.gather(&mut tally.seat, seat);
     tally.best = greater(tally.best, best);
-    join_lists(&mut tally.closed, closed)
+    join_runs(&mut tally.closed, closed)
 }

@@ -4,7 +4,8 @@ ghost use Rattle.std.specs.Prelude.{◌≡◌, ◌<◌, ◌≤◌, length, IsPer
 use gl_box::Closed;
 use gl_goal::{FreeGoal, whole};
 use gl_igc::Fix;
-use gl_plain::{in_order, search_one};
+use gl_order::sorted;
+use gl_plain::search_one;
 use gl_sphere::{Grid, vector};
 use std::process::Abort;
 use std::test::Fail;
@@ -67,7 +68,7 @@ fn come_back(rt: &(impl AllocGlobal + Abort), fixes: &[Fix]) -> Result<(), Fail>
         let searched = boxes.clone()?;
         disorder(&mut boxes, way);
         assert!(rt; boxes.as_slice() != searched.as_slice(), "{way:?}");
-        let ordered = in_order(rt.alloc(), &whole(&goal), boxes)?;
+        let ordered = sorted(rt.alloc(), &whole(&goal), boxes)?;
         assert!(rt; ordered.as_slice() == searched.as_slice(), "{way:?}");
     }
     Ok(())

@@ -214,43 +214,6 @@ walked_out whole cell passed opened walked out begins =
 pub through : {A B C : Type 0} → A ↔ B → B ↔ C → A ↔ C
 through f g = (λ a. g.0 (f.0 a), λ c. f.1 (g.1 c))
 
--- one cell more is passed on the way along some cells
-pub along_more : (start opened after cells : List (List (ℕ × ℕ))) (k : ℕ) (next : List (ℕ × ℕ)) → k < length cells → get_or cells k [] ≡ next
-    → ((more : List (List (ℕ × ℕ))) → AreFrontiers start (take k cells ++ more) ↔ AreFrontiers opened more)
-    → ((more : List (List (ℕ × ℕ))) → AreFrontiers opened (next ∷ more) ↔ AreFrontiers after more) → (more : List (List (ℕ × ℕ)))
-    → AreFrontiers start (take (k + 1) cells ++ more) ↔ AreFrontiers after more
-along_more start opened after cells k next below is so_far step more =
-    let one : take (k + 1) cells ≡ take k cells ++ next ∷ [] = take_more cells k [] below ∙ ap (λ (c : List (ℕ × ℕ)). take k cells ++ c ∷ []) is in
-    let all : take (k + 1) cells ++ more ≡ take k cells ++ (next ∷ more) = ap (λ (l : List (List (ℕ × ℕ))). l ++ more) one ∙ append_assoc (take k cells) (next ∷ []) more in
-    subst (λ (l : List (List (ℕ × ℕ))). AreFrontiers start l ↔ AreFrontiers after more) (sym all) (through (so_far (next ∷ more)) (step more))
-
--- a cell on the way along some cells isn't there
-pub along_out : (start opened cells : List (List (ℕ × ℕ))) (k : ℕ) (next : List (ℕ × ℕ)) → k < length cells → get_or cells k [] ≡ next
-    → ((more : List (List (ℕ × ℕ))) → AreFrontiers start (take k cells ++ more) ↔ AreFrontiers opened more) → ((more : List (List (ℕ × ℕ))) → AreFrontiers opened (next ∷ more) → ⊥)
-    → (more : List (List (ℕ × ℕ))) → AreFrontiers start (cells ++ more) → ⊥
-along_out start opened cells k next below is so_far out more fronts =
-    let rest = drop (k + 1) cells ++ more in
-    let one : take (k + 1) cells ≡ take k cells ++ next ∷ [] = take_more cells k [] below ∙ ap (λ (c : List (ℕ × ℕ)). take k cells ++ c ∷ []) is in
-    let parted_ : cells ++ more ≡ take (k + 1) cells ++ rest = ap (λ (l : List (List (ℕ × ℕ))). l ++ more) (sym (take-append-drop (k + 1) cells))
-    ∙ append_assoc (take (k + 1) cells) (drop (k + 1) cells) more in
-    let all : cells ++ more ≡ take k cells ++ (next ∷ rest) = parted_ ∙ ap (λ (l : List (List (ℕ × ℕ))). l ++ rest) one ∙ append_assoc (take k cells) (next ∷ []) rest in
-    out rest ((so_far (next ∷ rest)).0 (subst (AreFrontiers start) all fronts))
-
--- some cells more are passed
-pub walked_along : (whole : List (ℕ × ℕ)) (passed cells opened after : List (List (ℕ × ℕ))) → IsWalked whole passed opened
-    → ((more : List (List (ℕ × ℕ))) → AreFrontiers opened (cells ++ more) ↔ AreFrontiers after more) → IsWalked whole (passed ++ cells) after
-walked_along whole passed cells opened after walked step more =
-    let regroup = append_assoc passed cells more in (
-      λ frontier. (step more).0 ((walked (cells ++ more)).0 (subst (IsFrontier whole) regroup frontier)),
-      λ fronts. subst (IsFrontier whole) (sym regroup) ((walked (cells ++ more)).1 ((step more).1 fronts)),
-    )
-
--- with cells that aren't all there, whatever comes behind them, there is no frontier
-pub walked_astray : (whole : List (ℕ × ℕ)) (passed cells opened more : List (List (ℕ × ℕ))) → IsWalked whole passed opened → ((rest : List (List (ℕ × ℕ))) → AreFrontiers opened (cells ++ rest) → ⊥)
-    → IsFrontier whole ((passed ++ cells) ++ more) → ⊥
-walked_astray whole passed cells opened more walked out frontier =
-    out more ((walked (cells ++ more)).0 (subst (IsFrontier whole) (append_assoc passed cells more) frontier))
-
 -- no frontier begins another one
 pub frontier_unique : (cell : List (ℕ × ℕ)) (a b r q : List (List (ℕ × ℕ))) → IsFrontier cell a → IsFrontier cell b → a ++ r ≡ b ++ q → (a ≡ b) × (r ≡ q)
 frontier_unique _ _ b r q (alone cell a is) other same =

@@ -1,4 +1,3 @@
 pub mod Exact
 pub mod Frontiers
 pub mod Passed
-pub mod Several

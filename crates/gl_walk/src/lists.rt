@@ -1,11 +1,8 @@
-ghost use Rattle.std.specs.Prelude.{◌≡◌, ◌↔◌, [], ◌∷◌, ◌++◌, map, IfOk, IsTrue, OnOk};
+ghost use Rattle.std.specs.Prelude.{◌≡◌, [], ◌∷◌, ◌++◌, IfOk, OnOk};
 ghost use Rattle.std.specs.List.{flat_map};
-ghost use Rattle.gl_box.specs.Cell.{spans_of};
-ghost use Rattle.gl_box.specs.Frontier.{IsFrontier};
 ghost use Rattle.gl_walk.specs.InLists.{boxes_in};
 
-use crate::walk::{OPEN_ROOM, go_along};
-use gl_box::{Cell, Closed};
+use gl_box::Closed;
 use std::alloc::{AllocError, Global};
 use std::mem;
 
@@ -46,26 +43,6 @@ impl Boxes {
             lists,
             last: Vec::new(alloc),
         }
-    }
-
-    /// Whether the boxes in their order part a whole cell by splits. The only error is want of
-    /// memory.
-    pub fn is_frontier_of(&self, alloc: Global, whole: &Cell) -> Result<bool, AllocError>
-        ensures { IfOk result (λ is. IsTrue is
-            ↔ IsFrontier (spans_of whole.now)
-            (map (λ box. spans_of box.cell) (boxes_in self.now))) }
-    {
-        let mut opened = Vec::with_capacity(alloc, OPEN_ROOM)?;
-        opened.push(*whole)?;
-        for list in &self.lists {
-            if !go_along(&mut opened, list)? {
-                return Ok(false);
-            }
-        }
-        if !go_along(&mut opened, &self.last)? {
-            return Ok(false);
-        }
-        Ok(opened.is_empty())
     }
 
     /// Adds a box. The only error is want of memory.

@@ -1,10 +1,10 @@
-ghost use Rattle.std.specs.Prelude.{◌≡◌, ◌↔◌, ◌<◌, ℕ, List, ◌∷◌, ◌++◌, false, map, IfOk, IsTrue};
+ghost use Rattle.std.specs.Prelude.{◌≡◌, ◌↔◌, ◌<◌, ℕ, List, ◌∷◌, false, IfOk, IsTrue};
 ghost use Rattle.gl_box.specs.Cell.{spans_of};
 ghost use Rattle.gl_box.specs.Halves.{span_at};
 ghost use Rattle.gl_walk.specs.Walk.{AreFrontiers, open_cells};
 
 use crate::cut::halve_at;
-use gl_box::{Cell, Closed, widest};
+use gl_box::{Cell, widest};
 use std::alloc::AllocError;
 
 /// Room for open cells: each cut adds one, and a cell can be cut at most 32 times on each axis.
@@ -65,25 +65,6 @@ pub fn go_down(opened: &mut Vec<Cell>, cell: &Cell) -> Result<bool, AllocError>
             return Ok(false);
         }
         opened.push(upper)?;
-    }
-    Ok(true)
-}
-
-/// Goes down to each of some boxes, one after the other. Answers whether all of them are there; if
-/// not, the open cells serve for nothing any more. The only error is want of memory.
-pub fn go_along(opened: &mut Vec<Cell>, boxes: &[Closed]) -> Result<bool, AllocError>
-    ensures there { IfOk result (λ there. IsTrue there → (more : List (List (ℕ × ℕ)))
-        → AreFrontiers (open_cells opened.old.items)
-        (map (λ box. spans_of box.cell) boxes.now ++ more)
-        ↔ AreFrontiers (open_cells opened.new.items) more) }
-    ensures absent { IfOk result (λ there. (there ≡ false) → (more : List (List (ℕ × ℕ)))
-        → AreFrontiers (open_cells opened.old.items)
-        (map (λ box. spans_of box.cell) boxes.now ++ more) → ⊥) }
-{
-    for next in boxes {
-        if !go_down(opened, &next.cell)? {
-            return Ok(false);
-        }
     }
     Ok(true)
 }

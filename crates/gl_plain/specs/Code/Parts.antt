@@ -11,7 +11,7 @@ use Rattle.gl_goal.specs.Best.{IsNoLess, IsSound, total_of}
 use Rattle.gl_goal.specs.Certificate.{IsClosedFor}
 use Rattle.gl_goal.specs.Goal.{Goal}
 use Rattle.gl_goal.specs.declared.best.Best.{Best}
-use Rattle.gl_plain.specs.Order.{cells_of}
+use Rattle.gl_order.specs.Order.{cells_of}
 use Rattle.gl_plain.specs.Search.{IsHalfOfOpen}
 use Rattle.gl_plain.specs.declared.part.Part.{Part}
 use Rattle.gl_plain.specs.declared.part.Part.TheVariants.{Open, Done}

@@ -10,7 +10,7 @@ use Rattle.gl_box.specs.declared.closed.Why.{Why}
 use Rattle.gl_goal.specs.Certificate.{IsClosedFor}
 use Rattle.gl_goal.specs.Goal.{Goal, whole_cell, IsOpen}
 use Rattle.gl_goal.specs.Best.{IsSound, total_of}
-use Rattle.gl_plain.specs.Order.{cells_of}
+use Rattle.gl_order.specs.Order.{cells_of}
 use Rattle.gl_plain.specs.Search.{IsHalfOfOpen}
 use Rattle.gl_plain.specs.Steps.{Closes}
 use Rattle.gl_plain.specs.declared.dive.Candidate.{Candidate}

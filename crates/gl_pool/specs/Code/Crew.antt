@@ -14,7 +14,7 @@ use Rattle.gl_pool.specs.declared.tally.Tally.{Tally}
 use Rattle.gl_pool.specs.Parts.{ArePartedInto}
 use Rattle.gl_pool.specs.Taken.{duty_of, ends_of, taken_weight}
 use Rattle.gl_pool.specs.Code.Tally.{IsTally, Turns}
-use Rattle.gl_pool.specs.Listed.{listed_in}
+use Rattle.gl_order.specs.InRuns.{boxes_in_runs}
 
 -- what stays of a place while its worker works
 pub record Post : Type 0 where
@@ -65,8 +65,8 @@ pub record AreSeated (word : BestWord) (places : List Place) (tally : Tally)
   pub places_are : map (λ worker. worker.place) workers ≡ places
   pub tallies : (goal : Goal) → IsTally goal word tally
       → All (λ worker. IsTally goal word worker.tally) workers
-  pub nothing : listed_in tally.closed.items ≡ []
-      → All (λ worker. listed_in worker.tally.closed.items ≡ []) workers
+  pub nothing : boxes_in_runs tally.closed.items ≡ []
+      → All (λ worker. boxes_in_runs worker.tally.closed.items ≡ []) workers
   pub numbers : (number : ℕ)
       → times_seated number workers ≡ times number (view_of tally.seat).numbers
 
@@ -82,7 +82,7 @@ has_seat word worked = IfOk worked (λ worker. IsSeatOf word worker.tally.seat)
 -- the closed cells of some workers, those of the last one first
 abbrev pub closed_by : List Worker → List Closed
 closed_by [] = []
-closed_by (worker ∷ workers) = closed_by workers ++ listed_in worker.tally.closed.items
+closed_by (worker ∷ workers) = closed_by workers ++ boxes_in_runs worker.tally.closed.items
 
 -- the places of workers that have worked, and what they found together
 pub record Collects (word : BestWord) (worked : List (Result Worker AllocError))
@@ -92,7 +92,7 @@ pub record Collects (word : BestWord) (worked : List (Result Worker AllocError))
   pub places_are : places ≡ map (λ worker. worker.place) workers
   pub is_tally : (goal : Goal) → All (λ worker. IsTally goal word worker.tally) workers
       → IsTally goal word tally
-  pub closed : listed_in tally.closed.items ≡ closed_by workers
+  pub closed : boxes_in_runs tally.closed.items ≡ closed_by workers
   pub numbers : (number : ℕ)
       → times number (view_of tally.seat).numbers ≡ times_seated number workers
 
@@ -104,6 +104,6 @@ pub record WorkedAll (goal : Goal) (before after : List Place)
   pub put : List Cell
   pub strange : List Cell
   pub moves : MoveAll before after taken put
-  pub parts : ArePartedInto goal None taken (listed_in tally_after.closed.items) put strange
+  pub parts : ArePartedInto goal None taken (boxes_in_runs tally_after.closed.items) put strange
   pub numbers : (number : ℕ)
       → times number (view_of tally_after.seat).numbers ≡ times number (view_of tally.seat).numbers

@@ -12,7 +12,7 @@ use Rattle.gl_pool.specs.Code.Crew.{got_weight, put_weight}
 use Rattle.gl_pool.specs.Parts.{ArePartedInto}
 use Rattle.gl_pool.specs.Code.Settle.{StandReady, place_at}
 use Rattle.gl_pool.specs.Taken.{ends_of}
-use Rattle.gl_pool.specs.Listed.{listed_in}
+use Rattle.gl_order.specs.InRuns.{boxes_in_runs}
 
 -- two lists of cells weigh the same, however cells are weighed
 pub record WeighSame (cells others : List Cell) : Type 0 where
@@ -42,7 +42,7 @@ pub record IsLeft (goal : Goal) (places : List Place) (tally : Tally) : Type 0 w
   pub put : List Cell
   pub strange : List Cell
   pub is_whole : spans_of first ≡ whole_cell goal.axes
-  pub parts : ArePartedInto goal None taken (listed_in tally.closed.items) put strange
+  pub parts : ArePartedInto goal None taken (boxes_in_runs tally.closed.items) put strange
   pub puts : (weight : Cell → ℕ)
       → put_weight weight places ≡ weight first + sum_by weight put
   pub got : (weight : Cell → ℕ) → got_weight weight places ≡ sum_by weight taken
@@ -57,4 +57,4 @@ pub record ComesToAll (goal : Goal) (tally : Tally) : Type 0 where
   pub taken : List Cell
   pub put : List Cell
   pub strange : List Cell
-  pub all : CameToAll goal first taken put (listed_in tally.closed.items) strange
+  pub all : CameToAll goal first taken put (boxes_in_runs tally.closed.items) strange

@@ -14,8 +14,8 @@ use Rattle.gl_pool.specs.declared.tally.Tally.{Tally}
 use Rattle.gl_pool.specs.Kept.{AreClosedFor}
 use Rattle.gl_pool.specs.Parts.{ArePartedInto}
 use Rattle.gl_pool.specs.Taken.{Moves}
-use Rattle.gl_pool.specs.Code.Listed.{ArePassed}
-use Rattle.gl_pool.specs.Listed.{listed_in}
+use Rattle.gl_order.specs.Runs.{ArePassed}
+use Rattle.gl_order.specs.InRuns.{boxes_in_runs}
 
 -- the word that says what was found: 0 for nothing, else the total plus one
 abbrev pub word_of : Option Best → ℕ
@@ -29,7 +29,7 @@ pub record IsTally (goal : Goal) (word : BestWord) (tally : Tally) : Type 0 wher
   pub is_seat : IsSeatOf word tally.seat
   pub sound : IsSound goal tally.best
   pub raised : (view_of tally.seat).raised ≡ word_of tally.best
-  pub closed : AreClosedFor goal tally.seat (listed_in tally.closed.items)
+  pub closed : AreClosedFor goal tally.seat (boxes_in_runs tally.closed.items)
   pub passed : ArePassed tally.closed.items
 
 -- one of two that were found, and worth no less than either
@@ -45,7 +45,7 @@ pub record Turns (goal : Goal) (before after : Place) (tally tally_after : Tally
   pub strange : List Cell
   pub moves : Moves before after taken put
   pub parts : ArePartedInto goal None taken closed put strange
-  pub joined : listed_in tally_after.closed.items ≡ listed_in tally.closed.items ++ closed
+  pub joined : boxes_in_runs tally_after.closed.items ≡ boxes_in_runs tally.closed.items ++ closed
   pub numbers : (view_of tally_after.seat).numbers ≡ (view_of tally.seat).numbers
   pub all_put : HasSettledAll (hand_view before.hand) → TookAllItPut (hand_view after.hand)
 
@@ -54,7 +54,7 @@ pub record Gathers (word : BestWord) (tally other after : Tally) : Type 0 where
   pub is_seat : IsSeatOf word after.seat
   pub keeps : (goal : Goal) → IsTally goal word tally → IsTally goal word other
       → IsTally goal word after
-  pub joined : listed_in after.closed.items
-      ≡ listed_in tally.closed.items ++ listed_in other.closed.items
+  pub joined : boxes_in_runs after.closed.items
+      ≡ boxes_in_runs tally.closed.items ++ boxes_in_runs other.closed.items
   pub numbers : (view_of after.seat).numbers
       ≡ (view_of tally.seat).numbers ++ (view_of other.seat).numbers

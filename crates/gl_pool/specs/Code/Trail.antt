@@ -1,14 +1,14 @@
--- The boxes that a worker closes, list by list, while it works.
+-- The boxes that a worker closes, run by run, while it works.
 use Rattle.std.specs.Prelude.{List, ◌++◌}
 use Rattle.gl_box.specs.declared.cell.Cell.{Cell}
 use Rattle.gl_pool.specs.declared.bench.Bench.{Bench}
 use Rattle.gl_pool.specs.declared.trail.Trail.{Trail}
-use Rattle.gl_pool.specs.Code.Listed.{ArePassed, Lead}
+use Rattle.gl_order.specs.Runs.{ArePassed, Lead}
 
--- The lists that are done lead as is said. The last one leads to the cells that the worker has
+-- The runs that are done lead as is said. The last one leads to the cells that the worker has
 -- before it, and those that are open behind them.
 pub record IsTrail (trail : Trail) (cells : List Cell) : Type 0 where
-  pub passed : ArePassed trail.lists.items
+  pub passed : ArePassed trail.runs.items
   pub leads : Lead trail.last.before.items trail.last.boxes.items (trail.last.after.items ++ cells)
 
 abbrev pub IsOnTrail : Bench → Type 0

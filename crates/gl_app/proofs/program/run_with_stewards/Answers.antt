@@ -3,7 +3,6 @@ use Rattle.gl_desk.specs.Desk.{Told}
 use Rattle.gl_day.specs.Flight.{StewardRules, steward_rules}
 use Rattle.gl_steward.specs.Ceiling.{ceiling_fed, ceiling_opening, ceiling_owed}
 use Rattle.gl_steward.specs.EngineNoise.{noise_fed, noise_opening, noise_owed}
-use Rattle.gl_app.specs.Endings.{program_stewards}
 use Rattle.gl_app.specs.Run.{IsRun}
 use Rattle.gl_answer.specs.declared.status.Status.{Status}
 use Rattle.gl_app.proofs.program.run_with_stewards.OwnLists.{own-1}

@@ -7,7 +7,7 @@ use Rattle.gl_goal.specs.Goal.{whole_cell}
 use Rattle.gl_goal.proofs.Optimum.{certificate_optimum}
 use Rattle.gl_goal.proofs.Totals.{none_exactly}
 use Rattle.gl_walk.specs.InLists.{boxes_in}
-use Rattle.gl_plain.specs.Order.{AreParts}
+use Rattle.gl_order.specs.Order.{AreParts}
 use Rattle.gl_goal.specs.Best.{total_of}
 use Rattle.gl_plain.specs.declared.part.Part.{Part}
 use Rattle.gl_plain.specs.declared.replayed.Replayed.{Replayed}
@@ -21,8 +21,8 @@ overflow_cast-by_steps g c =
     let few = left_few (g.G.Goal.rule c.args.goal.now) c.args.workers c.args.steps.now left c.in_ok-known.ensures in
     omega (arith, few, c.count_done-by_steps.ensures, ap (λ (parts : List Part). length (done_in parts)) c.deref.ensures.value, c.requires.few)
 
-pub in_order-requires : goal.in_order-requires
-in_order-requires g c =
+pub sorted-requires : goal.sorted-requires
+sorted-requires g c =
     let left = c.in_ok-known.field-0 in
     subst (λ (cell : List (ℕ × ℕ)). AreParts cell (map cell_of left.parts.items)) (sym c.whole.ensures)
     (left_parts (g.G.Goal.rule c.args.goal.now) c.args.workers c.args.steps.now left c.in_ok-known.ensures)

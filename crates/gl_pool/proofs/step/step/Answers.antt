@@ -19,7 +19,7 @@ use Rattle.gl_pool.proofs.Hearing.{closed_by_word}
 use Rattle.gl_pool.proofs.Parting.{from_covered}
 use Rattle.gl_pool.proofs.Trails.{boxes_more, closed_on, cut_on}
 use Rattle.gl_pool.proofs.step.step.Goals as goal
-use Rattle.gl_pool.specs.Listed.{listed_in}
+use Rattle.gl_order.specs.InRuns.{boxes_in_runs}
 use Rattle.gl_text.proofs.Lists.{top_is, set_top, same_top}
 
 pub test_for-requires-clause-covers : goal.test_for-requires-clause-covers
@@ -42,7 +42,7 @@ returns-in_ok-close-in-Closed-clause-on g c place call way =
     let same = same_top items (take (c.len-top.result - 1) items) c.close.new.cells.items c.index.result.now closes.cell
     (top_is items (c.len-top.result - 1) c.index.result.now some last c.index.ensures) closes.top in
     going_closed rule c.args.word.now call place c.args.seat.now bench _ way closes.cell c.in-Closed.why closes.top
-    (boxes_more (listed_in trail.lists.items) trail.last.boxes.items c.close.new.boxes.items _ closes.box) refl refl refl
+    (boxes_more (boxes_in_runs trail.runs.items) trail.last.boxes.items c.close.new.boxes.items _ closes.box) refl refl refl
     (subst (λ (cell : Cell). IsClosedFor rule bench.seen (spans_of cell) c.in-Closed.why) same c.in-Closed.ensures.verdict)
 
 pub returns-in_ok-push-in-Some-clause-on : goal.returns-in_ok-push-in-Some-clause-on
@@ -126,7 +126,7 @@ returns-in_ok-close-in-None-clause-on g c place call way =
     let reason = closed_by_word rule (view_of c.look-bench.new.seat).seen (spans_of closes.cell) c.in-Open.bound (omega (arith, c.look-bench.ensures.no_less, c.raise.ensures.seen))
     (ap (λ (cell : Cell). rule.bound (spans_of cell)) (sym closed) ∙ sym promises.is_bound) in
     going_closed rule c.args.word.now call place c.look-bench.new.seat keeps _ kept closes.cell Bound (sym whole
-    ∙ closes.top) (boxes_more (listed_in trail.lists.items) trail.last.boxes.items c.close-in-None.new.boxes.items _ closes.box) refl refl refl
+    ∙ closes.top) (boxes_more (boxes_in_runs trail.runs.items) trail.last.boxes.items c.close-in-None.new.boxes.items _ closes.box) refl refl refl
     (subst (λ (total : Option ℕ). IsClosedFor rule total (spans_of closes.cell) Bound) (sym c.look-bench.ensures.seen) reason)
 
 pub returns-in_ok-close-in-Closed-clause-trail : goal.returns-in_ok-close-in-Closed-clause-trail

@@ -3,5 +3,5 @@ use Rattle.gl_pool.proofs.Tallies.{gathered}
 use Rattle.gl_pool.proofs.tally.gather.Goals as goal
 
 pub returns : goal.returns
-returns c = on_ok_weaker c.join_lists.result (λ joined. gathered c.args.word.now c.args.tally.now c.args.other _ c.gather.ensures.seat c.gather.ensures.both c.greater-tally.ensures joined)
-    c.join_lists.ensures
+returns c = on_ok_weaker c.join_runs.result (λ joined. gathered c.args.word.now c.args.tally.now c.args.other _ c.gather.ensures.seat c.gather.ensures.both c.greater-tally.ensures joined)
+    c.join_runs.ensures

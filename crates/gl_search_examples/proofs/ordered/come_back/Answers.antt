@@ -5,8 +5,8 @@ use Rattle.std.proofs.lemmas.List.Sorted.{length_permutation}
 use lib.Seq.{take-append_seam}
 use Rattle.gl_box.specs.declared.closed.Closed.{Closed}
 use Rattle.gl_box.specs.Cell.{spans_of}
-use Rattle.gl_plain.specs.Order.{AreParts, cells_of}
-use Rattle.gl_plain.proofs.Partings.{certified_parts}
+use Rattle.gl_order.specs.Order.{AreParts, cells_of}
+use Rattle.gl_plain.proofs.Certified.{certified_parts}
 use Rattle.gl_walk.specs.InLists.{boxes_in}
 use Rattle.gl_search_examples.proofs.ordered.come_back.Goals as goal
 
@@ -17,8 +17,8 @@ lent many new old same is =
     ∙ ap (λ (n : ℕ). take n (new ++ [])) (is ∙ sym same)
     ∙ take-append_seam new []
 
-pub in_order-requires : goal.in_order-requires
-in_order-requires g c =
+pub sorted-requires : goal.sorted-requires
+sorted-requires g c =
     let same = subst (λ (boxes : List Closed). IsPermutation boxes c.disorder.new.boxes) c.deref_mut.ensures.value c.disorder.ensures in
     let list = c.in_ok-boxes.boxes in
     let searched = subst (λ (boxes : List Closed). IsPermutation boxes c.disorder.new.boxes) c.in_ok-boxes.ensures same in

@@ -1,0 +1,3 @@
+pub mod Flat
+pub mod Leading
+pub mod Partings

@@ -1,0 +1,3 @@
+pub mod InRuns
+pub mod Order
+pub mod Runs

@@ -1,0 +1,107 @@
+ghost use Rattle.std.specs.Prelude.{◌≤◌, ℕ, List, drop, length, map, take, All, IfOk, IfSome, IsPermutation, OnOk};
+ghost use Rattle.gl_box.specs.Cell.{Covers, spans_of};
+ghost use Rattle.gl_box.specs.Frontier.{IsFrontier};
+ghost use Rattle.gl_order.specs.Order.{AreParts, cells_of};
+
+use crate::stretches::bring_stretches;
+use gl_box::{Cell, covers, halve};
+use gl_walk::{Boxed, go_down};
+use std::alloc::{AllocError, Global};
+
+/// Room for open cells: each cut adds one, and a cell can be cut at most 32 times on each axis.
+const OPEN_ROOM: usize = 512;
+
+/// How many of the first boxes are a frontier of the cell. `None` where they don't begin with one.
+/// `opened` is room to work in. The only error is want of memory.
+fn frontier_len<B: Boxed>(
+    cell: Cell,
+    boxes: &[B],
+    opened: &mut Vec<Cell>,
+) -> Result<Option<usize>, AllocError>
+    ensures within { IfOk result (λ count. IfSome count (λ count. count ≤ length boxes.now)) }
+    ensures frontier { IfOk result (λ count. IfSome count
+        (λ count. IsFrontier (spans_of cell) (take count (map B.spans boxes.now)))) }
+{
+    opened.clear();
+    opened.push(cell)?;
+    for (count, next) in boxes.iter().enumerate() {
+        if !go_down(opened, next.cell())? {
+            return Ok(None);
+        }
+        if opened.is_empty() {
+            return Ok(Some(count + 1));
+        }
+    }
+    Ok(None)
+}
+
+/// Brings the boxes that a cell covers to the front, and answers how many they are.
+fn part<B: Boxed>(cell: &Cell, boxes: &mut [B]) -> usize
+    ensures within { result ≤ length boxes.new }
+    ensures permutation { IsPermutation boxes.old boxes.new }
+    ensures front { All (λ box. Covers (spans_of cell.now) (B.spans box))
+        (take result boxes.new) }
+    ensures back { All (λ box. Covers (spans_of cell.now) (B.spans box) → ⊥)
+        (drop result boxes.new) }
+{
+    let mut count = 0;
+    for place in 0..boxes.len() {
+        if covers(cell, boxes[place].cell()) {
+            boxes.swap(count, place);
+            count += 1;
+        }
+    }
+    count
+}
+
+/// Puts boxes that part a cell into the order of the split tree. Where those of the lower half come
+/// first and in order, they stay as they are. `opened` is room to work in. The only error is want
+/// of memory.
+fn put_in_order<B: Boxed>(
+    mut cell: Cell,
+    boxes: &mut [B],
+    opened: &mut Vec<Cell>,
+) -> Result<(), AllocError>
+    requires { AreParts (spans_of cell) (map B.spans boxes.old) }
+    ensures permutation { OnOk result (IsPermutation boxes.old boxes.new) }
+    ensures frontier { OnOk result (IsFrontier (spans_of cell) (map B.spans boxes.new)) }
+{
+    let Some(lower) = halve(&mut cell) else {
+        return Ok(());
+    };
+    if boxes.len() == 1 {
+        return Ok(());
+    }
+    if let Some(count) = frontier_len(lower, boxes, opened)? {
+        let (_, back) = boxes.split_at_mut(count);
+        return put_in_order(cell, back, opened);
+    }
+    let count = part(&lower, boxes);
+    let (front, back) = boxes.split_at_mut(count);
+    put_in_order(lower, front, opened)?;
+    put_in_order(cell, back, opened)
+}
+
+/// The same boxes, or other things that stand for cells, in the order of the split tree of a cell
+/// which they part: each of its tuples lies in exactly one of them. Those that come as a few
+/// stretches in order take little more than three passes, and one where they are in order; no list
+/// is made beside theirs. The only error is want of memory.
+pub fn sorted<B: Boxed + Drop>(
+    alloc: Global,
+    whole: &Cell,
+    mut parts: Vec<B>,
+) -> Result<Vec<B>, AllocError>
+    requires { AreParts (spans_of whole.now) (map B.spans parts.items) }
+    ensures frontier { IfOk result
+        (λ sorted. IsFrontier (spans_of whole.now) (map B.spans sorted.items)) }
+    ensures permutation { IfOk result (λ sorted. IsPermutation parts.items sorted.items) }
+{
+    let mut opened = Vec::with_capacity(alloc, OPEN_ROOM)?;
+    if frontier_len(*whole, &parts, &mut opened)? == Some(parts.len()) {
+        return Ok(parts);
+    }
+    let boxes = parts.as_mut_slice();
+    bring_stretches(alloc, whole, boxes, &mut opened)?;
+    put_in_order(*whole, boxes, &mut opened)?;
+    Ok(parts)
+}

@@ -1,9 +1,0 @@
-use Rattle.std.proofs.Common.{◌≡◌, length}
-use Rattle.std.specs.List.Sorted.{IsPermutation}
-use Rattle.gl_plain.proofs.runs.trade.Given as goal
-
-abbrev pub invariant-loop-offset : goal.invariant-loop-offset
-invariant-loop-offset g l = record {
-  permutation : IsPermutation l.fn.boxes l.boxes;
-  long : length l.boxes ≡ length l.fn.boxes;
-}
