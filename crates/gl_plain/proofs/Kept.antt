@@ -1,16 +1,17 @@
 -- What a worker does with the cell in its hand, and what it can't.
-use Rattle.std.proofs.Common.{◌≡◌, ◌∙◌, sym, ap, refl, subst, inr, ℕ, ◌<◌, true, false, List, map}
+use Rattle.std.proofs.Common.{◌≡◌, ◌∙◌, sym, ap, refl, subst, inr, ℕ, ◌<◌, true, false, List, map, arith}
 use Rattle.std.specs.Prelude.{IfSome, IsNone, Option, Some, None, option_map}
 use Rattle.std.specs.Option.{is_some}
 use Rattle.std.proofs.lemmas.Bool.{false≢true}
 use Rattle.std.proofs.lemmas.List.Elements.{All-map}
 use Rattle.gl_box.specs.declared.cell.Cell.{Cell}
 use Rattle.gl_box.specs.declared.closed.Why.{Why}
+use Rattle.gl_box.specs.declared.closed.Why.TheVariants.{Bound, Disordered, Shut}
 use Rattle.gl_box.specs.declared.tuple.Tuple.{Tuple}
 use Rattle.gl_box.specs.Cell.{point, spans_of}
 use Rattle.gl_box.specs.Halves.{IsSingle}
 use Rattle.gl_box.specs.Tuple.{places_of}
-use Rattle.gl_goal.specs.Goal.{Goal, IsLegal, value}
+use Rattle.gl_goal.specs.Goal.{Goal, IsLegal, IsOpen, value}
 use Rattle.gl_goal.specs.declared.best.Best.{Best}
 use Rattle.gl_plain.specs.declared.worker.Worker as code
 use Rattle.gl_plain.specs.Machine.{Closes, IsFirstReason, Keeps, Tries, Worker, greater}
@@ -20,6 +21,17 @@ use Rattle.gl_box.proofs.Lows.{single_low, point_low}
 held_spans : (worker : code.Worker) (cell : Cell) (spans : List (ℕ × ℕ)) → worker.hand ≡ Some cell → (worker_of worker).hand ≡ Some spans → spans_of cell ≡ spans
 held_spans worker cell spans is held =
     let both : Some (spans_of cell) ≡ Some spans = sym (ap (option_map spans_of) is) ∙ held in cc
+
+-- an open cell whose bound is above the total, if there is one, is closed by no reason
+pub open_above : (rule : Goal) (most : ℕ) (cell : List (ℕ × ℕ)) → IsOpen rule cell → most < rule.bound cell → (why : Why) → IsFirstReason rule (Some most) cell why → ⊥
+open_above rule most cell open_ above Disordered reason = open_.ordered reason
+open_above rule most cell open_ above Shut reason = open_.not_shut reason.1
+open_above rule most cell open_ above Bound reason = absurd (omega (arith, above, reason.1))
+
+pub open_alone : (rule : Goal) (cell : List (ℕ × ℕ)) → IsOpen rule cell → (why : Why) → IsFirstReason rule None cell why → ⊥
+open_alone rule cell open_ Disordered reason = open_.ordered reason
+open_alone rule cell open_ Shut reason = open_.not_shut reason.1
+open_alone rule cell open_ Bound reason = absurd reason.1
 
 -- where no reason closes the cell
 pub not_closed : (rule : Goal) (worker : code.Worker) (cell : Cell) → worker.hand ≡ Some cell → ((why : Why) → IsFirstReason rule worker.seen (spans_of cell) why → ⊥)

@@ -109,9 +109,41 @@ fn search_cell<G: Goal>(
     Ok(())
 }
 
-/// Goes over cells as they were left, one after another: an open one is searched until nothing in
-/// it is open, and a closed one becomes its box. A legal tuple may be known, and a better one is
-/// looked for first. The only error is want of memory.
+/// Goes over cells as they were left, one after another, from the better of two legal tuples: an
+/// open cell is searched until nothing in it is open, and a closed one becomes its box. The only
+/// error is want of memory.
+fn go_over<G: Goal>(
+    alloc: Global,
+    goal: &G,
+    known: Option<Best>,
+    warm: Option<Best>,
+    parts: &[Part],
+    legs: &mut [Leg],
+) -> Result<Finished, AllocError>
+    requires known { IsSound (G.rule goal.now) known }
+    requires warm { IsSound (G.rule goal.now) warm }
+    requires nodes { All (λ part. IsNode (whole_cell (G.rule goal.now).axes) (cell_of part))
+        parts.now }
+    requires done { All (IsDoneFor (G.rule goal.now) (total_of known)) parts.now }
+    requires legs { G.are_legs goal.now legs.old }
+    ensures { IfOk result (IsFinished (G.rule goal.now) parts.now known) }
+{
+    let mut best = better(known, warm);
+    let mut cells = Vec::with_capacity(alloc, OPEN_ROOM)?;
+    let mut closed = Vec::with_capacity(alloc, CLOSED_ROOM)?;
+    for part in parts {
+        match part {
+            Part::Open(cell) => {
+                search_cell(goal, *cell, &mut best, &mut cells, &mut closed, legs)?;
+            }
+            Part::Done(done) => closed.push(*done)?,
+        }
+    }
+    Ok(Finished { best, closed })
+}
+
+/// Searches what is open of cells as they were left, and keeps what is closed. A legal tuple may be
+/// known, and a better one is looked for first. The only error is want of memory.
 pub(crate) fn finish<G: Goal>(
     alloc: Global,
     goal: &G,
@@ -127,18 +159,7 @@ pub(crate) fn finish<G: Goal>(
     let mut measured = measured_legs(alloc, goal)?;
     let legs = measured.as_mut_slice();
     let warm = warm_start(alloc, goal, legs)?;
-    let mut best = better(known, warm);
-    let mut cells = Vec::with_capacity(alloc, OPEN_ROOM)?;
-    let mut closed = Vec::with_capacity(alloc, CLOSED_ROOM)?;
-    for part in parts {
-        match part {
-            Part::Open(cell) => {
-                search_cell(goal, *cell, &mut best, &mut cells, &mut closed, legs)?;
-            }
-            Part::Done(done) => closed.push(*done)?,
-        }
-    }
-    Ok(Finished { best, closed })
+    go_over(alloc, goal, known, warm, parts, legs)
 }
 
 /// The optimum of a goal, and boxes that certify it: in the order of the split tree they are a

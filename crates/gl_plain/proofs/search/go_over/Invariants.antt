@@ -1,6 +1,6 @@
 use Rattle.std.specs.Prelude.{take}
 use Rattle.gl_plain.proofs.GivenWay.{HasGiven}
-use Rattle.gl_plain.proofs.search.finish.Given as goal
+use Rattle.gl_plain.proofs.search.go_over.Given as goal
 
 -- the parts so far gave way
 abbrev pub invariant-loop-part : goal.invariant-loop-part

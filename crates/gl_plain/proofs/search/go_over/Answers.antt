@@ -3,16 +3,16 @@ use Rattle.gl_box.specs.declared.closed.Closed.{Closed}
 use Rattle.gl_goal.specs.declared.best.Best.{Best}
 use Rattle.gl_goal.proofs.Totals.{either_sound}
 use Rattle.gl_plain.proofs.GivenWay.{HasGiven, given_all, given_done, given_none, given_open}
-use Rattle.gl_plain.proofs.search.finish.Goals as goal
-use Rattle.gl_plain.proofs.search.finish.Goals.{in-Open+in_ok-search_cell-in-Open, in-Done+in_ok-push-in-Done}
+use Rattle.gl_plain.proofs.search.go_over.Goals as goal
+use Rattle.gl_plain.proofs.search.go_over.Goals.{in-Open+in_ok-search_cell-in-Open, in-Done+in_ok-push-in-Done}
 
 pub loop-part-init : goal.loop-part-init
 loop-part-init g c =
     let rule = g.G.Goal.rule c.args.goal.now in
-    let sound = either_sound rule c.args.known c.in_ok-warm.warm c.better-best.result c.better-best.ensures.either c.requires.sound c.in_ok-warm.ensures.sound in
+    let sound = either_sound rule c.args.known c.args.warm c.better-best.result c.better-best.ensures.either c.requires.known c.requires.warm in
     record {
       given = given_none rule c.args.parts.now c.args.known c.better-best.result c.in_ok-closed.closed.items c.in_ok-closed.ensures.items sound c.better-best.ensures.no_less;
-      legs = c.in_ok-warm.ensures.legs;
+      legs = c.requires.legs;
     }
 
 pub loop-part-preserved : goal.loop-part-preserved
