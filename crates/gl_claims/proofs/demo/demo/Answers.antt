@@ -23,6 +23,17 @@ returns-clause-right g c =
     (subst (λ text. IsCountOf text c.in_ok-claims.claims) scored.1 (c.in_ok-claims.ensures.counted scored.0))
     (λ i. record { status = Done; said = c.in_ok-push_claims.ensures i; appended = [] })
 
+pub accepted_claims-requires : goal.accepted_claims-requires
+accepted_claims-requires g c =
+    let shelf = c.in_ok-shelf.shelf in
+    let folder = folder_on shelf in
+    let behind = c.score.new.desk in
+    let right = c.in_ok-scored.ensures.right in
+    let answer = answer_with c.in_ok-scored.scored right.0 in
+    let names : DayNames = record { task = c.in_ok-task.task; proof = c.in_ok-proof.proof } in
+    (scored_folder c.size_of-bytes.result (told_on shelf) (told_on behind) folder (folder_on behind) _ names answer refl refl right.1 c.in-Done.is right.2
+    (λ bytes there. small_of c.size_of-bytes.result (folder_on behind names.proof) bytes c.size_of-bytes.ensures there)).0
+
 pub unreachable-requires : goal.unreachable-requires
 unreachable-requires g c =
     let folder = folder_on c.in_ok-shelf.shelf in
