@@ -2,8 +2,8 @@
 use Rattle.std.proofs.Common.{◌≡◌, ◌≢◌, ◌∙◌, sym, ap, subst, refl, ℕ, suc, ◌+◌, ◌*◌, ◌<◌, ◌≤◌, Bool, true, false, ◌||◌, List, [], ◌∷◌, ◌++◌, length, map, get_or, take, arith, ⊎_elim}
 use Rattle.std.specs.Prelude.{All, AllPairs, Contains, cond, count_by, filter, not}
 use Rattle.std.proofs.lemmas.Bool.{cases_Bool, false≢true, or_parts}
-use Rattle.std.proofs.lemmas.List.{length-append, map_push, take_more}
-use Rattle.std.proofs.lemmas.List.Elements.{All-append, All-cons, All-head, All-nil, All-tail, All-weaker}
+use Rattle.std.proofs.lemmas.List.{append-nil, append_assoc, length-append, map_push, take_more}
+use Rattle.std.proofs.lemmas.List.Elements.{All-append, All-cons, All-head, All-nil, All-tail, All-weaker, filter-append}
 use Rattle.std.proofs.lemmas.List.Folds.{list_any_at}
 use Rattle.std.proofs.lemmas.List.Sums.{count_by-le-length, length-filter, sum_by-append, sum_by-cons}
 use Rattle.gl_series.specs.declared.day.DayRow.{DayRow}
@@ -18,6 +18,25 @@ use Rattle.gl_series.proofs.Growing.{pairs_head, pairs_tail}
 pub map_more : {X Y : Type 0} (f : X → Y) (xs : List X) (i : ℕ) (x : X) → i < length xs → x ≡ get_or xs i x → map f (take (i + 1) xs) ≡ map f (take i xs) ++ f x ∷ []
 map_more f xs i x inside at =
     ap (map f) (take_more xs i x inside ∙ ap (λ y. take i xs ++ y ∷ []) (sym at)) ∙ map_push f (take i xs) x
+
+-- one item more of those that are kept, and one that isn't
+filter_more : {X : Type 0} (keeps : X → Bool) (xs : List X) (i : ℕ) (x : X) → i < length xs → x ≡ get_or xs i x → filter keeps (take (i + 1) xs) ≡ filter keeps (take i xs) ++ filter keeps (x ∷ [])
+filter_more keeps xs i x inside at =
+    ap (filter keeps) (take_more xs i x inside ∙ ap (λ y. take i xs ++ y ∷ []) (sym at)) ∙ filter-append keeps (take i xs) (x ∷ [])
+
+pub one_kept : {X : Type 0} (keeps : X → Bool) (before some more xs : List X) (i : ℕ) (x : X) → i < length xs → x ≡ get_or xs i x → keeps x ≡ true → some ≡ before ++ filter keeps (take i xs)
+    → more ≡ some ++ x ∷ [] → more ≡ before ++ filter keeps (take (i + 1) xs)
+one_kept {X} keeps before some more xs i x inside at keep so_far pushed =
+    let here : filter keeps (x ∷ []) ≡ x ∷ [] = rw keep in
+    pushed ∙ ap (λ (l : List X). l ++ x ∷ []) so_far ∙ append_assoc before (filter keeps (take i xs)) (x ∷ []) ∙ ap (λ (l : List X). before ++ (filter keeps (take i xs) ++ l)) (sym here)
+    ∙ ap (λ (l : List X). before ++ l) (sym (filter_more keeps xs i x inside at))
+
+pub one_left : {X : Type 0} (keeps : X → Bool) (before some xs : List X) (i : ℕ) (x : X) → i < length xs → x ≡ get_or xs i x → keeps x ≡ false → some ≡ before ++ filter keeps (take i xs)
+    → some ≡ before ++ filter keeps (take (i + 1) xs)
+one_left {X} keeps before some xs i x inside at leave so_far =
+    let here : filter keeps (x ∷ []) ≡ [] = rw leave in
+    so_far ∙ ap (λ (l : List X). before ++ l) (sym (append-nil (filter keeps (take i xs)))) ∙ ap (λ (l : List X). before ++ (filter keeps (take i xs) ++ l)) (sym here)
+    ∙ ap (λ (l : List X). before ++ l) (sym (filter_more keeps xs i x inside at))
 
 not_true : (b : Bool) → not b ≡ true → b ≡ false
 not_true false is = refl

@@ -1,23 +1,27 @@
 -- The rows of a sheet are those of no other records, and the first record that is wrong is the one
 -- that is told.
-use Rattle.std.proofs.Common.{Bor, ◌≡◌, ◌≢◌, ◌∙◌, sym, ap, subst, refl, inl, inr, ℕ, Bool, true, false, zero, suc, ◌+◌, ◌<◌, ◌≤◌, List, [], ◌∷◌, ◌++◌, length, get_or, drop, append_assoc, Option, Some, None, Result, Ok, Err, arith, ⊎_elim}
-use Rattle.std.specs.Prelude.{All, IfOk, IfErr, IsErrOf, ◌⊎◌, not}
+use Rattle.std.proofs.Common.{Bor, ◌≡◌, ◌≢◌, ◌∙◌, sym, ap, subst, refl, inl, inr, ℕ, Bool, true, false, zero, suc, ◌<◌, ◌≤◌, List, [], ◌∷◌, ◌++◌, length, get_or, drop, append_assoc, Option, Some, None, Result, Ok, Err, arith, ⊎_elim}
+use Rattle.std.specs.Prelude.{All, IfOk, IfErr, IsErrOf, MatchResult, ◌⊎◌, map, not}
 use Rattle.std.proofs.lemmas.Bool.{cases_Bool}
 use Rattle.std.proofs.lemmas.Fmt.{decimal_injective}
 use Rattle.std.proofs.lemmas.List.{append-nil, length-append}
 use Rattle.csv.specs.Machine.{Read, next_record}
-use Rattle.csv.specs.Reading.{ReadRecord, Reached, default_config, source_of, strip_bom}
-use Rattle.csv.specs.Records.{field_at}
+use Rattle.csv.specs.Reading.{ReadRecord, Reached, Ready, RowStep, default_config, source_of, strip_bom}
+use Rattle.csv.specs.Records.{Row, field_at, fields_of}
+use Rattle.csv.specs.declared.error.Error.{Error}
 use Rattle.csv.specs.declared.parser.Config.{Config}
 use Rattle.csv.specs.declared.parser.State.{State}
 use Rattle.csv.specs.declared.parser.State.TheVariants as st
 use Rattle.csv.specs.declared.reader.Reader.{Reader}
+use Rattle.csv.specs.declared.reader.Trim.TheVariants as trim
 use Rattle.csv.proofs.ReadFacts.{rows-end, rows-more}
 use Rattle.gl_series.specs.declared.day.DayRow.{DayRow}
 use Rattle.gl_series.specs.declared.day.DaySheet.{DaySheet}
 use Rattle.gl_series.specs.declared.error.SheetError.{SheetError}
+use Rattle.gl_series.specs.declared.numbers.Numbers.{Numbers}
 use Rattle.gl_series.specs.declared.error.SheetError.TheVariants.{Heading, Record, Memory}
-use Rattle.gl_series.specs.Code.AddingRows.{IsNextRow}
+use Rattle.gl_series.specs.Code.AddingRows.{AddsRow, HasNumbers, IsWrongRow}
+use Rattle.gl_series.specs.Code.ReadingRecords.{StandsBehind}
 use Rattle.gl_series.specs.OneByOne.{Reads, StopsBehind}
 use Rattle.gl_series.specs.SheetText.{Begins, IsRefusedSheet, IsRowOf, IsSheetOf, IsWrongRecord, field_of, sheet_heading}
 use Rattle.gl_series.specs.Totals.{IsDay}
@@ -123,36 +127,59 @@ ended cfg s xs (r ∷ rs) (q ∷ qs) sa sb ya yb first none second =
     let more = ended cfg second.0.1 second.0.2 rs qs sa sb ya yb tail none second.3 in
     (more.0, λ i. head i ∷ more.1 i)
 
--- the rows so far are those of the records so far behind the heading
-pub record RowsUpTo (text : List ℕ) (rows : List DayRow) (state : State) (rest : List ℕ) : Type 0 where
+-- the bytes that a reader over a text has left
+abbrev pub left_of : Bor (List ℕ) → Option (List ℕ)
+left_of text = Some text.now
+
+-- a reader that has read nothing of a text
+pub at_start : (text : List ℕ) (reader : Reader (Bor (List ℕ))) → reader.trim ≡ trim.None → Ready reader → reader.config ≡ default_config → source_of left_of reader ≡ Some (strip_bom text)
+    → reader.state ≡ st.StartRecord → StandsBehind text [] reader
+unfolding Reached
+at_start text reader plain ready config source start =
+    record { plain = plain; ready = ready; config = config; ahead = strip_bom text; source = source; reached = (sym start, refl) }
+
+-- a reader that has read one record more
+pub one_further : (text : List ℕ) (records : List (List (List ℕ))) (old new : Reader (Bor (List ℕ))) (fields : List (List ℕ)) → StandsBehind text records old → ReadRecord left_of old new true fields
+    → Ready new → StandsBehind text (records ++ fields ∷ []) new
+one_further text records old new fields behind read ready =
+    let more = rows-more left_of old new fields default_config st.StartRecord (strip_bom text) behind.ahead records behind.config behind.source behind.reached read in
+    record { plain = read.3 ∙ behind.plain; ready = ready; config = read.2 ∙ behind.config; ahead = more.0; source = more.1; reached = more.2 }
+
+-- the rows so far are those of the records that a reader has read behind the heading
+pub record RowsUpTo (text : List ℕ) (reader : Reader (Bor (List ℕ))) (rows : List DayRow) : Type 0 where
   pub read : List (List (List ℕ))
-  pub reached : Reached default_config st.StartRecord (strip_bom text) (sheet_heading ∷ read) state rest
+  pub behind : StandsBehind text (sheet_heading ∷ read) reader
   pub reads : Reads IsRowOf IsDay read rows
 
-pub rows_none : (text : List ℕ) (fields : List (List ℕ)) (state : State) (rest : List ℕ) → Reached default_config st.StartRecord (strip_bom text) (fields ∷ []) state rest → fields ≡ sheet_heading
-    → RowsUpTo text [] state rest
-rows_none text fields state rest reached is = record {
-  read = [];
-  reached = subst (λ (f : List (List ℕ)). Reached default_config st.StartRecord (strip_bom text) (f ∷ []) state rest) is reached;
-  reads = record { each = tt; fit = no_rows };
-}
+-- no row yet
+pub rows_none : (text : List ℕ) (reader : Reader (Bor (List ℕ))) → StandsBehind text (sheet_heading ∷ []) reader → RowsUpTo text reader []
+rows_none text reader behind = record { read = []; behind = behind; reads = record { each = tt; fit = no_rows } }
 
-pub rows_further : (text : List ℕ) (rows more : List DayRow) (before after : State) (rest behind : List ℕ) (far : RowsUpTo text rows before rest) (fields : List (List ℕ)) (row : DayRow)
-    → Reached default_config st.StartRecord (strip_bom text) ((sheet_heading ∷ far.read) ++ fields ∷ []) after behind → IsNextRow rows fields row → more ≡ rows ++ row ∷ []
-    → RowsUpTo text more after behind
-rows_further text rows more before after rest behind far fields row reached next is = record {
-  read = far.read ++ fields ∷ [];
-  reached = reached;
-  reads = subst (Reads IsRowOf IsDay (far.read ++ fields ∷ [])) (sym is) (record { each = AllZip-push IsRowOf far.read rows fields row far.reads.each next.is_row; fit = next.fits });
-}
+-- the row of one record more
+pub rows_further : (text : List ℕ) (old new : Reader (Bor (List ℕ))) (rows more : List DayRow) (numbers : Numbers) (left : ℕ) (read : Result Row Error) → RowsUpTo text old rows
+    → RowStep left_of old new left (Some read) → MatchResult read (λ columns. AddsRow (fields_of columns) rows more numbers) (λ error. ⊥)
+    → RowsUpTo text new more × HasNumbers numbers (map (λ row. row.number) more) × (0 < left)
+rows_further text old new rows more numbers left (Ok columns) far step adds =
+    let fields = fields_of columns in
+    let reads : Reads IsRowOf IsDay (far.read ++ fields ∷ []) (rows ++ adds.row ∷ []) = record { each = AllZip-push IsRowOf far.read rows fields adds.row far.reads.each adds.next.is_row; fit = adds.next.fits } in (
+      record {
+        read = far.read ++ fields ∷ [];
+        behind = one_further text (sheet_heading ∷ far.read) old new fields far.behind step.0 (inl step.1);
+        reads = subst (Reads IsRowOf IsDay (far.read ++ fields ∷ [])) (sym adds.added) reads;
+      },
+      adds.kept,
+      step.2,
+    )
+rows_further text old new rows more numbers left (Err error) far step adds = absurd adds
 
-pub wrong_here : (text : List ℕ) (rows : List DayRow) (before after : State) (rest behind : List ℕ) (far : RowsUpTo text rows before rest) (fields : List (List ℕ)) (number : ℕ)
-    → Reached default_config st.StartRecord (strip_bom text) ((sheet_heading ∷ far.read) ++ fields ∷ []) after behind → ((row : DayRow) → IsNextRow rows fields row → ⊥) → number ≡ length rows + 2
-    → IsWrongRecord text number
-wrong_here text rows before after rest behind far fields number reached none is = record {
+-- the record behind those of some rows is wrong
+wrong_record : (text : List ℕ) (rows : List DayRow) (old new : Reader (Bor (List ℕ))) (fields : List (List ℕ)) (told : SheetError) (far : RowsUpTo text old rows)
+    → StandsBehind text (sheet_heading ∷ (far.read ++ fields ∷ [])) new → IsWrongRow rows fields told → IsRefusedSheet text told
+wrong_record text rows old new fields Heading far behind wrong = absurd wrong
+wrong_record text rows old new fields (Record number) far behind wrong = record {
   read = far.read ++ fields ∷ [];
   count = length far.read;
-  begins = record { state = after; rest = behind; reached = reached };
+  begins = record { state = new.state; rest = behind.ahead; reached = behind.reached };
   stops = record {
     front = far.read;
     wrong = fields;
@@ -160,18 +187,25 @@ wrong_here text rows before after rest behind far fields number reached none is 
     items = rows;
     parts = refl;
     before = far.reads;
-    none = λ row is_row fit. none row (record { is_row = is_row; fits = fit });
+    none = λ row is_row fit. wrong.1 row (record { is_row = is_row; fits = fit });
     counted = refl;
   };
   last = length-append far.read (fields ∷ []);
-  number_is = omega (arith, is, zip_long IsRowOf far.read rows far.reads.each);
+  number_is = omega (arith, wrong.0, zip_long IsRowOf far.read rows far.reads.each);
 }
+wrong_record text rows old new fields Memory far behind wrong = tt
 
-pub rows_all : (text : List ℕ) (rows : List DayRow) (state : State) (rest : List ℕ) → RowsUpTo text rows state rest → next_record default_config state [] [] rest ≡ None
-    → IsSheetOf text (record { rows = rows })
-rows_all text rows state rest far none = record {
+pub wrong_here : (text : List ℕ) (old new : Reader (Bor (List ℕ))) (rows : List DayRow) (left : ℕ) (read : Result Row Error) (told : SheetError) → RowsUpTo text old rows
+    → RowStep left_of old new left (Some read) → MatchResult read (λ columns. IsWrongRow rows (fields_of columns) told) (λ error. told ≡ Memory) → IsRefusedSheet text told
+wrong_here text old new rows left (Ok columns) told far step wrong =
+    wrong_record text rows old new (fields_of columns) told far (one_further text (sheet_heading ∷ far.read) old new (fields_of columns) far.behind step.0 (inl step.1)) wrong
+wrong_here text old new rows left (Err error) told far step wrong = subst (IsRefusedSheet text) (sym wrong) tt
+
+-- no record stands behind those of some rows
+pub rows_all : (text : List ℕ) (rows : List DayRow) (old new : Reader (Bor (List ℕ))) → RowsUpTo text old rows → ReadRecord left_of old new false [] → IsSheetOf text (record { rows = rows })
+rows_all text rows old new far ended = record {
   rest = far.read;
-  records = (state, rest, far.reached, none);
+  records = (old.state, far.behind.ahead, far.behind.reached, rows-end left_of old new [] default_config far.behind.ahead far.behind.config far.behind.source ended);
   reads = far.reads;
 }
 
@@ -293,24 +327,15 @@ told_same a b differ is alike =
     let clash : false ≡ true = sym alike ∙ is ∙ ap not other in absurd (cc))
     (cases_Bool (is_text a b))
 
--- the bytes that a reader over a text has left
-abbrev pub left_of : Bor (List ℕ) → Option (List ℕ)
-left_of text = Some text.now
-
--- the first record, read from the start of a text
-pub first_read : (old new : Reader (Bor (List ℕ))) (text : List ℕ) (fields : List (List ℕ)) → old.config ≡ default_config → source_of left_of old ≡ Some (strip_bom text) → old.state ≡ st.StartRecord
-    → ReadRecord left_of old new true fields → (z : List ℕ) × (source_of left_of new ≡ Some z) × Reached default_config st.StartRecord (strip_bom text) (fields ∷ []) new.state z
+-- a text without a first record, and one whose first record isn't the heading
+pub unread_heading : (text : List ℕ) (old new : Reader (Bor (List ℕ))) (fields : List (List ℕ)) → StandsBehind text [] old → ReadRecord left_of old new false fields → Begins text (sheet_heading ∷ []) → ⊥
 unfolding Reached
-first_read old new text fields config source start read =
-    rows-more left_of old new fields default_config st.StartRecord (strip_bom text) (strip_bom text) [] config source (sym start, refl) read
+unread_heading text old new fields behind read =
+    let ended = rows-end left_of old new fields default_config behind.ahead behind.config behind.source read in
+    no_heading text ((λ i. next_record default_config (behind.reached.0 i) [] [] (behind.reached.1 i)) ∙ ended)
 
-pub unread_heading : (old new : Reader (Bor (List ℕ))) (text : List ℕ) (fields : List (List ℕ)) → old.config ≡ default_config → source_of left_of old ≡ Some (strip_bom text)
-    → old.state ≡ st.StartRecord → ReadRecord left_of old new false fields → Begins text (sheet_heading ∷ []) → ⊥
-unread_heading old new text fields config source start read =
-    no_heading text (subst (λ (s : State). next_record default_config s [] [] (strip_bom text) ≡ None) start (rows-end left_of old new fields default_config (strip_bom text) config source read))
-
-pub wrong_heading : (old new : Reader (Bor (List ℕ))) (text : List ℕ) (fields : List (List ℕ)) → old.config ≡ default_config → source_of left_of old ≡ Some (strip_bom text)
-    → old.state ≡ st.StartRecord → ReadRecord left_of old new true fields → (fields ≡ sheet_heading → ⊥) → Begins text (sheet_heading ∷ []) → ⊥
-wrong_heading old new text fields config source start read other =
-    let first = first_read old new text fields config source start read in
-    other_heading text fields new.state first.0 first.2 other
+pub wrong_heading : (text : List ℕ) (old new : Reader (Bor (List ℕ))) (fields : List (List ℕ)) → StandsBehind text [] old → ReadRecord left_of old new true fields → (fields ≡ sheet_heading → ⊥)
+    → Begins text (sheet_heading ∷ []) → ⊥
+wrong_heading text old new fields behind read other =
+    let more = rows-more left_of old new fields default_config st.StartRecord (strip_bom text) behind.ahead [] behind.config behind.source behind.reached read in
+    other_heading text fields new.state more.0 more.2 other

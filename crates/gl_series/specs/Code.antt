@@ -3,4 +3,5 @@
 -- cites them.
 pub mod Adding
 pub mod AddingRows
+pub mod ReadingRecords
 pub mod Tallies

@@ -1,11 +1,12 @@
-ghost use Rattle.std.specs.Prelude.{◌≡◌, ◌≢◌, ◌⊎◌, ◌↔◌, ◌≤◌, ◌++◌, ◌∷◌, [], ℕ, false, All, IfOk, IfErr, IsErrOf, IsTrue, IsUtf8, MatchOption, MatchResult, length, map};
+ghost use Rattle.std.specs.Prelude.{◌≡◌, ◌≢◌, ◌⊎◌, ◌↔◌, ◌≤◌, ◌++◌, ◌∷◌, [], ℕ, All, IfOk, IfErr, IsErrOf, IsTrue, IsUtf8, MatchOption, MatchResult, OnOk, map};
 ghost use Rattle.std.specs.Fmt.{decimal};
 ghost use Rattle.csv.specs.Records.{fields_of};
 ghost use Rattle.gl_series.specs.declared.day.DayRow.{DayRow};
 ghost use Rattle.gl_series.specs.declared.day.DaySheet.{DaySheet};
 ghost use Rattle.gl_series.specs.declared.error.SheetError.{SheetError};
 ghost use Rattle.gl_series.specs.declared.error.SheetError.TheVariants.{Memory};
-ghost use Rattle.gl_series.specs.Code.AddingRows.{AddsRow, IsNextRow, row_written, HasNumbers};
+ghost use Rattle.gl_series.specs.Code.AddingRows.{AddsRow, IsNextRow, IsWrongRow, row_written, HasNumbers};
+ghost use Rattle.gl_series.specs.Code.ReadingRecords.{StandsBehind, text_under};
 ghost use Rattle.gl_text.specs.Forms.{is_name, is_number};
 ghost use Rattle.gl_series.specs.SheetText.{IsRefusedSheet, IsRowOf, IsSheetOf, field_of, sheet_heading};
 ghost use Rattle.gl_series.specs.Totals.{IsDay};
@@ -14,7 +15,7 @@ use crate::day::{DayRow, DaySheet};
 use crate::error::SheetError;
 use crate::form::text_in;
 use crate::numbers::Numbers;
-use csv::{ByteRecord, ReaderBuilder};
+use csv::{ByteRecord, Error as ReadError, Reader, ReaderBuilder};
 use gl_desk::Name;
 use gl_text::{Items, is_name, is_number, read_u64};
 use std::alloc::{AllocError, Global};
@@ -190,50 +191,120 @@ fn next_row(
 }
 
 /// Adds the row of a record behind others, and its number to theirs, where there is one that fits to
-/// them; answers whether there is. The only error is want of memory.
+/// them; otherwise tells that the record is wrong.
 fn add_row(
     alloc: Global,
     rows: &mut Vec<DayRow>,
     numbers: &mut Numbers,
     columns: &ByteRecord,
-) -> Result<bool, AllocError>
+) -> Result<(), SheetError>
     requires day { IsDay rows.old.items }
     requires kept { HasNumbers numbers.old (map (λ row. row.number) rows.old.items) }
-    ensures added { IfOk result (λ added. IsTrue added
-        → AddsRow (fields_of columns.now) rows.old.items rows.new.items numbers.new) }
-    ensures none { IfOk result (λ added. (added ≡ false)
-        → (row : DayRow) → IsNextRow rows.old.items (fields_of columns.now) row → ⊥) }
-    ensures same { IfOk result (λ added. (added ≡ false) → rows.new ≡ rows.old) }
+    ensures added { OnOk result
+        (AddsRow (fields_of columns.now) rows.old.items rows.new.items numbers.new) }
+    ensures wrong { IfErr result (IsWrongRow rows.old.items (fields_of columns.now)) }
 {
     let Some(row) = next_row(alloc, rows, numbers, columns)? else {
-        return Ok(false);
+        return Err(SheetError::Record(rows.len() as u32 + 2));
     };
     numbers.add(alloc, &row.number)?;
     rows.push(row)?;
-    Ok(true)
+    Ok(())
 }
 
-/// The rows of a sheet, or why the text is none. Reading from memory fails for want of memory
-/// alone, and records may have any length.
-fn sheet_in(alloc: Global, text: &[u8]) -> Result<DaySheet, SheetError>
-    ensures ok { IfOk result (IsSheetOf text.now) }
-    ensures refused { IfErr result (IsRefusedSheet text.now) }
+/// A reader at the start of a text, for which the heading is a record too, and records may have any
+/// length.
+fn reader_over(alloc: Global, text: &[u8]) -> Reader<&[u8]>
+    ensures start { StandsBehind text.now [] result }
+    ensures text { text_under result ≡ text.now }
 {
-    let mut reader = ReaderBuilder::new()
+    ReaderBuilder::new()
         .has_headers(false)
         .flexible(true)
-        .from_reader(alloc, text);
+        .from_reader(alloc, text)
+}
+
+/// Reads the heading of a text, or tells why the text is no sheet. Reading from memory fails for
+/// want of memory alone.
+fn read_heading(alloc: Global, reader: &mut Reader<&[u8]>) -> Result<(), SheetError>
+    requires { StandsBehind (text_under reader.old) [] reader.old }
+    ensures ok { OnOk result
+        (StandsBehind (text_under reader.old) (sheet_heading ∷ []) reader.new) }
+    ensures refused { IfErr result (IsRefusedSheet (text_under reader.old)) }
+{
     let mut heading = ByteRecord::new(alloc);
     if !reader.read_byte_record(&mut heading)? || !is_heading(&heading) {
         return Err(SheetError::Heading);
     }
+    Ok(())
+}
+
+/// Adds the row of a record as it was read, as [`add_row`] does. A record from memory that doesn't
+/// read is want of memory.
+fn add_record(
+    alloc: Global,
+    rows: &mut Vec<DayRow>,
+    numbers: &mut Numbers,
+    read: Result<ByteRecord, ReadError>,
+) -> Result<(), SheetError>
+    requires day { IsDay rows.old.items }
+    requires kept { HasNumbers numbers.old (map (λ row. row.number) rows.old.items) }
+    ensures added { OnOk result (MatchResult read
+        (λ columns. AddsRow (fields_of columns) rows.old.items rows.new.items numbers.new)
+        (λ error. ⊥)) }
+    ensures wrong { IfErr result (λ told. MatchResult read
+        (λ columns. IsWrongRow rows.old.items (fields_of columns) told)
+        (λ error. told ≡ Memory)) }
+{
+    add_row(alloc, rows, numbers, &read?)
+}
+
+/// Adds the rows of the records that a reader reads, and their numbers, or tells why its text is no
+/// sheet.
+fn add_rows(
+    alloc: Global,
+    reader: &mut Reader<&[u8]>,
+    rows: &mut Vec<DayRow>,
+    numbers: &mut Numbers,
+) -> Result<(), SheetError>
+    requires start { StandsBehind (text_under reader.old) [] reader.old }
+    requires none { rows.old.items ≡ [] }
+    requires kept { HasNumbers numbers.old [] }
+    ensures ok { OnOk result
+        (IsSheetOf (text_under reader.old) (record { rows = rows.new.items })) }
+    ensures refused { IfErr result (IsRefusedSheet (text_under reader.old)) }
+{
+    read_heading(alloc, reader)?;
+    for read in reader.byte_records() {
+        add_record(alloc, rows, numbers, read)?;
+    }
+    Ok(())
+}
+
+/// Adds the rows of a sheet, and their numbers, or tells why the text is none.
+fn read_rows(
+    alloc: Global,
+    text: &[u8],
+    rows: &mut Vec<DayRow>,
+    numbers: &mut Numbers,
+) -> Result<(), SheetError>
+    requires none { rows.old.items ≡ [] }
+    requires kept { HasNumbers numbers.old [] }
+    ensures ok { OnOk result (IsSheetOf text.now (record { rows = rows.new.items })) }
+    ensures refused { IfErr result (IsRefusedSheet text.now) }
+{
+    let mut reader = reader_over(alloc, text);
+    add_rows(alloc, &mut reader, rows, numbers)
+}
+
+/// The rows of a sheet, or why the text is none.
+fn sheet_in(alloc: Global, text: &[u8]) -> Result<DaySheet, SheetError>
+    ensures ok { IfOk result (IsSheetOf text.now) }
+    ensures refused { IfErr result (IsRefusedSheet text.now) }
+{
     let mut rows = Vec::new(alloc);
     let mut numbers = Numbers::new(alloc);
-    for record in reader.into_byte_records() {
-        if !add_row(alloc, &mut rows, &mut numbers, &record?)? {
-            return Err(SheetError::Record(rows.len() as u32 + 2));
-        }
-    }
+    read_rows(alloc, text, &mut rows, &mut numbers)?;
     Ok(DaySheet {
         rows: Items::from_vec(rows),
     })

@@ -1,4 +1,4 @@
-ghost use Rattle.std.specs.Prelude.{◌≡◌, ◌∷◌, IfOk, map};
+ghost use Rattle.std.specs.Prelude.{◌≡◌, ◌∷◌, ◌++◌, IfOk, OnOk, map};
 ghost use Rattle.std.specs.Fmt.{decimal};
 ghost use Rattle.csv.specs.Records.{fields_of};
 ghost use Rattle.csv.specs.Writing.{default_writer, row_text};
@@ -68,19 +68,42 @@ fn team_record(alloc: Global, team: &TeamTotal) -> Result<ByteRecord, AllocError
     ByteRecord::from_fields(alloc, &[&rank, team.team.as_str().as_bytes(), &total])
 }
 
-/// The text of the pilots.
-fn pilots_text(alloc: Global, pilots: &[Total]) -> Result<Vec<u8>, AllocError>
-    ensures { IfOk result (λ text.
-        text.items ≡ records_text (pilot_heading ∷ map pilot_fields pilots.now)) }
+/// Adds the text of a record.
+fn push_record(alloc: Global, text: &mut Vec<u8>, columns: &ByteRecord) -> Result<(), AllocError>
+    ensures { OnOk result (text.new.items
+        ≡ text.old.items ++ row_text default_writer (fields_of columns.now)) }
+{
+    text.extend_from_slice(&record_text(alloc, columns)?)?;
+    Ok(())
+}
+
+/// The text of the heading of the pilots.
+fn pilots_heading(alloc: Global) -> Result<Vec<u8>, AllocError>
+    ensures { IfOk result (λ text. text.items ≡ row_text default_writer pilot_heading) }
 {
     let heading = ByteRecord::from_fields(
         alloc,
         &[b"rank", b"number", b"name", b"total", b"dropped"],
     )?;
-    let mut text = record_text(alloc, &heading)?;
+    record_text(alloc, &heading)
+}
+
+/// The text of the heading of the teams.
+fn teams_heading(alloc: Global) -> Result<Vec<u8>, AllocError>
+    ensures { IfOk result (λ text. text.items ≡ row_text default_writer team_heading) }
+{
+    let heading = ByteRecord::from_fields(alloc, &[b"rank", b"team", b"total"])?;
+    record_text(alloc, &heading)
+}
+
+/// The text of the pilots.
+fn pilots_text(alloc: Global, pilots: &[Total]) -> Result<Vec<u8>, AllocError>
+    ensures { IfOk result (λ text.
+        text.items ≡ records_text (pilot_heading ∷ map pilot_fields pilots.now)) }
+{
+    let mut text = pilots_heading(alloc)?;
     for pilot in pilots {
-        let columns = pilot_record(alloc, pilot)?;
-        text.extend_from_slice(&record_text(alloc, &columns)?)?;
+        push_record(alloc, &mut text, &pilot_record(alloc, pilot)?)?;
     }
     Ok(text)
 }
@@ -90,11 +113,9 @@ fn teams_text(alloc: Global, teams: &[TeamTotal]) -> Result<Vec<u8>, AllocError>
     ensures { IfOk result (λ text.
         text.items ≡ records_text (team_heading ∷ map team_fields teams.now)) }
 {
-    let heading = ByteRecord::from_fields(alloc, &[b"rank", b"team", b"total"])?;
-    let mut text = record_text(alloc, &heading)?;
+    let mut text = teams_heading(alloc)?;
     for team in teams {
-        let columns = team_record(alloc, team)?;
-        text.extend_from_slice(&record_text(alloc, &columns)?)?;
+        push_record(alloc, &mut text, &team_record(alloc, team)?)?;
     }
     Ok(text)
 }

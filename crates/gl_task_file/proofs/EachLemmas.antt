@@ -1,12 +1,13 @@
 -- Lists that are read item by item.
-use Rattle.std.proofs.Common.{◌≡◌, ◌∙◌, ℕ, ◌+◌, arith, sym, ap, subst, None, zero, length, List, [], ◌∷◌, ◌++◌, map}
+use Rattle.std.proofs.Common.{◌≡◌, ◌∙◌, ℕ, ◌+◌, arith, sym, ap, subst, None, Some, zero, length, List, [], ◌∷◌, ◌++◌, map}
 use Rattle.std.proofs.lemmas.List.{append_assoc, append-nil}
 use Rattle.toml.specs.View.{view}
 use Rattle.toml.specs.declared.value.Value.{Value}
 use Rattle.toml.specs.Data.{Data}
 use Rattle.gl_task_file.specs.Keys.{Test, each_item, first_failed}
 use Rattle.gl_task_file.specs.Meaning.{Each}
-use Rattle.gl_task_file.proofs.TestLemmas.{behind_all}
+use Rattle.gl_task_file.specs.declared.error.TaskError.{TaskError}
+use Rattle.gl_task_file.proofs.TestLemmas.{before_all, behind_all}
 
 -- the items so far are those of the values that were read, and the rest are to come
 abbrev pub Gathered : {A : Type 0} → (Data → A → Type 0) → List Data → List Data → List A → Type 0
@@ -36,3 +37,9 @@ pub next_tests : (tests : ℕ → Data → List Test) (n : ℕ) (all : Test) (re
     → all ≡ first_failed (each_item tests n (map view rest)) → first_failed (tests n (view value)) ≡ None → all ≡ first_failed (each_item tests (n + 1) (map view others))
 next_tests tests n all rest value others cut so_far passes =
     so_far ∙ ap (λ (l : List Value). first_failed (each_item tests n (map view l))) cut ∙ behind_all (tests n (view value)) (each_item tests (n + 1) (map view others)) passes
+
+-- an item that fails
+pub failed_here : (tests : ℕ → Data → List Test) (n : ℕ) (all : Test) (rest : List Value) (value : Value) (others : List Value) (e : TaskError) → rest ≡ value ∷ others
+    → all ≡ first_failed (each_item tests n (map view rest)) → first_failed (tests n (view value)) ≡ Some e → all ≡ Some e
+failed_here tests n all rest value others e cut so_far fails =
+    so_far ∙ ap (λ (l : List Value). first_failed (each_item tests n (map view l))) cut ∙ before_all (tests n (view value)) (each_item tests (n + 1) (map view others)) e fails

@@ -8,7 +8,7 @@ use gl_text::Items;
 use gl_zone::Zone;
 
 /// The way of a task.
-#[derive(Debug, Drop)]
+#[derive(Drop)]
 pub struct Course {
     pub start: Start,
     pub zones: Items<Zone>,

@@ -13,7 +13,7 @@ use gl_desk::Name;
 use gl_text::is_file_name;
 
 /// A command and what it is given.
-#[derive(Clone, Copy, Debug)]
+#[derive(Clone, Copy)]
 pub enum Command<'a> {
     /// `free FILE`: the best free distance of a recording.
     Free(&'a Name),

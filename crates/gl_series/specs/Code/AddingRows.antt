@@ -2,10 +2,12 @@
 use Rattle.std.specs.BTreeSet.{contains}
 use Rattle.std.specs.Cmp.Lexicographic.{slice_cmp}
 use Rattle.std.specs.Ordering.{nat_cmp}
-use Rattle.std.specs.Prelude.{ℕ, List, [], ◌∷◌, ◌++◌, ◌≡◌, ◌≢◌, ◌↔◌, All, false, map}
+use Rattle.std.specs.Prelude.{ℕ, ◌+◌, List, [], ◌∷◌, ◌++◌, ◌≡◌, ◌≢◌, ◌↔◌, ⊤, All, false, length, map}
 use Rattle.gl_series.specs.SheetText.{IsRowOf}
 use Rattle.gl_series.specs.Totals.{IsDay}
 use Rattle.gl_series.specs.declared.day.DayRow.{DayRow}
+use Rattle.gl_series.specs.declared.error.SheetError.{SheetError}
+use Rattle.gl_series.specs.declared.error.SheetError.TheVariants.{Heading, Record, Memory}
 use Rattle.gl_series.specs.declared.numbers.Numbers.{Numbers}
 use Rattle.gl_series.specs.declared.sheet.Written.{Written}
 
@@ -35,3 +37,11 @@ pub record AddsRow (fields : List (List ℕ)) (before after : List DayRow)
   pub next : IsNextRow before fields row
   pub added : after ≡ before ++ row ∷ []
   pub kept : HasNumbers numbers (map (λ row. row.number) after)
+
+-- what is told of a record that isn't the row of one more behind some; want of memory can always be
+-- told
+abbrev pub IsWrongRow : List DayRow → List (List ℕ) → SheetError → Type 0
+IsWrongRow rows fields Heading = ⊥
+IsWrongRow rows fields (Record number) =
+    (number ≡ length rows + 2) × ((row : DayRow) → IsNextRow rows fields row → ⊥)
+IsWrongRow rows fields Memory = ⊤

@@ -5,7 +5,7 @@ use Rattle.gl_series.proofs.Kept.{kept_item}
 use Rattle.gl_series.proofs.sheet.add_row.Goals as goal
 
 pub returns-clause-added : goal.returns-clause-added
-returns-clause-added c = λ is.
+returns-clause-added c =
     let rows = c.args.rows.now.items in
     let row = c.in-Some.row in
     let next : IsNextRow rows (fields_of c.args.columns.now) row = rw (c.in-Some.is, c.deref.ensures.value) at c.in_ok-row.ensures in

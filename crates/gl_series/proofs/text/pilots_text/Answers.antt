@@ -8,7 +8,7 @@ pub loop-pilot-preserved : goal.loop-pilot-preserved
 loop-pilot-preserved c =
     let pilot = c.pilot-item.result in
     let piece = row_text default_writer (pilot_fields pilot) in
-    c.in_ok-extend_from_slice.ensures.items
-    ∙ ap (λ (bytes : List ℕ). c.loop-pilot.text.items ++ bytes) (c.deref.ensures.value ∙ c.in_ok-record_text.ensures ∙ ap (row_text default_writer) c.in_ok-columns.ensures)
+    c.in_ok-push_record.ensures
+    ∙ ap (λ (fields : List (List ℕ)). c.loop-pilot.text.items ++ row_text default_writer fields) c.in_ok-pilot_record.ensures
     ∙ ap (λ (bytes : List ℕ). bytes ++ piece) c.loop-pilot.invariant
     ∙ sym (text_more pilot_heading pilot_fields c.args.pilots.now c.loop-pilot.pilot-index pilot c.loop-pilot-test.true c.pilot-item.is)

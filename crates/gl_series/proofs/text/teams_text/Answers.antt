@@ -8,7 +8,7 @@ pub loop-team-preserved : goal.loop-team-preserved
 loop-team-preserved c =
     let team = c.team-item.result in
     let piece = row_text default_writer (team_fields team) in
-    c.in_ok-extend_from_slice.ensures.items
-    ∙ ap (λ (bytes : List ℕ). c.loop-team.text.items ++ bytes) (c.deref.ensures.value ∙ c.in_ok-record_text.ensures ∙ ap (row_text default_writer) c.in_ok-columns.ensures)
+    c.in_ok-push_record.ensures
+    ∙ ap (λ (fields : List (List ℕ)). c.loop-team.text.items ++ row_text default_writer fields) c.in_ok-team_record.ensures
     ∙ ap (λ (bytes : List ℕ). bytes ++ piece) c.loop-team.invariant
     ∙ sym (text_more team_heading team_fields c.args.teams.now c.loop-team.team-index team c.loop-team-test.true c.team-item.is)

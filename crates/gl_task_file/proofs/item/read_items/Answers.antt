@@ -1,6 +1,7 @@
 use Rattle.std.proofs.Common.{◌≡◌, zero, length, arith}
 use Rattle.std.proofs.lemmas.Grind.{common_steps}
-use Rattle.gl_task_file.proofs.EachLemmas.{gathered_end, next_gathered, next_tests}
+use Rattle.std.proofs.lemmas.Result.{err_from_is_err_and}
+use Rattle.gl_task_file.proofs.EachLemmas.{failed_here, gathered_end, next_gathered, next_tests}
 use Rattle.gl_task_file.proofs.item.read_items.Goals as goal
 
 pub returns-clause-ok : goal.returns-clause-ok
@@ -17,3 +18,10 @@ items-preserved g c =
       counted = grind (arith, common_steps);
       number = grind (arith, common_steps);
     }
+
+pub returns-in_err-read_item-clause-refused : goal.returns-in_err-read_item-clause-refused
+returns-in_err-read_item-clause-refused g c =
+    let cut = c.in-Some.ensures.cases.0 in
+    let wrong = c.in_err-read_item.field-0.0 in
+    let told = err_from_is_err_and c.from_residual.result c.from_residual.ensures.1 in
+    rw (told.1, told.2) (λ some. failed_here (g.R.ReadItem.tests c.args.reader.now) _ _ _ _ _ wrong cut c.items.invariant.tests (c.in_err-read_item.ensures.refused some))
