@@ -8,7 +8,7 @@ use gl_sphere::Grid;
 use std::alloc::AllocError;
 
 /// What a line of an airspace text says.
-#[derive(Clone, Copy, Debug)]
+#[derive(Clone, Copy)]
 pub enum AirLine {
     /// Nothing that counts.
     PassedOver,

@@ -8,7 +8,7 @@ use std::alloc::{AllocError, Global};
 const LEAST_CORNERS: usize = 3;
 
 /// What the lines of a volume have said so far.
-#[derive(Debug, Drop)]
+#[derive(Drop)]
 pub struct Draft {
     pub floor: Option<i32>,
     pub ceiling: Option<i32>,

@@ -33,7 +33,7 @@ fn number_behind(line: usize, place: usize) -> u32
 }
 
 /// Where the first volume begins.
-#[derive(Clone, Copy, Debug)]
+#[derive(Clone, Copy)]
 pub struct Start {
     /// How many lines stand before it.
     pub lines: usize,

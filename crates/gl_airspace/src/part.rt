@@ -8,7 +8,7 @@ use gl_text::next_line;
 use std::alloc::{AllocError, Global};
 
 /// What the lines of a volume came to.
-#[derive(Debug, Drop)]
+#[derive(Drop)]
 pub struct Part {
     /// What they say, up to the first that doesn't fit.
     pub draft: Draft,

@@ -8,7 +8,7 @@ use crate::draft::Draft;
 use std::alloc::AllocError;
 
 /// What a line is behind the lines of a volume.
-#[derive(Clone, Copy, Debug, PartialEq, Eq)]
+#[derive(Clone, Copy)]
 pub enum Step {
     /// The beginning of the next volume.
     Begins,

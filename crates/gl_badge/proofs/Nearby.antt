@@ -1,8 +1,8 @@
 -- The numbers of the fixes near a point, one fix after the other.
-use Rattle.std.proofs.Common.{◌≡◌, ◌∙◌, sym, ap, refl, subst, ℕ, suc, ◌+◌, ◌-◌, ◌<◌, Bool, true, false, List, [], ◌∷◌, ◌++◌, length, get_or, Some, slice_get, arith}
+use Rattle.std.proofs.Common.{◌≡◌, ◌∙◌, sym, ap, refl, subst, ℕ, suc, ◌+◌, ◌-◌, ◌<◌, ◌≤◌, Bool, true, false, List, [], ◌∷◌, ◌++◌, length, get_or, Some, slice_get, Vec, Global, Fits, w32, arith}
 use Rattle.std.specs.Prelude.{nat_le, All, IsSomeAnd, map, take}
 use Rattle.std.specs.List.{filter}
-use Rattle.std.proofs.lemmas.List.{length-map, length-take, map_more}
+use Rattle.std.proofs.lemmas.List.{length-map, length-take, map_more, take_all}
 use Rattle.std.proofs.lemmas.Option.{slice_get_read}
 use Rattle.std.proofs.lemmas.List.Elements.{All-more, filter-append}
 use Rattle.gl_sphere.specs.declared.place.Vec3.{Vec3}
@@ -10,7 +10,7 @@ use Rattle.gl_igc.specs.declared.fix.Fix.{Fix}
 use Rattle.gl_sphere.specs.Distance.{distance}
 use Rattle.gl_goal.specs.Free.{numbers_from}
 use Rattle.gl_goal.proofs.FreeLosses.{numbers_from-more}
-use Rattle.gl_badge.specs.Course.{IsMissed, IsReached, is_near, numbers_near}
+use Rattle.gl_badge.specs.Course.{AreNear, IsMissed, IsReached, is_near, numbers_near}
 
 -- those of the first so many fixes that are near a point
 abbrev pub near_before : List Fix → Vec3 → ℕ → List ℕ
@@ -80,6 +80,27 @@ one-reached fixes points count point list lists pushed within at list_is some is
       All-more (IsReached fixes) points count point within before.0 reached,
       is ∙ ap (λ (ls : List (List ℕ)). ls ++ list ∷ []) before.1 ∙ ap (λ (l : List ℕ). map (near fixes) (take count points) ++ l ∷ []) (list_is ∙ ap (near fixes) at) ∙ sym longer,
     )
+
+-- all of them were
+pub all-reached : (fixes : List Fix) (points list : List Vec3) (count : ℕ) (lists : List (List ℕ)) → list ≡ points → length list ≤ count → AreReachedBefore fixes points count lists
+    → AreNear fixes points lists
+all-reached fixes points list count lists same past before =
+    let long : length points ≤ count = subst (λ (ps : List Vec3). length ps ≤ count) same past in
+    let whole = take_all count points long in
+    record { reached = subst (All (IsReached fixes)) whole before.0; near = before.1 ∙ ap (map (numbers_near fixes)) whole }
+
+-- there are no more lists than points
+pub few-lists : (fixes : List Fix) (points : List Vec3) (count : ℕ) (lists : List (List ℕ)) → length points ≤ 10 → AreReachedBefore fixes points count lists → length lists ≤ 10
+few-lists fixes points count lists few before = omega (arith, ap length before.1, length-map (take count points) (numbers_near fixes), length-take count points)
+
+pub few-counted : (n len : ℕ) (lists : List (Vec ℕ Global)) → n ≡ len → len ≡ length lists → length (map (λ (list : Vec ℕ Global). list.items) lists) ≤ 10 → n ≤ 10
+few-counted n len lists is counted few = omega (arith, length-map lists (λ (list : Vec ℕ Global). list.items))
+
+pub fits-few : (n : ℕ) → n ≤ 10 → Fits w32 n
+fits-few n few = omega arith
+
+pub fits-one_more : (n : ℕ) → n ≤ 10 → Fits w32 (n + 1)
+fits-one_more n few = omega arith
 
 pub empty_list : (xs : List ℕ) → length xs ≡ 0 → xs ≡ []
 empty_list [] none = refl

@@ -10,7 +10,7 @@ use Rattle.gl_day.specs.declared.fault.NotProved.{NotProved}
 use Rattle.gl_day.specs.Checked.{AreProved, Ends, GoesOn, IsNotProved}
 use Rattle.gl_day.specs.Expected.{Proves, Expected}
 use Rattle.gl_day.proofs.Checks.{not_proved_more, proof_accepted}
-use Rattle.gl_day.proofs.Statements.{certificate_statement, AreShort}
+use Rattle.gl_day.proofs.Statements.{certificate_statement}
 use Rattle.gl_igc.specs.declared.fix.Fix.{Fix}
 use Rattle.gl_igc.specs.declared.recording.Declared.{Declared}
 use Rattle.gl_igc.specs.declared.recording.Recording.{Recording}

@@ -1,6 +1,6 @@
 -- What is proved of a flight's claims can be completed, and what is judged has a flight.
 use Rattle.std.proofs.Common.{◌≡◌, sym, subst, refl, ℕ, ◌≤◌, Bool, true, false, List, [], ◌∷◌, ◌++◌, Option, None, arith}
-use Rattle.std.specs.Prelude.{All, IsTrue, nat_le, ◌&&◌, unwrap_or}
+use Rattle.std.specs.Prelude.{All, IsTrue, nat_le, unwrap_or}
 use Rattle.std.specs.List.{AllZip}
 use Rattle.std.proofs.lemmas.Bool.{false≢true, and_parts}
 use Rattle.std.proofs.lemmas.Bool.Decides.{nat_tests}
@@ -8,7 +8,7 @@ use Rattle.std.proofs.lemmas.List.Elements.{All-cons, All-nil, All-tail}
 use Rattle.gl_airspace.specs.declared.volume.Airspace.{Airspace}
 use Rattle.gl_goal.proofs.Existence.{some_certificate}
 use Rattle.gl_goal.proofs.Optimum.{certificate_optimum}
-use Rattle.gl_goal.specs.Goal.{IsGoal, Goal}
+use Rattle.gl_goal.specs.Goal.{IsGoal}
 use Rattle.gl_igc.specs.declared.recording.Recording.{Recording}
 use Rattle.gl_judge.proofs.Times.{seconds-bound}
 use Rattle.gl_judge.specs.declared.outcome.Judged.{Judged}

@@ -4,7 +4,9 @@ pub mod Entrants
 pub mod Fines
 pub mod Flights
 pub mod Foreign
+pub mod Mapped
 pub mod Named
+pub mod Places
 pub mod Sheets
 pub mod Statements
 pub mod Texts

@@ -11,7 +11,6 @@ use Rattle.gl_box.specs.Halves.{AreHalves, IsHalf, span_at}
 use Rattle.gl_box.proofs.Held.{covers_at, length-covers}
 use Rattle.gl_box.proofs.Nodes.{covers_node, member_node}
 use Rattle.gl_box.proofs.Singles.{AreOrdered, ordered-set, ordered_at}
-use Rattle.gl_goal.specs.declared.any.AnyGoal.{AnyGoal}
 use Rattle.gl_goal.specs.Certificate.{IsClaimed}
 use Rattle.gl_goal.specs.Lemmas.Points.{length-chosen}
 use Rattle.gl_goal.proofs.Order.{length-whole, span_at-whole}

@@ -1,5 +1,5 @@
 -- Where a window lies.
-use Rattle.std.proofs.Common.{sym, subst, refl, ℕ, ◌≤◌, List, [], ◌∷◌, Some, Result, Bool, ℤ, arith}
+use Rattle.std.proofs.Common.{sym, subst, refl, ℕ, ◌≤◌, List, Some, Result, Bool, arith}
 use Rattle.std.specs.Prelude.{MatchBool}
 use Rattle.gl_airspace.specs.declared.volume.Airspace.{Airspace}
 use Rattle.gl_igc.specs.declared.error.IgcError.{IgcError}

@@ -1,13 +1,16 @@
-use Rattle.std.proofs.Common.{◌≡◌, ℕ, ◌<◌, Bool, true, false, not, ◌&&◌, ◌||◌, cond, List, [], ◌∷◌, length, get_or, Vec, Global, Option, None, Some, IsSome, refl, sym, ap, ◌∙◌}
+use Rattle.std.proofs.Common.{◌≡◌, ℕ, ◌<◌, Bool, true, false, not, ◌&&◌, ◌||◌, cond, List, [], ◌∷◌, ◌++◌, length, get_or, Vec, Global, Option, None, Some, IsSome, refl, sym, ap, ◌∙◌}
 use Rattle.std.specs.Prelude.{All, Any, option_map, slice_get}
 use Rattle.std.specs.List.{AllByRecursion, IsDistinct, list_any}
 use Rattle.std.specs.Str.{bytes_eq}
 use Rattle.std.specs.Cmp.{IsEquivalence, eq_by_cmp_equiv}
-use Rattle.std.specs.Cmp.Lexicographic.{nat_list_cmp_total}
+use Rattle.std.specs.BTreeMap.{UpdatesBy}
+use Rattle.std.specs.Cmp.Lexicographic.{nat_list_cmp_total, slice_cmp}
+use Rattle.std.specs.Ordering.{nat_cmp}
 use Rattle.std.specs.Map.{keys_of, lookup, update_all}
 use Rattle.std.specs.Option.{is_some}
 use Rattle.std.proofs.lemmas.Bool.{false≢true}
-use Rattle.std.proofs.lemmas.List.{append-nil}
+use Rattle.std.proofs.lemmas.List.{append-nil, map-append}
+use Rattle.std.proofs.lemmas.Map.{update_all_push}
 use Rattle.std.proofs.lemmas.List.Folds.{Any-from_list_any}
 use Rattle.std.proofs.lemmas.Map.Entries.{lookup_from_place}
 use Rattle.std.proofs.lemmas.Map.Keys.{IsDistinct-cons}
@@ -57,6 +60,16 @@ given_distinct files differ = rw keys_of-given_files (distinct (keys_of files) d
 pub lookup-given_files : (files : List GivenFile) (name : List ℕ) → all_differ (keys_of files) ≡ true
     → update_all same_name (λ _. None) (given_files files) name ≡ lookup (same_name name) (given_files files)
 lookup-given_files files name differ = update_all_none laws same_name (λ _ _. refl) (given_files files) name (given_distinct files differ)
+
+-- one file more that is put into the map
+pub stored_more : (made new : StoredFiles) (files : List GivenFile) (file : GivenFile)
+    → ((name : List ℕ) → stored made name ≡ update_all same_name (λ _. None) (given_files files) name)
+    → UpdatesBy (slice_cmp nat_cmp) (slice_cmp nat_cmp file.0) made new (Some (file.1.items, []))
+    → (name : List ℕ) → stored new name ≡ update_all same_name (λ _. None) (given_files (files ++ file ∷ [])) name
+stored_more made new files file so_far updates name =
+    let stands : StoredFile = (file.1.items, []) in
+    updates.0 name ∙ (update_all_push same_name (λ _. None) (stored made) (given_files files) (file.0, stands) name (so_far name)
+    ∙ ap (λ (l : List (List ℕ × StoredFile)). update_all same_name (λ _. None) l name) (sym (map-append _ files (file ∷ []))))
 
 -- what a map holds that answers as the files do
 abbrev pub Answers : List GivenFile → StoredFiles → Type 0

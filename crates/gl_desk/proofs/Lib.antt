@@ -1,3 +1,4 @@
+pub mod Outcomes
 pub mod Pieces
 pub mod Reading
 pub mod StoredLemmas

@@ -1,4 +1,5 @@
-use Rattle.std.proofs.Common.{◌≡◌, ℕ, ◌+◌, ◌≤◌, List, ◌++◌, length, take, drop, Option, None, Some, append_assoc, sym, ap, ◌∙◌, arith}
+use Rattle.std.proofs.Common.{◌≡◌, ℕ, ◌+◌, ◌-◌, ◌≤◌, List, ◌++◌, length, take, drop, Option, None, Some, append_assoc, sym, ap, ◌∙◌, arith}
+use Rattle.std.proofs.lemmas.List.{length-append, length-take}
 use Rattle.std.proofs.Math.Seq.{take-add}
 use Rattle.std.specs.Prelude.{IfSome}
 use Rattle.std.specs.Io.KnownBytes.{Appends}
@@ -25,6 +26,13 @@ pub first_part_grows : (told : Option FilesByName) (name text grown buffer : Lis
 first_part_grows None name text grown buffer at n m more longer first reads = tt
 first_part_grows (Some files) name text grown buffer at n m more longer first reads =
     of_file (files name) text grown buffer at n m more longer first reads
+
+-- so many bytes more are still few enough, and are counted
+pub fits_more : (count n limit : ℕ) → count ≤ limit → n ≤ limit - count → count + n ≤ limit
+fits_more count n limit fits few = omega arith
+
+pub counted_more : (count n : ℕ) (text buffer : List ℕ) → count ≡ length text → n ≤ length buffer → count + n ≡ length (text ++ take n buffer)
+counted_more count n text buffer counted within = simp (length-append, length-take) (omega arith)
 
 -- a first part of the piece that was written, and what was taken of the rest, are a first part again
 pub written_part_grows : (before now after : Option (List ℕ)) (piece : List ℕ) (at n : ℕ)

@@ -6,7 +6,7 @@ ghost use Rattle.gl_desk.specs.Code.Outcome.{IsUnnamed};
 
 use crate::name::Name;
 use crate::system::SystemError;
-use std::alloc::Global;
+use std::alloc::{Alloc, Global};
 use std::fs::{DirEntry, FileType};
 use std::io::ErrorKind;
 use std::rt::Files;
@@ -67,6 +67,19 @@ impl Listing {
     }
 }
 
+impl Listing {
+    /// Counts an entry, and lists its name where it is a plain file.
+    fn add_entry<Rt: Files + Drop>(
+        &mut self,
+        alloc: Global,
+        entry: Result<DirEntry<Rt>, SystemError>,
+    ) -> Result<(), SystemError>
+        ensures { OnOk result (self.new.entries ≡ self.old.entries + 1) }
+    {
+        self.add(listed_name(alloc, entry))
+    }
+}
+
 /// Whether the listing came upon an entry whose name isn't UTF-8, which it gives without a name.
 fn is_unnamed(error: &io::Error) -> bool
     ensures { IsTrue result ↔ IsUnnamed error.now }
@@ -96,6 +109,18 @@ fn name_if_plain(
     }
 }
 
+/// What is listed in place of an entry that came to an error: nothing where it has no name, and
+/// else the error is handed on.
+fn unlisted(error: SystemError) -> Result<Option<Name>, SystemError>
+    ensures passed_over { IsUnnamed error.error → result ≡ Ok None }
+    ensures handed_on { ¬ IsUnnamed error.error → result ≡ Err error }
+{
+    match error {
+        SystemError { error } if is_unnamed(&error) => Ok(None),
+        error => Err(error),
+    }
+}
+
 /// The name under which an entry is listed, if it is.
 fn listed_name<Rt: Files + Drop>(
     alloc: Global,
@@ -108,9 +133,22 @@ fn listed_name<Rt: Files + Drop>(
 {
     match entry {
         Ok(entry) => name_if_plain(alloc, kind_of(&entry), entry.file_name()),
-        Err(SystemError { error }) if is_unnamed(&error) => Ok(None),
-        Err(error) => Err(error),
+        Err(error) => unlisted(error),
     }
+}
+
+/// The names of the plain files in the current folder of a runtime that allocates.
+fn names_there<R: Files + Alloc<A = Global> + Clone + Drop>(
+    rt: &R,
+    alloc: Global,
+) -> Result<Vec<Name>, SystemError>
+    ensures { IfOk result (λ names. vec_len names ≤ 1_000_000) }
+{
+    let mut listing = Listing::new(alloc);
+    for entry in fs::read_dir(rt, ".")? {
+        listing.add_entry(alloc, entry.map_err(SystemError::from))?;
+    }
+    Ok(listing.names)
 }
 
 /// The names of the plain files in the current folder. More than [`MOST_ENTRIES`] entries of any
@@ -118,9 +156,5 @@ fn listed_name<Rt: Files + Drop>(
 pub fn plain_names<Rt: Files>(rt: &Rt, alloc: Global) -> Result<Vec<Name>, SystemError>
     ensures { IfOk result (λ names. vec_len names ≤ 1_000_000) }
 {
-    let mut listing = Listing::new(alloc);
-    for entry in fs::read_dir(&(rt, alloc), ".")? {
-        listing.add(listed_name(alloc, entry.map_err(SystemError::from)))?;
-    }
-    Ok(listing.names)
+    names_there(&(rt, alloc), alloc)
 }

@@ -1,4 +1,4 @@
-ghost use Rattle.std.specs.Prelude.{◌≡◌, ◌≢◌, ◌≤◌, ◌^◌, ◌/◌, ◌-◌, ◌++◌, ℕ, min, List, take, length, IsTrue, IfOk, IsSome, IfSome, OnOk, OnErr, Some, []};
+ghost use Rattle.std.specs.Prelude.{◌≡◌, ◌≢◌, ◌≤◌, ◌^◌, ◌/◌, ◌-◌, ◌++◌, ◌∷◌, ℕ, min, List, take, length, IsTrue, IfOk, IsSome, IfSome, OnOk, OnErr, Some, []};
 ghost use Rattle.std.specs.Ordering.{nat_cmp};
 ghost use Rattle.std.specs.Cmp.Lexicographic.{slice_cmp};
 ghost use Rattle.std.specs.BTreeMap.{is_at};
@@ -110,13 +110,20 @@ fn store(alloc: Global, files: Vec<(Name, Vec<u8>)>) -> Result<BTreeMap<Name, Me
     Ok(made)
 }
 
+/// Appends a name once more.
+fn push_name(alloc: Global, names: &mut Vec<Name>, name: &Name) -> Result<(), AllocError>
+    ensures { OnOk result (names.new.items ≡ names.old.items ++ name.now ∷ []) }
+{
+    Ok(names.push(Name::from_text(alloc, name.as_str())?)?)
+}
+
 /// The names of the files.
 fn listed(alloc: Global, files: &BTreeMap<Name, MemFile>) -> Result<Vec<Name>, AllocError>
     ensures { IfOk result (λ names. ListsNames (Some (files_in files.now)) names.items) }
 {
     let mut names = Vec::new(alloc);
     for name in files.keys() {
-        names.push(Name::from_text(alloc, name.as_str())?)?;
+        push_name(alloc, &mut names, name)?;
     }
     Ok(names)
 }

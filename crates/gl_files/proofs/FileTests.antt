@@ -1,6 +1,6 @@
 -- What holds of any tests of files.
 use Rattle.std.proofs.Common.{◌≡◌, ◌∙◌, refl, sym, ap, subst, ℕ, inl, inr, true, arith, List, [], ◌∷◌, ◌++◌, Option, None, Some, Result, Ok, Err, Vec}
-use Rattle.std.specs.Prelude.{IsSome}
+use Rattle.std.specs.Prelude.{Contains, IsSome}
 use Rattle.std.specs.declared.alloc.Global.{Global}
 use Rattle.gl_desk.specs.Desk.{FilesByName}
 use Rattle.gl_igc.specs.Reading.{Reading}
@@ -16,7 +16,7 @@ use Rattle.gl_files.specs.declared.halt.Halt.TheVariants.{Refused, Stopped}
 use Rattle.gl_files.specs.declared.refusal.Cause.{Cause}
 use Rattle.gl_files.specs.declared.refusal.Refusal.{Refusal}
 use Rattle.gl_files.specs.FileTests.{AirspaceText, AllPass, Fails, NearProofText, ProofText, SeriesListText, SheetText, TaskText, airspace_cause, list_cause, near_proof_cause, proof_cause, sheet_cause, task_cause, FileTest, FirstFails, IsNoText, IsText, Kind, Listed, Passes, Reads, RecordingText, ScheduleText, Small, Unlisted, file_of, schedule_cause, text_tests}
-use Rattle.gl_files.specs.Code.FileTests.{HasRead, HasReadFile}
+use Rattle.gl_files.specs.Code.FileTests.{AreNeeded, HasRead, HasReadFile, IsNeeded}
 use Rattle.gl_files.specs.Code.Halts.{AreBytes, RefusesFor}
 use Rattle.gl_files.proofs.Readings.{airspace_refused, task_refused}
 
@@ -116,3 +116,8 @@ pub bytes_read : {X : Type 0} (folder : Option FilesByName) (kind : Kind) (file 
 bytes_read folder kind file most bytes (Ok x) IsOf read is = (Some bytes.items, read.0, (read.1, (is.0, tt)), is.1)
 bytes_read folder kind file most bytes (Err (Refused refusal)) IsOf read is = (Some bytes.items, read.0, inr (read.1, inl is))
 bytes_read folder kind file most bytes (Err (Stopped stop)) IsOf read is = tt
+
+-- two files of which the first is there
+pub both_needed : (names : List (List ℕ)) (first second : List ℕ) (result : Result (Unit {0}) Halt) → Contains names first → IsNeeded names second result → AreNeeded names first second result
+both_needed names first second (Ok found) there needed = (there, needed)
+both_needed names first second (Err halt) there needed = inr (there, needed)

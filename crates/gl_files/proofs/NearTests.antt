@@ -10,7 +10,7 @@ use Rattle.gl_files.specs.declared.halt.Halt.{Halt}
 use Rattle.gl_files.specs.declared.halt.Halt.TheVariants.{Refused, Stopped}
 use Rattle.gl_files.specs.declared.refusal.Refusal.{Refusal}
 use Rattle.gl_files.specs.FileTests.{AllPass, FileTest, FirstFails, HasTested, IsRecordingOf, Listed, NearProofText, Passes, RecordingText, Unlisted, most_proof_bytes, text_tests}
-use Rattle.gl_files.specs.Code.FileTests.{HasReadFile, IsNeeded, IsUnused}
+use Rattle.gl_files.specs.Code.FileTests.{AreNeeded, HasReadFile, IsNeeded, IsUnused}
 use Rattle.gl_files.specs.Code.NearFiles.{AreFlightsSeen, flights_tests}
 use Rattle.gl_files.specs.NearFiles.{AreNearCheckRead, AreNearRead, IsClaimOf, IsNearSeen, NearSeen, day_of, day_read, near_check_tests, near_tests, recording_tests}
 use Rattle.gl_files.proofs.DayTests.{is_listed, not_listed, seen_some}
@@ -73,7 +73,7 @@ both_flights folder words recording second (seen, is, passes, reads) (other, are
     )
 
 -- the first recording isn't listed, whatever tests come behind
-pub first_missing : {X : Type 0} (rest : NearSeen → List FileTest) (AreRead : NearSeen → X → Type 0) (folder : Option FilesByName) (names : List (List ℕ)) (words : NearWords) (halt : Halt)
+first_missing : {X : Type 0} (rest : NearSeen → List FileTest) (AreRead : NearSeen → X → Type 0) (folder : Option FilesByName) (names : List (List ℕ)) (words : NearWords) (halt : Halt)
     → ListsNames folder names → IsNeeded names words.flight (Err halt) → HasTested (IsNearSeen words folder)
     (λ seen. Listed words.flight seen.flight ∷ Listed words.other seen.other ∷ rest seen) AreRead (Err halt)
 first_missing rest AreRead folder names words (Refused refusal) lists (none, same) =
@@ -86,7 +86,7 @@ first_missing rest AreRead folder names words (Refused refusal) lists (none, sam
 first_missing rest AreRead folder names words (Stopped stop) lists needed = tt
 
 -- the other one isn't
-pub other_missing : {X : Type 0} (rest : NearSeen → List FileTest) (AreRead : NearSeen → X → Type 0) (folder : Option FilesByName) (names : List (List ℕ)) (words : NearWords) (halt : Halt)
+other_missing : {X : Type 0} (rest : NearSeen → List FileTest) (AreRead : NearSeen → X → Type 0) (folder : Option FilesByName) (names : List (List ℕ)) (words : NearWords) (halt : Halt)
     → ListsNames folder names → HasFile folder words.flight → IsNeeded names words.other (Err halt)
     → HasTested (IsNearSeen words folder) (λ seen. Listed words.flight seen.flight ∷ Listed words.other seen.other ∷ rest seen) AreRead (Err halt)
 other_missing rest AreRead folder names words (Refused refusal) lists there (none, same) =
@@ -97,6 +97,14 @@ other_missing rest AreRead folder names words (Refused refusal) lists there (non
       inr (refl, inl (ap (λ (r : Refusal). r.file) same, (refl, ap (λ (r : Refusal). r.cause) same))),
     )
 other_missing rest AreRead folder names words (Stopped stop) lists there needed = tt
+
+-- one of the two isn't
+pub flight_missing : {X : Type 0} (rest : NearSeen → List FileTest) (AreRead : NearSeen → X → Type 0) (folder : Option FilesByName) (names : List (List ℕ)) (words : NearWords) (halt : Halt)
+    → ListsNames folder names → AreNeeded names words.flight words.other (Err halt) → HasTested (IsNearSeen words folder)
+    (λ seen. Listed words.flight seen.flight ∷ Listed words.other seen.other ∷ rest seen) AreRead (Err halt)
+flight_missing rest AreRead folder names words halt lists (inl flight) = first_missing rest AreRead folder names words halt lists flight
+flight_missing rest AreRead folder names words halt lists (inr (flight, other)) =
+    other_missing rest AreRead folder names words halt lists (HasFile-from_names folder names words.flight lists flight) other
 
 -- the proof of `near` is there already
 pub proof_listed : (folder : Option FilesByName) (names : List (List ℕ)) (words : NearWords) (halt : Halt) → ListsNames folder names → HasFile folder words.flight → HasFile folder words.other

@@ -9,14 +9,15 @@ use Rattle.gl_words.specs.Words.{ReplayWords}
 use Rattle.gl_files.specs.declared.halt.Halt.{Halt}
 use Rattle.gl_files.specs.declared.halt.Halt.TheVariants.{Refused, Stopped}
 use Rattle.gl_files.specs.declared.refusal.Refusal.{Refusal}
-use Rattle.gl_files.specs.Code.FileTests.{HasReadFile, IsNeeded}
+use Rattle.gl_files.specs.Code.FileTests.{AreNeeded, HasReadFile, IsNeeded}
 use Rattle.gl_files.specs.FileTests.{HasTested, IsRecordingOf, RecordingText, ScheduleText, text_tests}
 use Rattle.gl_files.specs.ReplayFiles.{AreReplayRead, AreStepsOf, IsReplaySeen, replay_tests}
 use Rattle.gl_files.proofs.DayTests.{is_listed, not_listed, seen_some}
 use Rattle.gl_files.proofs.FileTests.{all_pass, fails_behind, fails_in_front, some_text_fails, some_text_passes}
+use Rattle.gl_desk.proofs.DeskLemmas.{HasFile-from_names}
 
 -- the recording isn't listed: the first test
-pub flight_missing : (folder : Option FilesByName) (names : List (List ℕ)) (words : ReplayWords) (halt : Halt)
+flight_missing : (folder : Option FilesByName) (names : List (List ℕ)) (words : ReplayWords) (halt : Halt)
     → ListsNames folder names → IsNeeded names words.flight (Err halt) → HasTested (IsReplaySeen words folder) (replay_tests words) AreReplayRead (Err halt)
 flight_missing folder names words (Refused refusal) lists (none, same) =
     let schedule = seen_some folder words.schedule in (
@@ -27,7 +28,7 @@ flight_missing folder names words (Refused refusal) lists (none, same) =
 flight_missing folder names words (Stopped stop) lists needed = tt
 
 -- the recording is listed, and the schedule isn't
-pub schedule_missing : (folder : Option FilesByName) (names : List (List ℕ)) (words : ReplayWords) (halt : Halt)
+schedule_missing : (folder : Option FilesByName) (names : List (List ℕ)) (words : ReplayWords) (halt : Halt)
     → ListsNames folder names → HasFile folder words.flight → IsNeeded names words.schedule (Err halt) → HasTested (IsReplaySeen words folder) (replay_tests words) AreReplayRead (Err halt)
 schedule_missing folder names words (Refused refusal) lists flight (none, same) =
     let bytes = is_listed folder words.flight flight in (
@@ -36,6 +37,12 @@ schedule_missing folder names words (Refused refusal) lists flight (none, same) 
       inr (refl, inl (ap (λ (r : Refusal). r.file) same, (refl, ap (λ (r : Refusal). r.cause) same))),
     )
 schedule_missing folder names words (Stopped stop) lists flight needed = tt
+
+-- one of them isn't listed
+pub file_missing : (folder : Option FilesByName) (names : List (List ℕ)) (words : ReplayWords) (halt : Halt) → ListsNames folder names
+    → AreNeeded names words.flight words.schedule (Err halt) → HasTested (IsReplaySeen words folder) (replay_tests words) AreReplayRead (Err halt)
+file_missing folder names words halt lists (inl flight) = flight_missing folder names words halt lists flight
+file_missing folder names words halt lists (inr (flight, schedule)) = schedule_missing folder names words halt lists (HasFile-from_names folder names words.flight lists flight) schedule
 
 -- both are listed, and the recording was refused
 pub flight_refused : (folder : Option FilesByName) (words : ReplayWords) (halt : Halt)

@@ -1,16 +1,15 @@
 -- The tests of the files of `series`, one after the other.
-use Rattle.std.proofs.Common.{◌≡◌, ◌∙◌, refl, sym, ap, subst, ℕ, ◌+◌, ◌<◌, inl, inr, List, [], ◌∷◌, ◌++◌, get_or, length, take, drop, Option, None, Some, Result, Ok, Err, Vec, arith}
+use Rattle.std.proofs.Common.{◌≡◌, ◌∙◌, refl, sym, ap, subst, ℕ, ◌+◌, ◌<◌, ◌≤◌, inl, inr, List, [], ◌∷◌, ◌++◌, get_or, length, take, drop, Option, None, Some, Result, Ok, Err, Vec, arith}
 use Rattle.std.specs.Prelude.{IsSomeAnd}
 use Rattle.std.specs.List.{AllByRecursion, AllZip, flat_map}
 use Rattle.std.specs.declared.alloc.Global.{Global}
-use Rattle.std.proofs.lemmas.List.{take-append-drop, take_more}
+use Rattle.std.proofs.lemmas.List.{take-append-drop, take_all, take_more}
 use Rattle.gl_desk.specs.Desk.{FilesByName, IsSeenIn, ListsNames}
 use Rattle.gl_desk.specs.Limits.{most_bytes}
 use Rattle.gl_series.proofs.Lines.{list_told}
-use Rattle.gl_series.specs.SeriesList.{IsSeries}
+use Rattle.gl_series.specs.SeriesList.{IsList, IsSeries}
 use Rattle.gl_series.specs.SheetText.{IsSheetOf}
 use Rattle.gl_series.specs.declared.day.DaySheet.{DaySheet}
-use Rattle.gl_series.specs.declared.error.SheetError.TheVariants as sheet
 use Rattle.gl_series.specs.declared.series.Series.{Series}
 use Rattle.gl_series.specs.Totals.{AreDays, IsDay}
 use Rattle.std.proofs.lemmas.List.Elements.{All-from_recursion}
@@ -20,12 +19,32 @@ use Rattle.gl_files.specs.declared.halt.Halt.{Halt}
 use Rattle.gl_files.specs.declared.halt.Halt.TheVariants.{Refused, Stopped}
 use Rattle.gl_files.specs.declared.refusal.Cause.{Cause}
 use Rattle.gl_files.specs.declared.refusal.Refusal.{Refusal}
-use Rattle.gl_files.specs.FileTests.{AllPass, FileTest, FirstFails, HasTested, SeriesListText, SheetText, list_cause}
+use Rattle.gl_files.specs.FileTests.{AllPass, FileTest, FirstFails, HasTested, SeriesListText, SheetText, list_cause, text_tests}
 use Rattle.gl_files.specs.Code.FileTests.{HasReadFile, IsNeeded}
 use Rattle.gl_files.specs.SeriesFiles.{AreSeriesRead, DaySeen, IsDaySeen, IsListRead, IsSeriesSeen, IsSheetRead, day_tests, series_tests, tests_of}
 use Rattle.gl_files.proofs.DayTests.{not_listed, seen_some}
 use Rattle.gl_files.proofs.FileTests.{all_pass, fails_behind, fails_in_front, some_text_fails, some_text_passes}
 use Rattle.gl_text.proofs.Lists.{AllZip-append}
+
+-- the list isn't among the names
+pub list_missing : (folder : Option FilesByName) (names : List (List ℕ)) (file : List ℕ) (halt : Halt) → ListsNames folder names → IsNeeded names file (Err halt)
+    → HasTested {X = Series} (λ seen. IsSeenIn folder file seen) (tests_of SeriesListText file) IsListRead (Err halt)
+list_missing folder names file (Refused refusal) lists (none, same) =
+    (None, not_listed folder names file lists none, inl (ap (λ (r : Refusal). r.file) same, (refl, ap (λ (r : Refusal). r.cause) same)))
+list_missing folder names file (Stopped stop) lists needed = tt
+
+-- a list that was read has at most so many bytes
+list_read : (file : List ℕ) (seen : Option (List ℕ)) (series : Series) → AllPass (text_tests SeriesListText most_bytes file seen) → IsSomeAnd seen (λ text. IsList text series)
+    → IsListRead seen series
+list_read file None series passes reads = absurd reads
+list_read file (Some text) series passes reads = (passes.0, reads)
+
+-- it is, and was read or refused
+pub list_tested : (folder : Option FilesByName) (file : List ℕ) (result : Result Series Halt) → HasReadFile SeriesListText most_bytes folder file IsList result
+    → HasTested (λ seen. IsSeenIn folder file seen) (tests_of SeriesListText file) IsListRead result
+list_tested folder file (Ok series) (seen, is, passes, reads) = (seen, is, (some_text_passes SeriesListText most_bytes file seen passes, passes), list_read file seen series passes reads)
+list_tested folder file (Err (Refused refusal)) (seen, is, fails) = (seen, is, inr (some_text_fails SeriesListText most_bytes file seen refusal fails, fails))
+list_tested folder file (Err (Stopped stop)) read = tt
 
 -- the sheet of a day isn't among the names
 pub day_missing : (folder : Option FilesByName) (names : List (List ℕ)) (file : List ℕ) (halt : Halt) → ListsNames folder names → IsNeeded names file (Err halt)
@@ -73,6 +92,11 @@ days_more folder names i name sheets sheet below item (days, are, passes, reads)
   subst AllPass (sym (tests_append days (day ∷ []))) (all_pass (flat_map day_tests days) (day_tests day ++ []) passes (all_pass (day_tests day) [] pass tt)),
   AllZip-append IsSheetRead days (day ∷ []) sheets (sheet ∷ []) reads (read, tt),
 )
+
+-- all days passed
+pub days_passed : (folder : Option FilesByName) (names : List (List ℕ)) (i : ℕ) (sheets : Vec DaySheet Global) → length names ≤ i → AreDaysTested folder (take i names) sheets.items
+    → HasTested (AllZip (IsDaySeen folder) names) (flat_map day_tests) (λ days read. AllZip IsSheetRead days read.items) (Ok sheets)
+days_passed folder names i sheets past tested = subst (λ (l : List (List ℕ)). AreDaysTested folder l sheets.items) (take_all i names past) tested
 
 -- a day was refused, and those before it passed
 pub day_refused : (folder : Option FilesByName) (names : List (List ℕ)) (i : ℕ) (name : List ℕ) (sheets : List DaySheet) (halt : Halt) → i < length names → name ≡ get_or names i name

@@ -2,7 +2,7 @@ ghost use Rattle.std.specs.Prelude.{◌≡◌};
 ghost use Rattle.gl_desk.specs.Answers.{OnlyReads};
 ghost use Rattle.gl_desk.specs.Desk.{HasFile};
 ghost use Rattle.gl_desk.specs.Limits.{most_bytes};
-ghost use Rattle.gl_files.specs.Code.FileTests.{HasReadFile, IsNeeded, IsUnused};
+ghost use Rattle.gl_files.specs.Code.FileTests.{AreNeeded, HasReadFile, IsNeeded, IsUnused};
 ghost use Rattle.gl_files.specs.FileTests.{IsProofOfText, IsRecordingOf, ProofText, RecordingText, proof_cause, recording_cause};
 ghost use Rattle.gl_files.specs.Code.Halts.{AreBytes, IsNoFault};
 ghost use Rattle.gl_files.specs.Halts.{halt_stop};
@@ -27,6 +27,15 @@ pub fn need(names: &[Name], file: &Name) -> Result<(), Halt>
         return Ok(());
     }
     Err(refusing(file, Cause::NotListed))
+}
+
+/// Tests that two files are among the names of the folder, one after the other.
+pub fn need_both(names: &[Name], first: &Name, second: &Name) -> Result<(), Halt>
+    ensures needed { AreNeeded names.now first.now second.now result }
+    ensures no_fault { IsNoFault result }
+{
+    need(names, first)?;
+    need(names, second)
 }
 
 /// Tests that a file, which is to be made, isn't among the names of the folder.

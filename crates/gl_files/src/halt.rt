@@ -7,7 +7,7 @@ use gl_desk::{DeskError, Name, ReadError};
 use std::alloc::{AllocError, AllocFailed};
 
 /// What ends a command before its answer.
-#[derive(Debug, Drop)]
+#[derive(Drop)]
 pub enum Halt {
     /// A file is refused.
     Refused(Refusal),

@@ -1,6 +1,7 @@
-ghost use Rattle.std.specs.Prelude.{◌≡◌, ◌++◌, IfOk, OnOk};
+ghost use Rattle.std.specs.Prelude.{◌≡◌, ◌++◌, IfOk, OnOk, codes};
+ghost use Rattle.std.specs.Fmt.{decimal};
 ghost use Rattle.gl_files.specs.Refusals.{at_key, line_with, parts_of, place_text, refusal_line, file_refusal};
-ghost use Rattle.gl_files.specs.Code.Lines.{parts_seen, place_seen};
+ghost use Rattle.gl_files.specs.Code.Lines.{parts_text, place_seen};
 
 use crate::refusal::Cause;
 use gl_desk::Name;
@@ -9,8 +10,8 @@ use gl_text::push_u64;
 use std::alloc::{AllocError, Global};
 
 /// Where in a file something is refused.
-#[derive(Clone, Copy, Debug, PartialEq, Eq)]
-pub enum Place {
+#[derive(Clone, Copy)]
+enum Place {
     /// Nowhere in particular.
     Nowhere,
     /// At a line, counted from 1.
@@ -21,70 +22,78 @@ pub enum Place {
     AtKey(Key),
 }
 
-/// What a refusal's line says beside the name of the file.
-#[derive(Clone, Copy, Debug)]
-pub struct Parts {
-    kind: &'static str,
-    number: u32,
-    place: Place,
-}
-
-/// These parts.
-fn parts_at(kind: &'static str, number: u32, place: Place) -> Parts
-    ensures kind { result.kind.now ≡ kind.entry.now }
-    ensures number { result.number ≡ number }
-    ensures place { result.place ≡ place }
-{
-    Parts {
-        kind,
-        number,
-        place,
-    }
-}
-
-/// What a refusal says.
-fn parts_of(cause: Cause) -> Parts
-    ensures { parts_seen result ≡ parts_of cause }
+/// The kind of what is refused.
+fn kind_of(cause: Cause) -> &'static str
+    ensures { result.now ≡ (parts_of cause).kind }
 {
     match cause {
-        Cause::NotListed => parts_at("FILE", 1, Place::Nowhere),
-        Cause::Listed => parts_at("FILE", 2, Place::Nowhere),
-        Cause::TooLarge => parts_at("FILE", 3, Place::Nowhere),
-        Cause::NotIgc => parts_at("IGC", 1, Place::Nowhere),
-        Cause::NoDate => parts_at("IGC", 2, Place::Nowhere),
-        Cause::WrongDay => parts_at("IGC", 3, Place::Nowhere),
-        Cause::TooManyFixes(line) => parts_at("IGC", 4, Place::AtLine(line)),
-        Cause::NoFix => parts_at("IGC", 5, Place::Nowhere),
-        Cause::NotToml => parts_at("TASK", 1, Place::Nowhere),
-        Cause::NoKey(key) => parts_at("TASK", 2, Place::AtKey(key)),
-        Cause::WrongValue(key) => parts_at("TASK", 3, Place::AtKey(key)),
-        Cause::NumberTwice(key) => parts_at("TASK", 4, Place::AtKey(key)),
-        Cause::TooManyItems(key) => parts_at("TASK", 5, Place::AtKey(key)),
-        Cause::WrongAirspace(line) => parts_at("AIR", 1, Place::AtLine(line)),
-        Cause::TooMuchAirspace(line) => parts_at("AIR", 2, Place::AtLine(line)),
-        Cause::WrongStep(line) => parts_at("PLAN", 1, Place::AtLine(line)),
-        Cause::TooManySteps => parts_at("PLAN", 2, Place::Nowhere),
-        Cause::NoHeading => parts_at("PROOF", 1, Place::Nowhere),
-        Cause::WrongProof(line) => parts_at("PROOF", 2, Place::AtLine(line)),
-        Cause::ProofCut => parts_at("PROOF", 3, Place::Nowhere),
-        Cause::NoNearHeading => parts_at("NEARPROOF", 1, Place::Nowhere),
-        Cause::WrongNearProof(line) => parts_at("NEARPROOF", 2, Place::AtLine(line)),
-        Cause::NearProofCut => parts_at("NEARPROOF", 3, Place::Nowhere),
-        Cause::NoListHeading => parts_at("SERIES", 1, Place::Nowhere),
-        Cause::WrongListLine(line) => parts_at("SERIES", 2, Place::AtLine(line)),
-        Cause::NoSheetHeading => parts_at("SHEET", 1, Place::Nowhere),
-        Cause::WrongRecord(number) => parts_at("SHEET", 2, Place::AtRecord(number)),
+        Cause::NotListed | Cause::Listed | Cause::TooLarge => "FILE",
+        Cause::NotIgc | Cause::NoDate | Cause::WrongDay => "IGC",
+        Cause::TooManyFixes(_) | Cause::NoFix => "IGC",
+        Cause::NotToml | Cause::NoKey(_) | Cause::WrongValue(_) => "TASK",
+        Cause::NumberTwice(_) | Cause::TooManyItems(_) => "TASK",
+        Cause::WrongAirspace(_) | Cause::TooMuchAirspace(_) => "AIR",
+        Cause::WrongStep(_) | Cause::TooManySteps => "PLAN",
+        Cause::NoHeading | Cause::WrongProof(_) | Cause::ProofCut => "PROOF",
+        Cause::NoNearHeading | Cause::WrongNearProof(_) | Cause::NearProofCut => "NEARPROOF",
+        Cause::NoListHeading | Cause::WrongListLine(_) => "SERIES",
+        Cause::NoSheetHeading | Cause::WrongRecord(_) => "SHEET",
     }
+}
+
+/// The number of a refusal among those of its kind.
+fn number_of(cause: Cause) -> u64
+    ensures { result ≡ (parts_of cause).number }
+{
+    match cause {
+        Cause::NotListed | Cause::NotIgc | Cause::NotToml => 1,
+        Cause::WrongAirspace(_) | Cause::WrongStep(_) | Cause::NoHeading => 1,
+        Cause::NoNearHeading | Cause::NoListHeading | Cause::NoSheetHeading => 1,
+        Cause::Listed | Cause::NoDate | Cause::NoKey(_) | Cause::TooMuchAirspace(_) => 2,
+        Cause::TooManySteps | Cause::WrongProof(_) | Cause::WrongNearProof(_) => 2,
+        Cause::WrongListLine(_) | Cause::WrongRecord(_) => 2,
+        Cause::TooLarge | Cause::WrongDay | Cause::WrongValue(_) => 3,
+        Cause::ProofCut | Cause::NearProofCut => 3,
+        Cause::TooManyFixes(_) | Cause::NumberTwice(_) => 4,
+        Cause::NoFix | Cause::TooManyItems(_) => 5,
+    }
+}
+
+/// The place of what is refused.
+fn place_of(cause: Cause) -> Place
+    ensures { place_seen result ≡ (parts_of cause).place }
+{
+    match cause {
+        Cause::TooManyFixes(line) | Cause::WrongAirspace(line) => Place::AtLine(line),
+        Cause::TooMuchAirspace(line) | Cause::WrongStep(line) => Place::AtLine(line),
+        Cause::WrongProof(line) | Cause::WrongNearProof(line) => Place::AtLine(line),
+        Cause::WrongListLine(line) => Place::AtLine(line),
+        Cause::WrongRecord(number) => Place::AtRecord(number),
+        Cause::NoKey(key) | Cause::WrongValue(key) => Place::AtKey(key),
+        Cause::NumberTwice(key) | Cause::TooManyItems(key) => Place::AtKey(key),
+        Cause::NotListed | Cause::Listed | Cause::TooLarge => Place::Nowhere,
+        Cause::NotIgc | Cause::NoDate | Cause::WrongDay | Cause::NoFix => Place::Nowhere,
+        Cause::NotToml | Cause::TooManySteps => Place::Nowhere,
+        Cause::NoHeading | Cause::ProofCut => Place::Nowhere,
+        Cause::NoNearHeading | Cause::NearProofCut => Place::Nowhere,
+        Cause::NoListHeading | Cause::NoSheetHeading => Place::Nowhere,
+    }
+}
+
+/// Appends a number and a point.
+fn push_with_point(line: &mut Vec<u8>, number: u32) -> Result<(), AllocError>
+    ensures { OnOk result (line.new.items ≡ line.old.items ++ decimal number ++ codes ".") }
+{
+    push_u64(line, u64::from(number))?;
+    Ok(line.push(b'.')?)
 }
 
 /// Appends a key as a line writes it: its row, item and part, with points between them.
 fn push_key(line: &mut Vec<u8>, key: Key) -> Result<(), AllocError>
     ensures { OnOk result (line.new.items ≡ line.old.items ++ place_text (at_key key)) }
 {
-    push_u64(line, u64::from(key.row))?;
-    line.push(b'.')?;
-    push_u64(line, u64::from(key.item))?;
-    line.push(b'.')?;
+    push_with_point(line, key.row)?;
+    push_with_point(line, key.item)?;
     push_u64(line, u64::from(key.part))
 }
 
@@ -94,10 +103,21 @@ fn push_place(line: &mut Vec<u8>, place: Place) -> Result<(), AllocError>
 {
     match place {
         Place::Nowhere => Ok(line.push(b'-')?),
-        Place::AtLine(number) => push_u64(line, u64::from(number)),
-        Place::AtRecord(number) => push_u64(line, u64::from(number)),
+        Place::AtLine(number) | Place::AtRecord(number) => push_u64(line, u64::from(number)),
         Place::AtKey(key) => push_key(line, key),
     }
+}
+
+/// Appends what a line says beside the name of the file, each part with a space behind it.
+fn push_parts(line: &mut Vec<u8>, cause: Cause) -> Result<(), AllocError>
+    ensures { OnOk result (line.new.items ≡ line.old.items ++ parts_text (parts_of cause)) }
+{
+    line.extend_from_slice(kind_of(cause).as_bytes())?;
+    line.push(b' ')?;
+    push_u64(line, number_of(cause))?;
+    line.push(b' ')?;
+    push_place(line, place_of(cause))?;
+    Ok(line.push(b' ')?)
 }
 
 /// The line that a refused run says.
@@ -105,14 +125,8 @@ fn push_place(line: &mut Vec<u8>, place: Place) -> Result<(), AllocError>
 pub fn refusal_line(alloc: Global, file: &Name, cause: Cause) -> Result<Vec<u8>, AllocError>
     ensures { IfOk result (λ line. line.items ≡ refusal_line (file_refusal file.now cause)) }
 {
-    let parts = parts_of(cause);
     let mut line = Vec::from_slice(alloc, b"REFUSED ")?;
-    line.extend_from_slice(parts.kind.as_bytes())?;
-    line.extend_from_slice(b" ")?;
-    push_u64(&mut line, u64::from(parts.number))?;
-    line.extend_from_slice(b" ")?;
-    push_place(&mut line, parts.place)?;
-    line.extend_from_slice(b" ")?;
+    push_parts(&mut line, cause)?;
     line.extend_from_slice(file.as_str().as_bytes())?;
     line.push(b'\n')?;
     Ok(line)

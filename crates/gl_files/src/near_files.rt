@@ -10,7 +10,9 @@ ghost use Rattle.gl_files.specs.Halts.{halt_stop};
 ghost use Rattle.gl_files.specs.Code.NearFiles.{AreFlightsSeen, flights_tests};
 ghost use Rattle.gl_files.specs.NearFiles.{AreNearCheckRead, AreNearRead, IsClaimOf, IsNearSeen, near_check_tests, near_tests};
 
-use crate::file_tests::{MOST_PROOF_BYTES, need, need_unlisted, read_bytes, read_recording};
+use crate::file_tests::{
+    MOST_PROOF_BYTES, need, need_both, need_unlisted, read_bytes, read_recording,
+};
 use crate::halt::{Halt, refusing_for};
 use crate::refusal::Cause;
 use gl_desk::{Desk, Name};
@@ -101,10 +103,28 @@ pub fn test_near_files<D: Desk>(
         (near_tests (near_seen words.entry)) AreNearRead result }
     ensures reads { OnlyReads (halt_stop result) (D.told desk.old) (D.told desk.new) }
 {
-    need(names, words.flight)?;
-    need(names, words.other)?;
+    need_both(names, words.flight, words.other)?;
     need_unlisted(names, words.proof)?;
     read_recordings(alloc, desk, words)
+}
+
+/// The recordings and the claim that `nearcheck` needs, where the folder lists their files and
+/// these pass its further tests.
+fn read_near_check_files<D: Desk>(
+    alloc: Global,
+    desk: &mut D,
+    words: NearWords<'_>,
+) -> Result<((Recording, Recording), NearClaim), Halt>
+    requires flight { HasFile (D.told desk.old).folder words.flight.now }
+    requires other { HasFile (D.told desk.old).folder words.other.now }
+    requires proof { HasFile (D.told desk.old).folder words.proof.now }
+    ensures tested { HasTested (IsNearSeen (near_seen words.entry) (D.told desk.old).folder)
+        (near_check_tests (near_seen words.entry)) AreNearCheckRead result }
+    ensures reads { OnlyReads (halt_stop result) (D.told desk.old) (D.told desk.new) }
+{
+    let flights = read_recordings(alloc, desk, words)?;
+    let claim = read_claim(alloc, desk, words.proof)?;
+    Ok((flights, claim))
 }
 
 /// The recordings and the claim that `nearcheck` needs, where the files pass its tests.
@@ -123,10 +143,7 @@ pub fn test_near_check_files<D: Desk>(
         (near_check_tests (near_seen words.entry)) AreNearCheckRead result }
     ensures reads { OnlyReads (halt_stop result) (D.told desk.old) (D.told desk.new) }
 {
-    need(names, words.flight)?;
-    need(names, words.other)?;
+    need_both(names, words.flight, words.other)?;
     need(names, words.proof)?;
-    let flights = read_recordings(alloc, desk, words)?;
-    let claim = read_claim(alloc, desk, words.proof)?;
-    Ok((flights, claim))
+    read_near_check_files(alloc, desk, words)
 }

@@ -2,7 +2,7 @@ use gl_desk::Name;
 use gl_task_file::Key;
 
 /// Why a file is refused.
-#[derive(Clone, Copy, Debug)]
+#[derive(Clone, Copy)]
 pub enum Cause {
     /// The folder doesn't list the file.
     NotListed,
@@ -62,7 +62,7 @@ pub enum Cause {
 }
 
 /// The first test of a file that failed: the name of the file, and why.
-#[derive(Debug, Drop)]
+#[derive(Drop)]
 pub struct Refusal {
     pub file: Name,
     pub cause: Cause,

@@ -9,7 +9,7 @@ ghost use Rattle.gl_files.specs.Code.Halts.{IsNoFault};
 ghost use Rattle.gl_files.specs.Halts.{halt_stop};
 ghost use Rattle.gl_files.specs.ReplayFiles.{AreReplayRead, AreStepsOf, IsReplaySeen, replay_tests};
 
-use crate::file_tests::{need, read_bytes, read_recording};
+use crate::file_tests::{need_both, read_bytes, read_recording};
 use crate::halt::{Halt, refusing_for};
 use crate::refusal::Cause;
 use gl_desk::{Desk, MOST_BYTES, Name};
@@ -53,6 +53,25 @@ fn read_schedule<D: Desk>(alloc: Global, desk: &mut D, file: &Name) -> Result<Ve
     steps_in(alloc, file, &bytes)
 }
 
+/// The recording and the steps that `replay` needs, where the folder lists their files and these
+/// pass its further tests.
+fn read_replay_files<D: Desk>(
+    alloc: Global,
+    desk: &mut D,
+    words: ReplayWords<'_>,
+) -> Result<(Recording, Vec<Step>), Halt>
+    requires flight { HasFile (D.told desk.old).folder words.flight.now }
+    requires schedule { HasFile (D.told desk.old).folder words.schedule.now }
+    ensures tested { HasTested (IsReplaySeen (replay_seen words.entry) (D.told desk.old).folder)
+        (replay_tests (replay_seen words.entry)) AreReplayRead result }
+    ensures few { IfOk result (λ read. length read.1.items ≤ 1_000_000) }
+    ensures reads { OnlyReads (halt_stop result) (D.told desk.old) (D.told desk.new) }
+{
+    let recording = read_recording(alloc, desk, words.flight, None)?;
+    let steps = read_schedule(alloc, desk, words.schedule)?;
+    Ok((recording, steps))
+}
+
 /// The recording and the steps that `replay` needs, where their files pass its tests.
 ///
 /// The tests are made in this order: FILE and SCHEDULE are of the folder's names; FILE has at most
@@ -70,9 +89,6 @@ pub fn test_replay_files<D: Desk>(
     ensures few { IfOk result (λ read. length read.1.items ≤ 1_000_000) }
     ensures reads { OnlyReads (halt_stop result) (D.told desk.old) (D.told desk.new) }
 {
-    need(names, words.flight)?;
-    need(names, words.schedule)?;
-    let recording = read_recording(alloc, desk, words.flight, None)?;
-    let steps = read_schedule(alloc, desk, words.schedule)?;
-    Ok((recording, steps))
+    need_both(names, words.flight, words.schedule)?;
+    read_replay_files(alloc, desk, words)
 }

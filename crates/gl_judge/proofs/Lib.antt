@@ -9,6 +9,7 @@ pub mod Farthest
 pub mod Finishing
 pub mod Fronts
 pub mod Lines
+pub mod Listings
 pub mod Numbers
 pub mod OneList
 pub mod OneOutcome

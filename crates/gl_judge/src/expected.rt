@@ -1,6 +1,6 @@
-ghost use Rattle.std.specs.Prelude.{◌≡◌, ◌-◌, ◌≤◌, ◌<◌, [], ◌∷◌, ◌++◌, length, IfOk, MatchOption};
-ghost use Rattle.std.specs.Option.{option_to_list};
+ghost use Rattle.std.specs.Prelude.{◌≡◌, ◌-◌, ◌≤◌, ◌<◌, [], ◌∷◌, length, IfOk, MatchOption, OnOk};
 ghost use Rattle.gl_judge.specs.Claimed.{FlightClaim, rules_of_claims};
+ghost use Rattle.gl_judge.specs.Code.Claims.{AreAppended, AreClaims};
 ghost use Rattle.gl_judge.specs.Claims.{AreChoices, AreExpected, HaveLegal, claim_if, free_claims, triangle_claims};
 ghost use Rattle.gl_judge.specs.Outcome.{IsJudged, IsOutcome, OnFinished};
 
@@ -23,30 +23,30 @@ pub struct JudgedFlight {
     pub claims: Vec<(ClaimKind, AnyGoal)>,
 }
 
-/// The claim for the distance of a flight, where the rules leave a choice. The only error is want
-/// of memory.
-fn chosen_claim(
+/// Appends the claim for the distance of a flight, where the rules leave a choice. The only error
+/// is want of memory.
+fn push_chosen(
+    claims: &mut Vec<(ClaimKind, AnyGoal)>,
     alloc: Global,
     task: &Task,
     rec: &Recording,
     judged: Stretch,
     outcome: Judged,
-) -> Result<Option<(ClaimKind, AnyGoal)>, AllocError>
+) -> Result<(), AllocError>
     requires to_in_list { judged.to ≤ length rec.now.fixes }
     requires outcome { IsOutcome task.now rec.now judged outcome }
-    ensures expected { IfOk result (λ claim. AreChoices task.now.kind task.now rec.now.fixes
-        judged outcome (rules_of_claims (option_to_list claim))) }
-    ensures legal { IfOk result (λ claim. HaveLegal (rules_of_claims (option_to_list claim))) }
+    ensures { OnOk result (AreAppended claims.old.items claims.new.items
+        (AreChoices task.now.kind task.now rec.now.fixes judged outcome)) }
 {
     match (outcome, task.kind) {
-        (Judged::Finished { .. }, Kind::Racing) | (Judged::NoStart, _) => Ok(None),
+        (Judged::Finished { .. }, Kind::Racing) | (Judged::NoStart, _) => Ok(()),
         (Judged::Finished { window, .. }, Kind::Area { .. }) => {
             let goal = area_choice(alloc, task, rec, window)?;
-            Ok(Some((ClaimKind::Area, AnyGoal::Area(goal))))
+            Ok(claims.push((ClaimKind::Area, AnyGoal::Area(goal)))?)
         }
         (Judged::Outlanded { window, zones }, _) => {
             let goal = out_choice(alloc, task, rec, judged, window, zones as usize)?;
-            Ok(Some((ClaimKind::Out, AnyGoal::Out(goal))))
+            Ok(claims.push((ClaimKind::Out, AnyGoal::Out(goal)))?)
         }
     }
 }
@@ -67,66 +67,65 @@ fn listed_range(asked: bool, judged: Stretch) -> Option<(u32, u32)>
     Some((judged.from as u32, judged.to as u32 - 1))
 }
 
-/// The claim of the list of free distances, where it is asked for and a fix is judged. The only
-/// error is want of memory.
-fn free_claim(
+/// Appends the claim of the list of free distances, where it is asked for and a fix is judged. The
+/// only error is want of memory.
+fn push_free(
+    claims: &mut Vec<(ClaimKind, AnyGoal)>,
     alloc: Global,
     task: &Task,
     rec: &Recording,
     judged: Stretch,
-) -> Result<Option<(ClaimKind, AnyGoal)>, AllocError>
+) -> Result<(), AllocError>
     requires to_in_list { judged.to ≤ length rec.now.fixes }
-    ensures expected { IfOk result (λ claim. rules_of_claims (option_to_list claim)
-        ≡ free_claims task.now rec.now.fixes judged) }
-    ensures legal { IfOk result (λ claim. HaveLegal (rules_of_claims (option_to_list claim))) }
+    ensures { OnOk result (AreAppended claims.old.items claims.new.items
+        (λ claims. claims ≡ free_claims task.now rec.now.fixes judged)) }
 {
     let Some((first, last)) = listed_range(task.free, judged) else {
-        return Ok(None);
+        return Ok(());
     };
     let goal = FreeGoal::new(alloc, rec.fixes.as_slice(), first, last, task.rules.loss)?;
-    Ok(Some((ClaimKind::Free, AnyGoal::Free(goal))))
+    Ok(claims.push((ClaimKind::Free, AnyGoal::Free(goal)))?)
 }
 
-/// The claim of the list of triangles, where it is asked for and a fix is judged. The only error is
-/// want of memory.
-fn triangle_claim(
+/// Appends the claim of the list of triangles, where it is asked for and a fix is judged. The only
+/// error is want of memory.
+fn push_triangle(
+    claims: &mut Vec<(ClaimKind, AnyGoal)>,
     alloc: Global,
     task: &Task,
     rec: &Recording,
     judged: Stretch,
-) -> Result<Option<(ClaimKind, AnyGoal)>, AllocError>
+) -> Result<(), AllocError>
     requires to_in_list { judged.to ≤ length rec.now.fixes }
-    ensures expected { IfOk result (λ claim. rules_of_claims (option_to_list claim)
-        ≡ triangle_claims task.now rec.now.fixes judged) }
-    ensures legal { IfOk result (λ claim. HaveLegal (rules_of_claims (option_to_list claim))) }
+    ensures { OnOk result (AreAppended claims.old.items claims.new.items
+        (λ claims. claims ≡ triangle_claims task.now rec.now.fixes judged)) }
 {
     let Some((first, last)) = listed_range(task.triangle, judged) else {
-        return Ok(None);
+        return Ok(());
     };
     let goal = TriangleGoal::new(alloc, rec.fixes.as_slice(), first, last, task.rules.closing)?;
-    Ok(Some((ClaimKind::Triangle, AnyGoal::Triangle(goal))))
+    Ok(claims.push((ClaimKind::Triangle, AnyGoal::Triangle(goal)))?)
 }
 
-/// The claims that there are, the one for the distance first. The only error is want of memory.
-fn listed(
+/// The claims that are expected of a flight with these judged fixes and this outcome, the one for
+/// the distance first. The only error is want of memory.
+fn claims_of(
     alloc: Global,
-    chosen: Option<(ClaimKind, AnyGoal)>,
-    free: Option<(ClaimKind, AnyGoal)>,
-    triangle: Option<(ClaimKind, AnyGoal)>,
+    task: &Task,
+    rec: &Recording,
+    judged: Stretch,
+    outcome: Judged,
 ) -> Result<Vec<(ClaimKind, AnyGoal)>, AllocError>
-    ensures { IfOk result (λ claims. claims.items
-        ≡ option_to_list chosen ++ (option_to_list free ++ option_to_list triangle)) }
+    requires to_in_list { judged.to ≤ length rec.now.fixes }
+    requires outcome { IsOutcome task.now rec.now judged outcome }
+    ensures expected { IfOk result (λ claims.
+        AreClaims task.now rec.now.fixes judged outcome (rules_of_claims claims.items)) }
+    ensures legal { IfOk result (λ claims. HaveLegal (rules_of_claims claims.items)) }
 {
     let mut claims = Vec::new(alloc);
-    if let Some(claim) = chosen {
-        claims.push(claim)?;
-    }
-    if let Some(claim) = free {
-        claims.push(claim)?;
-    }
-    if let Some(claim) = triangle {
-        claims.push(claim)?;
-    }
+    push_chosen(&mut claims, alloc, task, rec, judged, outcome)?;
+    push_free(&mut claims, alloc, task, rec, judged)?;
+    push_triangle(&mut claims, alloc, task, rec, judged)?;
     Ok(claims)
 }
 
@@ -149,10 +148,7 @@ pub fn judge_flight(
 {
     let judged = judged_range(task, air, rec);
     let outcome = outcome_of(task, rec, judged);
-    let chosen = chosen_claim(alloc, task, rec, judged, outcome)?;
-    let free = free_claim(alloc, task, rec, judged)?;
-    let triangle = triangle_claim(alloc, task, rec, judged)?;
-    let claims = listed(alloc, chosen, free, triangle)?;
+    let claims = claims_of(alloc, task, rec, judged, outcome)?;
     Ok(JudgedFlight { outcome, claims })
 }
 

@@ -1,14 +1,20 @@
 -- A text that grows box by box, and list by list.
-use Rattle.std.proofs.Common.{◌≡◌, ◌∙◌, sym, ap, ℕ, ◌+◌, ◌<◌, List, [], ◌∷◌, ◌++◌, length, get_or, take, map, append_assoc, Vec, Global}
+use Rattle.std.proofs.Common.{◌≡◌, ◌∙◌, sym, ap, ℕ, ◌+◌, ◌<◌, List, [], ◌∷◌, ◌++◌, length, get_or, take, map, append_assoc, Option, Vec, Global}
+use Rattle.std.specs.Fmt.{decimal}
 use Rattle.std.specs.List.{flat_map}
+use Rattle.std.specs.Prelude.{codes}
 use Rattle.std.proofs.lemmas.List.{append-nil, get_or-map, length-map, map-append, take_more}
 use Rattle.std.proofs.lemmas.List.Concat.{flat_map-append}
 use Rattle.gl_box.specs.declared.closed.Closed.{Closed}
 use Rattle.gl_box.specs.declared.closed.Why.{Why}
 use Rattle.gl_box.specs.Closed.{box_of}
+use Rattle.gl_lines.specs.Kept.{Keeps}
+use Rattle.gl_lines.specs.Words.{spaced, total_word}
 use Rattle.gl_lines.proofs.Pieces.{pieces_more}
 use Rattle.gl_proof.specs.Claim.{Statement, box_line, claim_text, fix_lines, front_text, spelled}
-use Rattle.gl_proof.specs.Line.{ClaimLine, ended}
+use Rattle.gl_proof.proofs.Lines.{claim_is}
+use Rattle.gl_proof.specs.Line.{ClaimLine, FixLine, ended, kind_word}
+use Rattle.gl_proof.specs.declared.claim.ClaimKind.{ClaimKind}
 
 -- one box more
 pub box_more : (before was now : List ℕ) (boxes : List Closed) (i : ℕ) (closed : Closed) → i < length boxes → closed ≡ get_or boxes i closed
@@ -58,3 +64,21 @@ list_more before was now piece lists i list below item is of added =
 pub claim_text-parts : (statement : Statement) → claim_text statement ≡ front_text statement ++ spelled (map box_line statement.boxes)
 claim_text-parts statement =
     flat_map-append ended (ClaimLine statement.number statement.kind statement.total ∷ fix_lines statement.total statement.fixes) (map box_line statement.boxes)
+
+-- a text to which nothing was appended
+pub kept : (before after : List ℕ) → after ≡ before → Keeps before after
+kept before after is = ([], is ∙ sym (append-nil before))
+
+-- the line of a claim, word by word
+pub claim_line_made : (before first second third fourth after number word : List ℕ) (kind : ClaimKind) (total : Option ℕ) → first ≡ before ++ codes "CLAIM" → second ≡ first ++ 32 ∷ number
+    → word ≡ kind_word kind → third ≡ second ++ 32 ∷ word → fourth ≡ third ++ 32 ∷ total_word total → after ≡ fourth ++ 10 ∷ [] → after ≡ before ++ ended (ClaimLine number kind total)
+claim_line_made before first second third fourth after number word kind total one two is three four five =
+    let words : List ℕ = codes "CLAIM " ++ (number ++ 32 ∷ (kind_word kind ++ 32 ∷ (total_word total ++ 10 ∷ []))) in
+    let whole : ended (ClaimLine number kind total) ≡ words = sym (append-nil (ended (ClaimLine number kind total))) ∙ claim_is number kind total [] in
+    let made : after ≡ before ++ words = rw (five, four, three, is, two, one) (simp append_assoc) in
+    made ∙ ap (λ (l : List ℕ). before ++ l) (sym whole)
+
+-- the line of the fixes
+pub fix_line_made : (before first second after fixes : List ℕ) → first ≡ before ++ codes "FIX" → second ≡ first ++ spaced (map decimal fixes) → after ≡ second ++ 10 ∷ []
+    → after ≡ before ++ ended (FixLine fixes)
+fix_line_made before first second after fixes one two three = rw (three, two, one) (simp append_assoc)

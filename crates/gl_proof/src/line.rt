@@ -12,7 +12,7 @@ use std::alloc::{AllocError, Global};
 const LEAST_ROOM: usize = 64;
 
 /// What the first line of a claim says.
-#[derive(Clone, Copy, Debug)]
+#[derive(Clone, Copy)]
 pub struct ClaimFront<'a> {
     /// The number of the entrant.
     pub number: &'a [u8],

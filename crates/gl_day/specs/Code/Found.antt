@@ -1,7 +1,6 @@
 -- What the code finds of a flight's window, and of a claim.
 use Rattle.std.specs.Prelude.{Option, None, Some, IsSomeAnd, ◌<◌, ◌≤◌, List, length}
 use Rattle.gl_igc.specs.declared.fix.Fix.{Fix}
-use Rattle.gl_sheet.specs.declared.row.Outcome.TheVariants.{Finished, Outlanded, NoStart}
 use Rattle.gl_proof.specs.Claim.{Statement}
 use Rattle.gl_day.specs.Checked.{IsFaultAt}
 use Rattle.gl_day.specs.Expected.{Expected, Proves}

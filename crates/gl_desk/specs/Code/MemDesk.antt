@@ -1,5 +1,5 @@
 -- How the files of a desk in memory come and grow.
-use Rattle.std.specs.Prelude.{◌+◌, ℕ, List, [], ◌++◌, map, Option, None, Some, Vec}
+use Rattle.std.specs.Prelude.{ℕ, List, [], ◌++◌, map, Option, None, Some, Vec}
 use Rattle.std.specs.declared.alloc.Global.{Global}
 use Rattle.gl_desk.specs.MemDesk.{StoredFile}
 

@@ -1,5 +1,5 @@
 -- What the code makes of a command's files, by their tests.
-use Rattle.std.specs.Prelude.{◌≡◌, ℕ, Contains, List, Option, Result, Err, Ok, IsSomeAnd, ⊤}
+use Rattle.std.specs.Prelude.{◌≡◌, ◌⊎◌, ℕ, Contains, List, Option, Result, Err, Ok, IsSomeAnd, ⊤}
 use Rattle.gl_desk.specs.Desk.{FilesByName, IsSeenIn}
 use Rattle.gl_files.specs.declared.halt.Halt.{Halt}
 use Rattle.gl_files.specs.declared.halt.Halt.TheVariants.{Refused, Stopped}
@@ -30,6 +30,12 @@ IsNeeded names file (Ok found) = Contains names file
 IsNeeded names file (Err (Refused refusal)) =
     ¬ Contains names file × (refusal ≡ file_refusal file NotListed)
 IsNeeded names file (Err (Stopped stop)) = ⊤
+
+-- the same of two files, one after the other: both are there, or the first that isn't is refused
+abbrev pub AreNeeded : List (List ℕ) → List ℕ → List ℕ → Result (Unit {0}) Halt → Type 0
+AreNeeded names first second (Ok found) = Contains names first × Contains names second
+AreNeeded names first second (Err halt) =
+    IsNeeded names first (Err halt) ⊎ (Contains names first × IsNeeded names second (Err halt))
 
 -- it isn't there, or it is refused
 abbrev pub IsUnused : List (List ℕ) → List ℕ → Result (Unit {0}) Halt → Type 0

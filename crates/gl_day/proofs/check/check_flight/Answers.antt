@@ -1,4 +1,4 @@
-use Rattle.std.proofs.Common.{ℕ, ◌+◌, ◌≤◌, List, length, map, subst, Option, arith, refl}
+use Rattle.std.proofs.Common.{◌+◌, ◌≤◌, length, map, subst, Option, arith, refl}
 use Rattle.std.specs.Prelude.{slice_get, IfNone, IsSomeAnd}
 use Rattle.gl_goal.specs.AnyGoal.{any_rule}
 use Rattle.gl_proof.specs.Claim.{statement_of}

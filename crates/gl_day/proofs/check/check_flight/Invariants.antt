@@ -1,4 +1,4 @@
-use Rattle.std.proofs.Common.{◌≡◌, ◌+◌, ◌≤◌, ◌++◌, ℕ, List, length, map, take}
+use Rattle.std.proofs.Common.{◌≡◌, ◌+◌, ◌≤◌, ◌++◌, List, length, map, take}
 use Rattle.gl_proof.specs.Claim.{statement_of}
 use Rattle.gl_day.specs.Checked.{AreProved}
 use Rattle.gl_day.specs.Expected.{Expected, expected_of}

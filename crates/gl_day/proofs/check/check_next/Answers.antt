@@ -1,4 +1,4 @@
-use Rattle.std.proofs.Common.{ℕ, List, map, subst}
+use Rattle.std.proofs.Common.{map, subst}
 use Rattle.std.specs.Prelude.{slice_get, IsSomeAnd}
 use Rattle.gl_proof.specs.Claim.{statement_of}
 use Rattle.gl_day.specs.Code.Found.{IsFoundAt}

@@ -1,6 +1,6 @@
 use Rattle.std.proofs.Common.{◌≡◌, ◌∙◌, subst, refl, ℕ, List, ◌+◌, ◌<◌, ◌++◌, take, append_assoc, rules, arith}
 use Rattle.std.proofs.lemmas.Grind.{common_steps}
-use Rattle.gl_desk.proofs.Pieces.{first_part_grows}
+use Rattle.gl_desk.proofs.Pieces.{counted_more, first_part_grows, fits_more}
 use Rattle.gl_desk.proofs.Reading.{OnlyReads-then, seen_longer}
 use Rattle.gl_desk.proofs.pouring.pour.Goals as goal
 
@@ -11,9 +11,9 @@ pieces-preserved g c =
     let same : take c.in_ok-read.read c.deref.result.now ≡ part = grind (arith, common_steps) in
     record {
       room = search rules;
-      fits = grind (arith, common_steps);
+      fits = fits_more c.pieces.count c.in_ok-read.read c.args.limit inv.fits c.if-read-limit.false;
       bytes = inv.bytes ++ part;
-      counted = grind (arith, common_steps);
+      counted = counted_more c.pieces.count c.in_ok-read.read inv.bytes c.read_at.new.into inv.counted c.in_ok-read.ensures.within;
       so_far = first_part_grows (g.D.Desk.told c.args.desk.now).folder c.args.name.now _ _ _ _ _ _ refl refl inv.so_far (rw inv.reads.folder at c.in_ok-read.ensures.bytes);
       taken = λ text stands. subst (g.T.Taker.stands_for c.take.new.self) (append_assoc text inv.bytes part)
           (subst (λ (taken : List ℕ). g.T.Taker.stands_for c.take.new.self ((text ++ inv.bytes) ++ taken)) same (c.in_ok-take.ensures.takes (text ++ inv.bytes) (inv.taken text stands)));

@@ -1,43 +1,9 @@
-use Rattle.std.proofs.Common.{subst, Option, Ok, Err, Vec}
-use Rattle.std.specs.declared.alloc.Global.{Global}
 use Rattle.std.proofs.lemmas.Result.{err_from_is_err_and}
-use Rattle.gl_desk.specs.Desk.{FilesByName}
-use Rattle.gl_desk.specs.Limits.{most_bytes}
-use Rattle.gl_schedule.specs.declared.schedule.Step.{Step}
 use Rattle.gl_words.specs.ReplayWords.{replay_seen}
-use Rattle.gl_files.specs.Code.FileTests.{HasReadFile}
-use Rattle.gl_files.specs.FileTests.{ScheduleText}
-use Rattle.gl_files.specs.ReplayFiles.{AreStepsOf}
-use Rattle.gl_files.proofs.ReplayTests.{both_read, flight_missing, flight_refused, schedule_missing, steps_refused}
+use Rattle.gl_files.proofs.ReplayTests.{file_missing}
 use Rattle.gl_files.proofs.replay_files.test_replay_files.Goals as goal
-use Rattle.gl_desk.proofs.DeskLemmas.{HasFile-from_names}
 
-pub returns-in_err-need-clause-tested : goal.returns-in_err-need-clause-tested
-returns-in_err-need-clause-tested g c =
+pub returns-in_err-need_both-clause-tested : goal.returns-in_err-need_both-clause-tested
+returns-in_err-need_both-clause-tested g c =
     let p = err_from_is_err_and c.from_residual.result c.from_residual.ensures.1 in
-    rw (p.1, p.2) (flight_missing (g.D.Desk.told c.args.desk.now).folder c.args.names.now (replay_seen c.args.words) c.in_err-need.field-0.0 c.requires c.in_err-need.ensures.needed)
-
-pub returns-in_err-need-2-clause-tested : goal.returns-in_err-need-2-clause-tested
-returns-in_err-need-2-clause-tested g c =
-    let flight = HasFile-from_names (g.D.Desk.told c.args.desk.now).folder c.args.names.now c.args.words.flight.now c.requires c.in_ok-need.ensures.needed in
-    let p = err_from_is_err_and c.from_residual-in_err-need-2.result c.from_residual-in_err-need-2.ensures.1 in
-    rw (p.1, p.2) (schedule_missing (g.D.Desk.told c.args.desk.now).folder c.args.names.now (replay_seen c.args.words) c.in_err-need-2.field-0.0 c.requires flight c.in_err-need-2.ensures.needed)
-
-pub returns-in_err-recording-clause-tested : goal.returns-in_err-recording-clause-tested
-returns-in_err-recording-clause-tested g c =
-    let schedule = HasFile-from_names (g.D.Desk.told c.args.desk.now).folder c.args.names.now c.args.words.schedule.now c.requires c.in_ok-need-2.ensures.needed in
-    let p = err_from_is_err_and c.from_residual-in_err-recording.result c.from_residual-in_err-recording.ensures.1 in
-    rw (p.1, p.2) (flight_refused (g.D.Desk.told c.args.desk.now).folder (replay_seen c.args.words) c.in_err-recording.field-0.0 schedule c.in_err-recording.ensures.read)
-
-pub returns-in_err-steps-clause-tested : goal.returns-in_err-steps-clause-tested
-returns-in_err-steps-clause-tested g c =
-    let lines = subst (λ (f : Option FilesByName). HasReadFile {X = Vec Step Global} ScheduleText most_bytes f c.args.words.schedule.now AreStepsOf (Err c.in_err-steps.field-0.0))
-    c.in_ok-recording.ensures.reads.folder c.in_err-steps.ensures.read in
-    let p = err_from_is_err_and c.from_residual-in_err-steps.result c.from_residual-in_err-steps.ensures.1 in
-    rw (p.1, p.2) (steps_refused (g.D.Desk.told c.args.desk.now).folder (replay_seen c.args.words) c.in_ok-recording.recording c.in_err-steps.field-0.0 c.in_ok-recording.ensures.read lines)
-
-pub returns-clause-tested : goal.returns-clause-tested
-returns-clause-tested g c =
-    let lines = subst (λ (f : Option FilesByName). HasReadFile ScheduleText most_bytes f c.args.words.schedule.now AreStepsOf (Ok c.in_ok-steps.steps)) c.in_ok-recording.ensures.reads.folder
-    c.in_ok-steps.ensures.read in
-    both_read (g.D.Desk.told c.args.desk.now).folder (replay_seen c.args.words) c.in_ok-recording.recording c.in_ok-steps.steps c.in_ok-recording.ensures.read lines
+    rw (p.1, p.2) (file_missing (g.D.Desk.told c.args.desk.now).folder c.args.names.now (replay_seen c.args.words) c.in_err-need_both.field-0.0 c.requires c.in_err-need_both.ensures.needed)

@@ -5,7 +5,7 @@ use Rattle.gl_series.specs.declared.day.DaySheet.{DaySheet}
 use Rattle.gl_files.specs.FileTests.{HasTested}
 use Rattle.gl_files.specs.SeriesFiles.{IsDaySeen, IsSheetRead, day_tests}
 use Rattle.gl_files.proofs.ReadsTwice.{reads_twice}
-use Rattle.gl_files.proofs.SeriesTests.{day_refused, days_more}
+use Rattle.gl_files.proofs.SeriesTests.{day_refused, days_more, days_passed}
 use Rattle.gl_files.proofs.series_files.test_days.Goals as goal
 
 pub returns-in_err-sheet-clause-tested : goal.returns-in_err-sheet-clause-tested
@@ -26,3 +26,7 @@ loop-file-preserved g c =
       tested = rw c.in_ok-push.ensures.items (days_more (g.D.Desk.told c.args.desk.now).folder c.args.files.now c.loop-file.file-index file c.loop-file.sheets.items c.in_ok-sheet.sheet
           c.loop-file-test.true c.file-item.is c.loop-file.invariant.tested read);
     }
+
+pub returns-clause-tested : goal.returns-clause-tested
+returns-clause-tested g c =
+    days_passed (g.D.Desk.told c.args.desk.now).folder c.args.files.now c.loop-file.file-index c.loop-file.sheets c.loop-file-test.false c.loop-file.invariant.tested
