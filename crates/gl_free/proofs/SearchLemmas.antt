@@ -14,7 +14,7 @@ use Rattle.gl_free.specs.declared.search.Search.{Search}
 use Rattle.gl_free.specs.declared.stop.Stop.{Stop}
 use Rattle.gl_free.specs.declared.stop.Stop.TheVariants.{Done, GivenUp, Low}
 use Rattle.gl_free.specs.Code.Arms.{arm_length}
-use Rattle.gl_free.specs.Code.Candidates.{AreCandidates, IsAmong, IsPart, Sifts}
+use Rattle.gl_free.specs.Code.Candidates.{AreCandidates, Grows, IsAmong, IsPart, Sifts}
 use Rattle.gl_free.specs.Code.Choices.{IsLow}
 use Rattle.gl_free.specs.Code.Ends.{IsAllowed}
 use Rattle.gl_free.specs.Code.Places.{altitude_at}
@@ -39,6 +39,42 @@ among-after part old new inner within among =
     let size : length (take part.to old) ≡ part.to = omega (arith, length-take part.to old) in
     subst (λ (n : ℕ). IsAmong new n inner) size among
 
+-- the first candidates stay where others were added behind them
+pub keeps-grown : (fixes : List Fix) (allowed : Ends) (middle : ℕ × ℕ) (part : Part) (old new : List Candidate) → part.to ≤ length old → Grows fixes allowed middle (take part.to old) new
+    → Keeps part old new
+keeps-grown fixes allowed middle part old new within grows =
+    let size : length (take part.to old) ≡ part.to = omega (arith, length-take part.to old) in
+    record { longer = omega (arith, grows.longer); kept = subst (λ (n : ℕ). take n new ≡ take part.to old) size grows.kept }
+
+-- no choice is better where the most of both arms is no more
+pub none-below : (fixes : List Fix) (sides : Sides) (middle : ℕ × ℕ) (found before after : ℕ) → AreBelow fixes sides middle found before after → before + after ≤ found + 2
+    → IsBetter fixes sides middle found → ⊥
+none-below fixes sides middle found before after below limit better =
+    let short = below better in absurd (omega (arith, short.0, short.1, better.more))
+
+-- nothing is shorter than no length
+pub none-short : (length most : ℕ) → length < most → most ≡ 0 → ⊥
+none-short length most short none = absurd (omega arith)
+
+-- the arm of a better choice before the middle is shorter than the greatest that was sifted
+pub before-short : (fixes : List Fix) (sides : Sides) (middle : ℕ × ℕ) (found need : ℕ) (before after : Part) (list other new : List Candidate) (arm : Arm)
+    → AreBelow fixes sides middle found before.most after.most → AreFound fixes sides middle found (take before.to list) before.from (take after.to other) after.from → need ≡ found + 2 - after.most
+    → Sifts fixes sides.before middle need (IsAmong (take before.to list) before.from) (take before.to list) new 0 arm → (t : IsBetter fixes sides middle found)
+    → arm_length fixes t.third t.second t.first < arm.most
+before-short fixes sides middle found need before after list other new arm below among need_is sifts t =
+    let needed : need ≤ arm_length fixes t.third t.second t.first = omega (arith, t.more, (below t).1) in
+    sifts.shorter t.second t.first t.third (among t).0 t.third_in t.before needed
+
+-- and the one after it
+pub after-short : (fixes : List Fix) (sides : Sides) (middle : ℕ × ℕ) (found need most : ℕ) (before after : Part) (other list new : List Candidate) (arm : Arm)
+    → ((t : IsBetter fixes sides middle found) → arm_length fixes t.third t.second t.first < most)
+    → AreFound fixes sides middle found (take before.to other) before.from (take after.to list) after.from → need ≡ found + 2 - most
+    → Sifts fixes sides.after middle need (IsAmong (take after.to list) after.from) (take after.to list) new 0 arm → (t : IsBetter fixes sides middle found)
+    → arm_length fixes t.third t.fourth t.last < arm.most
+after-short fixes sides middle found need most before after other list new arm short among need_is sifts t =
+    let needed : need ≤ arm_length fixes t.third t.fourth t.last = omega (arith, t.more, short t) in
+    sifts.shorter t.fourth t.last t.third (among t).1 t.third_in t.after needed
+
 pub narrowed : (fixes : List Fix) (sides : Sides) (middle : ℕ × ℕ) (found : ℕ) (search : Search) (before after : Part) (arms : Arms) (old_before old_after : List Candidate)
     (need_before need_after : ℕ) → search.best.total ≡ found → before.to ≤ length old_before → after.to ≤ length old_after → AreBelow fixes sides middle found before.most after.most
     → AreFound fixes sides middle found (take before.to old_before) before.from (take after.to old_after) after.from → need_before ≡ found + 2 - after.most → need_after ≡ found + 2 - arms.before.most
@@ -49,11 +85,10 @@ pub narrowed : (fixes : List Fix) (sides : Sides) (middle : ℕ × ℕ) (found :
 narrowed fixes sides middle found search before after arms old_before old_after need_before need_after same within_before within_after below among need_before_is need_after_is some_before some_after
     sifts_before sifts_after =
     let needed_before : (t : IsBetter fixes sides middle found) → need_before ≤ arm_length fixes t.third t.second t.first = λ t. omega (arith, t.more, (below t).1) in
-    let short_before : (t : IsBetter fixes sides middle found) → arm_length fixes t.third t.second t.first < arms.before.most =
-    λ t. sifts_before.shorter t.second t.first t.third (among t).0 t.third_in t.before (needed_before t) in
+    let short_before = before-short fixes sides middle found need_before before after old_before old_after search.before.candidates.items arms.before below among need_before_is sifts_before in
     let needed_after : (t : IsBetter fixes sides middle found) → need_after ≤ arm_length fixes t.third t.fourth t.last = λ t. omega (arith, t.more, short_before t) in
-    let short_after : (t : IsBetter fixes sides middle found) → arm_length fixes t.third t.fourth t.last < arms.after.most =
-    λ t. sifts_after.shorter t.fourth t.last t.third (among t).1 t.third_in t.after (needed_after t) in
+    let short_after = after-short fixes sides middle found need_after arms.before.most before after old_before old_after search.after.candidates.items arms.after short_before among need_after_is
+    sifts_after in
     record {
       top_before = sifts_before.top;
       top_after = sifts_after.top;

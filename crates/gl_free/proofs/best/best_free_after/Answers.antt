@@ -40,3 +40,16 @@ returns-clause-optimum c =
     let empty : length c.loop-range.ranges.items ≡ 0 = omega (arith, c.in_default.ensures.cases.0, c.loop-range.ranges.ok.0) in
     let P : List Fix → Type 0 = λ list. IsBetterChoice list g.loss best.total → ⊥ in
     optimum-found g best c.loop-range.invariant.valid (subst P (c.hulls-hulls.ensures ∙ sym g.hulled) (left-none fixes g.loss best.total c.loop-range.ranges.items empty c.loop-range.invariant.left))
+
+pub advance-requires-clause-valid : goal.advance-requires-clause-valid
+advance-requires-clause-valid c = c.loop-range.invariant.valid
+
+pub advance-requires-clause-flanks : goal.advance-requires-clause-flanks
+advance-requires-clause-flanks c = c.loop-range.invariant.flanks
+
+pub loop-range-preserved : goal.loop-range-preserved
+loop-range-preserved c =
+    record { valid = c.in_ok-advance.ensures.valid; flanks = c.in_ok-advance.ensures.flanks; left = c.in_ok-advance.ensures.left }
+
+pub returns-clause-reached : goal.returns-clause-reached
+returns-clause-reached c = c.loop-range.invariant.valid.reached

@@ -1,4 +1,4 @@
-use Rattle.std.proofs.Common.{subst, ◌+◌, List, arith}
+use Rattle.std.proofs.Common.{subst, ◌+◌, ◌<◌, List, length, arith}
 use Rattle.gl_box.specs.Cell.{ends}
 use Rattle.gl_hull.specs.Near.{IsPlaceOf}
 use Rattle.gl_free.specs.declared.candidate.Candidate.{Candidate}
@@ -38,3 +38,45 @@ returns-clause-sifts t c =
     (IsPlaceOf (ends upper)) c.farthest-far.new.self.candidates.items c.put.new.self.candidates.items c.put-2.new.self.candidates.items c.args.arm.now.most c.put.new.arm c.put-2.new.arm
     (λ inner inside. halves-parts lower.lo lower.hi upper.lo upper.hi inner c.halves.ensures.next (omega (arith, inside.0, c.halves.ensures.first), omega (arith, inside.1, c.halves.ensures.last)))
     c.in_ok-put.ensures.sifts c.in_ok-put-2.ensures.sifts)
+
+pub returns-then-is_out-clause-flank : goal.returns-then-is_out-clause-flank
+returns-then-is_out-clause-flank t c = c.requires.flank
+
+pub leg_from-leg-requires-clause-node : goal.leg_from-leg-requires-clause-node
+leg_from-leg-requires-clause-node t c = c.requires.middle
+
+pub leg_from-leg-requires-clause-inside : goal.leg_from-leg-requires-clause-inside
+leg_from-leg-requires-clause-inside t c = c.requires.inside
+
+pub returns-then-above-leg-clause-flank : goal.returns-then-above-leg-clause-flank
+returns-then-above-leg-clause-flank t c = c.requires.flank
+
+pub farthest-far-requires-clause-flank : goal.farthest-far-requires-clause-flank
+farthest-far-requires-clause-flank t c = c.requires.flank
+
+pub farthest-far-requires-clause-inside : goal.farthest-far-requires-clause-inside
+farthest-far-requires-clause-inside t c = c.requires.inside
+
+pub returns-then-far-eq0-clause-flank : goal.returns-then-far-eq0-clause-flank
+returns-then-far-eq0-clause-flank t c = c.farthest-far.ensures.flank
+
+pub put-requires : goal.put-requires
+put-requires t c =
+    let far = c.farthest-far.ensures.farthest in
+    let halves = c.halves.ensures in
+    let inside : c.halves.result.0.hi < length c.args.hulls.now = omega (arith, c.requires.inside, halves.next, halves.last, c.halves.result.1.ordered) in (
+      omega (arith, halves.first, halves.next, halves.last, c.halves.result.1.ordered, c.if-width.false),
+      (c.farthest-far.ensures.flank, (c.requires.middle, (inside, (λ end inner at is_end. far.above end inner (omega (arith, at.0, halves.first), omega (arith, at.1, halves.next, halves.last, c.halves.result.1.ordered)) is_end, (far.limited, c.requires.top))))),
+    )
+
+pub put-requires-2 : goal.put-requires-2
+put-requires-2 t c =
+    let far = c.farthest-far.ensures.farthest in
+    let halves = c.halves.ensures in
+    let inside : c.halves.result.1.hi < length c.args.hulls.now = omega (arith, c.requires.inside, halves.last) in (
+      omega (arith, halves.first, halves.next, halves.last, c.halves.result.0.ordered, c.if-width.false),
+      (c.in_ok-put.ensures.flank, (c.requires.middle, (inside, (λ end inner at is_end. far.above end inner (omega (arith, at.0, halves.first, halves.next, c.halves.result.0.ordered), omega (arith, at.1, halves.last)) is_end, (far.limited, c.in_ok-put.ensures.sifts.top))))),
+    )
+
+pub returns-clause-flank : goal.returns-clause-flank
+returns-clause-flank t c = c.in_ok-put-2.ensures.flank

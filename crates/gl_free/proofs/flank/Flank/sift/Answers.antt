@@ -32,3 +32,54 @@ returns-clause-sifts c =
     is
     (exact-made fixes allowed middle candidate leg (λ past. grind (arith, c.is_out.ensures.1 past)) (omega arith) c.leg_from.ensures.most (omega arith))
     c.in_ok-keep.ensures.single c.in_ok-keep.ensures.wide c.keep.ensures.greater c.keep.ensures.not_greater
+
+pub returns-then-most-need-clause-flank : goal.returns-then-most-need-clause-flank
+returns-then-most-need-clause-flank c = c.requires.flank
+
+pub put-requires-clause-flank : goal.put-requires-clause-flank
+put-requires-clause-flank c = c.requires.flank
+
+pub put-requires-clause-middle : goal.put-requires-clause-middle
+put-requires-clause-middle c = c.requires.middle
+
+pub put-requires-clause-beyond : goal.put-requires-clause-beyond
+put-requires-clause-beyond c =
+    let far = c.requires.candidate.farthest in
+    let halves = c.halves.ensures in
+    λ end inner at is_end. far.above end inner (omega (arith, at.0, halves.first), omega (arith, at.1, halves.next, halves.last, c.halves.result.1.ordered)) is_end
+
+pub put-requires-clause-limited : goal.put-requires-clause-limited
+put-requires-clause-limited c = c.requires.candidate.farthest.limited
+
+pub put-requires-clause-top : goal.put-requires-clause-top
+put-requires-clause-top c = c.requires.top
+
+pub put-requires-then-width-clause-flank : goal.put-requires-then-width-clause-flank
+put-requires-then-width-clause-flank c = c.in_ok-put.ensures.flank
+
+pub put-requires-then-width-clause-middle : goal.put-requires-then-width-clause-middle
+put-requires-then-width-clause-middle c = c.requires.middle
+
+pub put-requires-then-width-clause-beyond : goal.put-requires-then-width-clause-beyond
+put-requires-then-width-clause-beyond c =
+    let far = c.requires.candidate.farthest in
+    let halves = c.halves.ensures in
+    λ end inner at is_end. far.above end inner (omega (arith, at.0, halves.first, halves.next, c.halves.result.0.ordered), omega (arith, at.1, halves.last)) is_end
+
+pub put-requires-then-width-clause-limited : goal.put-requires-then-width-clause-limited
+put-requires-then-width-clause-limited c = c.requires.candidate.farthest.limited
+
+pub put-requires-then-width-clause-top : goal.put-requires-then-width-clause-top
+put-requires-then-width-clause-top c = c.in_ok-put.ensures.sifts.top
+
+pub returns-then-width-clause-flank : goal.returns-then-width-clause-flank
+returns-then-width-clause-flank c = c.in_ok-put-2.ensures.flank
+
+pub leg_from-requires-clause-node : goal.leg_from-requires-clause-node
+leg_from-requires-clause-node c = c.requires.middle
+
+pub leg_from-requires-clause-inside : goal.leg_from-requires-clause-inside
+leg_from-requires-clause-inside c = c.requires.candidate.within
+
+pub returns-then-most-need-2-clause-flank : goal.returns-then-most-need-2-clause-flank
+returns-then-most-need-2-clause-flank c = c.requires.flank

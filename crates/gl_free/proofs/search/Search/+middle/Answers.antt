@@ -135,3 +135,83 @@ returns-clause-halted t c =
     over-halves fixes sides (ends c.args.span) (ends c.ordered.result.0)
     (ends c.ordered.result.1) c.args.goal.now.loss c.middle.new.self.best.total c.middle-2.new.self.best.total c.in_ok-stop-2.stop c.ordered.ensures
     (omega (arith, c.in_ok-stop-2.ensures.raised)) none c.in_ok-stop-2.ensures.halted
+
+pub returns-then-self-eq0-clause-valid : goal.returns-then-self-eq0-clause-valid
+returns-then-self-eq0-clause-valid t c = c.requires.valid
+
+pub returns-then-self-eq0-clause-flanks : goal.returns-then-self-eq0-clause-flanks
+returns-then-self-eq0-clause-flanks t c = c.requires.flanks
+
+pub returns-then-self-eq0-clause-kept_before : goal.returns-then-self-eq0-clause-kept_before
+returns-then-self-eq0-clause-kept_before t c =
+    keeps-all c.args.before c.args.self.now.before.candidates.items c.requires.part_before.within
+
+pub returns-then-self-eq0-clause-kept_after : goal.returns-then-self-eq0-clause-kept_after
+returns-then-self-eq0-clause-kept_after t c =
+    keeps-all c.args.after c.args.self.now.after.candidates.items c.requires.part_after.within
+
+pub hull-requires : goal.hull-requires
+hull-requires t c = c.requires.inside
+
+pub narrow-requires-clause-limited : goal.narrow-requires-clause-limited
+narrow-requires-clause-limited t c = c.requires.valid.limited
+
+pub narrow-requires-clause-flanks : goal.narrow-requires-clause-flanks
+narrow-requires-clause-flanks t c = c.requires.flanks
+
+pub narrow-requires-clause-part_before : goal.narrow-requires-clause-part_before
+narrow-requires-clause-part_before t c = c.requires.part_before
+
+pub narrow-requires-clause-part_after : goal.narrow-requires-clause-part_after
+narrow-requires-clause-part_after t c = c.requires.part_after
+
+pub narrow-requires-clause-below : goal.narrow-requires-clause-below
+narrow-requires-clause-below t c = c.requires.below
+
+pub narrow-requires-clause-found : goal.narrow-requires-clause-found
+narrow-requires-clause-found t c = c.requires.found
+
+pub returns-in_default-clause-valid : goal.returns-in_default-clause-valid
+returns-in_default-clause-valid t c =
+    subst (IsValid (rule_of c.args.goal.now)) (sym c.narrow.ensures.best) c.requires.valid
+
+pub returns-in_default-clause-flanks : goal.returns-in_default-clause-flanks
+returns-in_default-clause-flanks t c = c.in_ok-arms.ensures.flanks
+
+pub returns-in_default-clause-kept_before : goal.returns-in_default-clause-kept_before
+returns-in_default-clause-kept_before t c = c.in_ok-arms.ensures.kept_before
+
+pub returns-in_default-clause-kept_after : goal.returns-in_default-clause-kept_after
+returns-in_default-clause-kept_after t c = c.in_ok-arms.ensures.kept_after
+
+pub choose-requires-clause-valid : goal.choose-requires-clause-valid
+choose-requires-clause-valid t c =
+    subst (IsValid (rule_of c.args.goal.now)) (sym c.narrow.ensures.best) c.requires.valid
+
+pub returns-then-is_single-clause-valid : goal.returns-then-is_single-clause-valid
+returns-then-is_single-clause-valid t c = c.choose.ensures.valid
+
+pub returns-then-is_single-clause-flanks : goal.returns-then-is_single-clause-flanks
+returns-then-is_single-clause-flanks t c =
+    record { before = c.in_ok-arms.ensures.flanks.before; after = c.in_ok-arms.ensures.flanks.after }
+
+pub returns-then-is_single-clause-kept_before : goal.returns-then-is_single-clause-kept_before
+returns-then-is_single-clause-kept_before t c = c.in_ok-arms.ensures.kept_before
+
+pub returns-then-is_single-clause-kept_after : goal.returns-then-is_single-clause-kept_after
+returns-then-is_single-clause-kept_after t c = c.in_ok-arms.ensures.kept_after
+
+pub ordered-requires-clause-inside : goal.ordered-requires-clause-inside
+ordered-requires-clause-inside t c = c.requires.inside
+
+pub returns-then-not-is_done-clause-valid : goal.returns-then-not-is_done-clause-valid
+returns-then-not-is_done-clause-valid t c = c.in_ok-stop.ensures.valid
+
+pub returns-then-not-is_done-clause-flanks : goal.returns-then-not-is_done-clause-flanks
+returns-then-not-is_done-clause-flanks t c = c.in_ok-stop.ensures.flanks
+
+pub returns-clause-valid : goal.returns-clause-valid
+returns-clause-valid t c = c.in_ok-stop-2.ensures.valid
+
+pub returns-clause-flanks : goal.returns-clause-flanks
+returns-clause-flanks t c = c.in_ok-stop-2.ensures.flanks
