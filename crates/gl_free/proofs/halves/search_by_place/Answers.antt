@@ -6,9 +6,6 @@ use Rattle.gl_free.proofs.halves.search_by_place.Goals as goal
 pub new-requires-2-clause-order : goal.new-requires-2-clause-order
 new-requires-2-clause-order c = c.in_ok-by_place.ensures
 
-pub new-requires-3-clause-order : goal.new-requires-3-clause-order
-new-requires-3-clause-order c = c.in_ok-by_place.ensures
-
 pub middles-requires-clause-some : goal.middles-requires-clause-some
 middles-requires-clause-some c = c.requires.some
 
@@ -20,13 +17,8 @@ middles-requires-clause-sides c = c.requires.sides
 
 pub middles-requires-clause-halves : goal.middles-requires-clause-halves
 middles-requires-clause-halves c =
-    let P : List Fix → Type 0 = λ fixes. AreHalves fixes c.in_ok-by_place.by_place c.args.sides.now (record { before = c.in_ok-new.field-0; after = c.in_ok-new-2.field-0 }) in
-    subst P (c.hulls-hulls.ensures ∙ sym c.args.goal.now.hulled) (record {
-      before = c.in_ok-new.ensures.half;
-      after = c.in_ok-new-2.ensures.half;
-      before_is = c.in_ok-new.ensures.allowed;
-      after_is = c.in_ok-new-2.ensures.allowed;
-    })
+    let P : List Fix → Type 0 = λ fixes. AreHalves fixes c.in_ok-by_place.by_place c.args.sides.now c.in_ok-halves.halves in
+    subst P (c.hulls-hulls.ensures ∙ sym c.args.goal.now.hulled) c.in_ok-halves.ensures
 
 pub middles-requires-clause-valid : goal.middles-requires-clause-valid
 middles-requires-clause-valid c = c.requires.valid
