@@ -167,6 +167,10 @@ pub none-longer : (fixes : List Fix) (sides : Sides) (middle found more : ℕ) (
 none-longer fixes sides middle found more arms order longest less better =
     absurd (omega (arith, better.more, longest.longest (better-wider fixes sides (middle, middle) (middle, middle) more found (λ place inside. inside) order better), less))
 
+-- the ways of the ends have no length
+pub ends-limited : (fixes : List Fix) (allowed : Ends) (ways : List ℕ) → AreEnds fixes allowed ways → All (λ way. way ≤ 1099511627776) ways
+ends-limited fixes allowed ways are number d below = omega (arith, are.at_most number below, get_or_default ways number d 0 below)
+
 pub ways-limited : (fixes : List Fix) (allowed : Ends) (ends : List Far) (ways : List ℕ) → AreFarthest fixes allowed ends → AreWaysBy ends ways → length ways ≡ length ends
     → All (λ way. way ≤ 1099511627776) ways
 ways-limited fixes allowed ends ways farthest by long number d below =

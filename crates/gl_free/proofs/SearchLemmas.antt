@@ -1,7 +1,10 @@
 -- A search of a middle span: what it is refined to, its halves, and a single middle fix.
-use Rattle.std.proofs.Common.{◌≡◌, ◌∙◌, ap, sym, refl, subst, ℕ, ◌+◌, ◌-◌, ◌<◌, ◌≤◌, ⊎_elim, List, length, take, Option, None, Some, ℤ, ◌-ℤ◌, ◌<ℤ◌, MatchOption, arith}
+use Rattle.std.proofs.Common.{◌≡◌, ◌∙◌, ap, sym, refl, subst, ℕ, ◌+◌, ◌-◌, ◌<◌, ◌≤◌, ⊎_elim, List, length, take, Option, None, Some, ℤ, ◌-ℤ◌, ◌<ℤ◌, MatchOption, Bool, false, arith}
+use Rattle.std.specs.Prelude.{IsTrue}
+use Rattle.std.proofs.lemmas.Bool.{both_ways, cases_lt}
 use Rattle.std.proofs.lemmas.List.{length-take, take-take, take_all}
 use Rattle.gl_igc.specs.declared.fix.Fix.{Fix}
+use Rattle.gl_goal.specs.declared.best.Best.{Best}
 use Rattle.gl_hull.specs.Near.{IsPlaceOf}
 use Rattle.gl_free.specs.declared.arm.Arm.{Arm}
 use Rattle.gl_free.specs.declared.arm.Arms.{Arms}
@@ -11,14 +14,15 @@ use Rattle.gl_free.specs.declared.ends.Ends.{Ends}
 use Rattle.gl_free.specs.declared.ends.Sides.{Sides}
 use Rattle.gl_free.specs.declared.pair.Pair.{Pair}
 use Rattle.gl_free.specs.declared.search.Search.{Search}
+use Rattle.gl_free.specs.declared.side.Side.{Side}
 use Rattle.gl_free.specs.declared.stop.Stop.{Stop}
 use Rattle.gl_free.specs.declared.stop.Stop.TheVariants.{Done, GivenUp, Low}
 use Rattle.gl_free.specs.Code.Arms.{arm_length}
-use Rattle.gl_free.specs.Code.Candidates.{AreCandidates, IsAmong, IsPart, Sifts}
-use Rattle.gl_free.specs.Code.Choices.{IsLow}
-use Rattle.gl_free.specs.Code.Ends.{IsAllowed}
+use Rattle.gl_free.specs.Code.Candidates.{AreCandidates, Grows, IsAmong, IsPart, Sifts}
+use Rattle.gl_free.specs.Code.Choices.{AreInOrder, IsLow}
+use Rattle.gl_free.specs.Code.Ends.{IsAllowed, Stands}
 use Rattle.gl_free.specs.Code.Places.{altitude_at}
-use Rattle.gl_free.specs.Code.Search.{AreBelow, AreFound, AreHalvesOf, IsBetter, IsHalted, IsNarrowed, IsOver, Keeps, stop_after}
+use Rattle.gl_free.specs.Code.Search.{AreBelow, AreFound, AreHalvesOf, AreSides, IsBetter, IsHalted, IsNarrowed, IsOver, Keeps, stop_after}
 
 -- what is above the need is a part of its own
 part-refined : (fixes : List Fix) (allowed : Ends) (middle : ℕ × ℕ) (need : ℕ) (kind : ℕ → Type 0) (part : Part) (old new : List Candidate) (least : ℕ) (arm : Arm) → part.to ≤ length old
@@ -39,6 +43,42 @@ among-after part old new inner within among =
     let size : length (take part.to old) ≡ part.to = omega (arith, length-take part.to old) in
     subst (λ (n : ℕ). IsAmong new n inner) size among
 
+-- the first candidates stay where others were added behind them
+pub keeps-grown : (fixes : List Fix) (allowed : Ends) (middle : ℕ × ℕ) (part : Part) (old new : List Candidate) → part.to ≤ length old → Grows fixes allowed middle (take part.to old) new
+    → Keeps part old new
+keeps-grown fixes allowed middle part old new within grows =
+    let size : length (take part.to old) ≡ part.to = omega (arith, length-take part.to old) in
+    record { longer = omega (arith, grows.longer); kept = subst (λ (n : ℕ). take n new ≡ take part.to old) size grows.kept }
+
+-- no choice is better where the most of both arms is no more
+pub none-below : (fixes : List Fix) (sides : Sides) (middle : ℕ × ℕ) (found before after : ℕ) → AreBelow fixes sides middle found before after → before + after ≤ found + 2
+    → IsBetter fixes sides middle found → ⊥
+none-below fixes sides middle found before after below limit better =
+    let short = below better in absurd (omega (arith, short.0, short.1, better.more))
+
+-- nothing is shorter than no length
+pub none-short : (length most : ℕ) → length < most → most ≡ 0 → ⊥
+none-short length most short none = absurd (omega arith)
+
+-- the arm of a better choice before the middle is shorter than the greatest that was sifted
+pub before-short : (fixes : List Fix) (sides : Sides) (middle : ℕ × ℕ) (found need : ℕ) (before after : Part) (list other new : List Candidate) (arm : Arm)
+    → AreBelow fixes sides middle found before.most after.most → AreFound fixes sides middle found (take before.to list) before.from (take after.to other) after.from → need ≡ found + 2 - after.most
+    → Sifts fixes sides.before middle need (IsAmong (take before.to list) before.from) (take before.to list) new 0 arm → (t : IsBetter fixes sides middle found)
+    → arm_length fixes t.third t.second t.first < arm.most
+before-short fixes sides middle found need before after list other new arm below among need_is sifts t =
+    let needed : need ≤ arm_length fixes t.third t.second t.first = omega (arith, t.more, (below t).1) in
+    sifts.shorter t.second t.first t.third (among t).0 t.third_in t.before needed
+
+-- and the one after it
+pub after-short : (fixes : List Fix) (sides : Sides) (middle : ℕ × ℕ) (found need most : ℕ) (before after : Part) (other list new : List Candidate) (arm : Arm)
+    → ((t : IsBetter fixes sides middle found) → arm_length fixes t.third t.second t.first < most)
+    → AreFound fixes sides middle found (take before.to other) before.from (take after.to list) after.from → need ≡ found + 2 - most
+    → Sifts fixes sides.after middle need (IsAmong (take after.to list) after.from) (take after.to list) new 0 arm → (t : IsBetter fixes sides middle found)
+    → arm_length fixes t.third t.fourth t.last < arm.most
+after-short fixes sides middle found need most before after other list new arm short among need_is sifts t =
+    let needed : need ≤ arm_length fixes t.third t.fourth t.last = omega (arith, t.more, short t) in
+    sifts.shorter t.fourth t.last t.third (among t).1 t.third_in t.after needed
+
 pub narrowed : (fixes : List Fix) (sides : Sides) (middle : ℕ × ℕ) (found : ℕ) (search : Search) (before after : Part) (arms : Arms) (old_before old_after : List Candidate)
     (need_before need_after : ℕ) → search.best.total ≡ found → before.to ≤ length old_before → after.to ≤ length old_after → AreBelow fixes sides middle found before.most after.most
     → AreFound fixes sides middle found (take before.to old_before) before.from (take after.to old_after) after.from → need_before ≡ found + 2 - after.most → need_after ≡ found + 2 - arms.before.most
@@ -49,11 +89,10 @@ pub narrowed : (fixes : List Fix) (sides : Sides) (middle : ℕ × ℕ) (found :
 narrowed fixes sides middle found search before after arms old_before old_after need_before need_after same within_before within_after below among need_before_is need_after_is some_before some_after
     sifts_before sifts_after =
     let needed_before : (t : IsBetter fixes sides middle found) → need_before ≤ arm_length fixes t.third t.second t.first = λ t. omega (arith, t.more, (below t).1) in
-    let short_before : (t : IsBetter fixes sides middle found) → arm_length fixes t.third t.second t.first < arms.before.most =
-    λ t. sifts_before.shorter t.second t.first t.third (among t).0 t.third_in t.before (needed_before t) in
+    let short_before = before-short fixes sides middle found need_before before after old_before old_after search.before.candidates.items arms.before below among need_before_is sifts_before in
     let needed_after : (t : IsBetter fixes sides middle found) → need_after ≤ arm_length fixes t.third t.fourth t.last = λ t. omega (arith, t.more, short_before t) in
-    let short_after : (t : IsBetter fixes sides middle found) → arm_length fixes t.third t.fourth t.last < arms.after.most =
-    λ t. sifts_after.shorter t.fourth t.last t.third (among t).1 t.third_in t.after (needed_after t) in
+    let short_after = after-short fixes sides middle found need_after arms.before.most before after old_before old_after search.after.candidates.items arms.after short_before among need_after_is
+    sifts_after in
     record {
       top_before = sifts_before.top;
       top_after = sifts_after.top;
@@ -68,6 +107,50 @@ narrowed fixes sides middle found search before after arms old_before old_after 
             among-after after old_after search.after.candidates.items t.fourth within_after (sifts_after.found t.fourth t.last t.third (among t).1 t.third_in t.after (needed_after t) wide),
           ));
     }
+
+-- both sides of a middle span that was narrowed
+pub is-narrowed : (fixes : List Fix) (sides : Sides) (middle : ℕ × ℕ) (found : ℕ) (search : Search) (before after : Part) (some : Option Arms) (arms : Arms) → some ≡ Some arms
+    → MatchOption some (¬ IsBetter fixes sides middle found) (IsNarrowed fixes sides middle search before after) → IsNarrowed fixes sides middle search before after arms
+is-narrowed fixes sides middle found search before after some arms is narrowed =
+    subst (λ (o : Option Arms). MatchOption o (¬ IsBetter fixes sides middle found) (IsNarrowed fixes sides middle search before after)) is narrowed
+
+-- and one that needn't be looked at
+pub none-narrowed : (fixes : List Fix) (sides : Sides) (middle : ℕ × ℕ) (old : Best) (search : Search) (before after : Part) (some : Option Arms) → some ≡ None → search.best ≡ old
+    → MatchOption some (¬ IsBetter fixes sides middle old.total) (IsNarrowed fixes sides middle search before after) → ¬ IsBetter fixes sides middle search.best.total
+none-narrowed fixes sides middle old search before after some is same narrowed =
+    let no = subst (λ (o : Option Arms). MatchOption o (¬ IsBetter fixes sides middle old.total) (IsNarrowed fixes sides middle search before after)) is narrowed in
+    subst (λ (best : Best). ¬ IsBetter fixes sides middle best.total) (sym same) no
+
+-- the arms of a single middle place make a choice in time order
+pub order-single : (fixes list : List Fix) (sides : Sides) (middle : ℕ × ℕ) (search : Search) (before after : Part) (arms : Arms) → fixes ≡ list → AreSides sides → middle.0 ≡ middle.1
+    → IsNarrowed fixes sides middle search before after arms → AreInOrder (length list) arms.before.end arms.before.inner middle.0 arms.after.inner arms.after.end
+order-single fixes list sides middle search before after arms same both single is =
+    let one = (is.top_before.reached single is.before_some).0 in
+    let other = (is.top_after.reached single is.after_some).0 in
+    record {
+      second_later = subst (λ (s : Side). Stands s arms.before.end arms.before.inner) both.before one.is_end.stands;
+      third_later = subst (λ (s : Side). Stands s arms.before.inner middle.0) both.before one.stands;
+      fourth_later = subst (λ (s : Side). Stands s arms.after.inner middle.0) both.after other.stands;
+      last_later = subst (λ (s : Side). Stands s arms.after.end arms.after.inner) both.after other.is_end.stands;
+      within = omega (arith, other.is_end.allowed.within, ap length same);
+    }
+
+-- a span that isn't single has more places than one
+pub span-cut : (lo hi : ℕ) (single : Bool) → lo ≤ hi → (lo ≡ hi → IsTrue single) → single ≡ false → lo < hi
+span-cut lo hi single order is_single isnt = ⊎_elim
+    (λ (less : lo < hi). less)
+    (λ (more : hi ≤ lo). absurd (both_ways single isnt (is_single (omega arith))))
+    (cases_lt lo hi)
+
+-- what was found is no less where it was kept and then raised
+pub kept-raised : (old kept : Best) (more : ℕ) → kept ≡ old → kept.total ≤ more → old.total ≤ more
+kept-raised old kept more same raised = omega (arith, ap (λ (best : Best). best.total) same)
+
+pub kept-best : (old kept : Best) → kept ≡ old → old.total ≤ kept.total
+kept-best old kept same = omega (arith, ap (λ (best : Best). best.total) same)
+
+pub kept-raised-twice : (old kept : Best) (more most : ℕ) → kept ≡ old → kept.total ≤ more → more ≤ most → old.total ≤ most
+kept-raised-twice old kept more most same raised again = omega (arith, ap (λ (best : Best). best.total) same)
 
 -- a better choice is one of a wider span, against a smaller total
 abbrev pub better-wider : (fixes : List Fix) (sides : Sides) (middle wider : ℕ × ℕ) (found less : ℕ) → ((place : ℕ) → IsPlaceOf middle place → IsPlaceOf wider place) → less ≤ found

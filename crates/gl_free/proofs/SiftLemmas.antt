@@ -1,5 +1,6 @@
 -- Candidates that are gone over for one side of the middle.
-use Rattle.std.proofs.Common.{◌≡◌, ◌∙◌, ap, sym, refl, subst, ℕ, zero, suc, ◌+◌, ◌<◌, ◌≤◌, ◌⊎◌, inl, inr, ⊎_elim, List, [], ◌∷◌, ◌++◌, length, take, get_or, length-append, arith}
+use Rattle.std.proofs.Common.{◌≡◌, ◌∙◌, ap, sym, refl, subst, ℕ, zero, suc, ◌+◌, ◌<◌, ◌≤◌, ◌⊎◌, inl, inr, ⊎_elim, List, [], ◌∷◌, ◌++◌, length, max, take, get_or, length-append, Vec, Global, arith}
+use Rattle.std.specs.Prelude.{All}
 use Rattle.std.proofs.lemmas.Bool.{cases_lt}
 use Rattle.std.proofs.lemmas.List.{get_or-take, get_or_default, length-take, take-take, take_all}
 use Rattle.std.proofs.Math.Seq.{get_or-append_seam, take-append_seam}
@@ -9,10 +10,14 @@ use Rattle.gl_hull.specs.Near.{IsPlaceOf}
 use Rattle.gl_free.specs.declared.arm.Arm.{Arm}
 use Rattle.gl_free.specs.declared.candidate.Candidate.{Candidate}
 use Rattle.gl_free.specs.declared.ends.Ends.{Ends}
+use Rattle.gl_free.specs.declared.flank.Flank.{Flank}
+use Rattle.gl_free.specs.declared.known.Known.{Known}
+use Rattle.gl_free.specs.declared.side.Side.{Side}
+use Rattle.gl_free.specs.declared.side.Side.TheVariants.{Before, After}
 use Rattle.gl_free.specs.Code.Arms.{IsArm, IsTop, arm_length}
-use Rattle.gl_free.specs.Code.Candidates.{Grows, IsAmong, IsCandidate, Sifts, Starts}
+use Rattle.gl_free.specs.Code.Candidates.{Grows, IsAmong, IsCandidate, IsFlank, IsKnown, Sifts, Starts}
 use Rattle.gl_free.specs.Code.Ends.{IsPast, Stands}
-use Rattle.gl_free.specs.Code.Farthest.{IsFarthest}
+use Rattle.gl_free.specs.Code.Farthest.{IsBeyond, IsFarthest}
 use Rattle.gl_free.specs.Code.Places.{IsMost, leg}
 use Rattle.gl_free.proofs.PlaceLemmas.{leg-limited}
 use Rattle.gl_free.proofs.ReachLemmas.{single-stands}
@@ -134,6 +139,58 @@ sifts-kept fixes allowed middle need candidate old new arm after order top is ex
       shorter = λ inner end third inside in_middle is_arm needed. omega (arith, raised.1, short-candidate fixes allowed middle candidate is inner end third inside in_middle is_arm);
       found = λ inner end third inside in_middle is_arm needed more. subst (λ (list : List Candidate). IsAmong list (length old) inner) (sym (pushed more)) (among-pushed old candidate inner inside);
     }
+
+-- nothing is kept of places of which no arm is of use
+sifts-none : (fixes : List Fix) (allowed : Ends) (middle : ℕ × ℕ) (need : ℕ) (kind : ℕ → Type 0) (list : List Candidate) (arm : Arm) → IsTop fixes allowed middle arm
+    → ((inner end third : ℕ) → kind inner → IsPlaceOf middle third → IsArm fixes allowed third inner end → need ≤ arm_length fixes third inner end
+    → (arm_length fixes third inner end < arm.most) × (middle.0 < middle.1 → ⊥))
+    → Sifts fixes allowed middle need kind list list arm.most arm
+sifts-none fixes allowed middle need kind list arm top useless = record {
+  grows = grows-none fixes allowed middle list;
+  top = top;
+  raised = omega arith;
+  shorter = λ inner end third is_kind in_middle is_arm needed. (useless inner end third is_kind in_middle is_arm needed).0;
+  found = λ inner end third is_kind in_middle is_arm needed wide. absurd ((useless inner end third is_kind in_middle is_arm needed).1 wide);
+}
+
+none-past : (side : Side) (span middle : ℕ × ℕ) (inner third : ℕ) → IsPast side span middle → IsPlaceOf span inner → IsPlaceOf middle third → Stands side inner third → ⊥
+none-past Before span middle inner third past inside in_middle stands = absurd (omega (arith, inside.0, in_middle.1))
+none-past After span middle inner third past inside in_middle stands = absurd (omega (arith, inside.1, in_middle.0))
+
+-- a span that lies past the middle
+pub sifts-past : (fixes : List Fix) (allowed : Ends) (middle span : ℕ × ℕ) (need : ℕ) (list : List Candidate) (arm : Arm) → IsTop fixes allowed middle arm → IsPast allowed.side span middle
+    → Sifts fixes allowed middle need (IsPlaceOf span) list list arm.most arm
+sifts-past fixes allowed middle span need list arm top past =
+    sifts-none fixes allowed middle need (IsPlaceOf span) list arm top
+    (λ inner end third inside in_middle is_arm needed. absurd (none-past allowed.side span middle inner third past inside in_middle is_arm.stands))
+
+-- a span with no end, or none whose legs are above the limit
+pub sifts-low : (fixes : List Fix) (allowed : Ends) (middle span : ℕ × ℕ) (need limit beyond most : ℕ) (list : List Candidate) (arm : Arm) → IsTop fixes allowed middle arm
+    → IsBeyond fixes allowed span beyond → IsMost (leg fixes) span middle most → (beyond ≡ 0) ⊎ (beyond + most ≤ limit) → limit ≤ max need arm.most → (middle.0 < middle.1 → limit ≡ need)
+    → Sifts fixes allowed middle need (IsPlaceOf span) list list arm.most arm
+sifts-low fixes allowed middle span need limit beyond most list arm top above legs low limited wide =
+    sifts-none fixes allowed middle need (IsPlaceOf span) list arm top (λ inner end third inside in_middle is_arm needed.
+    let far = above end inner inside is_arm.is_end in
+    let near = legs.at_most inner third inside in_middle in
+    ⊎_elim
+    (λ (none : beyond ≡ 0). absurd (omega (arith, far)))
+    (λ (less : beyond + most ≤ limit). (omega (arith, far, near, needed, limited), λ more. absurd (omega (arith, far, near, needed, wide more))))
+    low)
+
+-- a candidate whose legs are no longer than the need
+pub sifts-less : (fixes : List Fix) (allowed : Ends) (middle : ℕ × ℕ) (need : ℕ) (candidate : Candidate) (list : List Candidate) (arm : Arm) → IsTop fixes allowed middle arm
+    → IsCandidate fixes allowed middle candidate → candidate.most ≤ need → Sifts fixes allowed middle need (IsPlaceOf (ends candidate.span)) list list arm.most arm
+sifts-less fixes allowed middle need candidate list arm top is less =
+    sifts-none fixes allowed middle need (IsPlaceOf (ends candidate.span)) list arm top
+    (λ inner end third inside in_middle is_arm needed. absurd (omega (arith, short-candidate fixes allowed middle candidate is inner end third inside in_middle is_arm, needed)))
+
+-- what is known stays where only candidates were added
+pub flank-kept : (fixes : List Fix) (old new : Flank) → new.known ≡ old.known → IsFlank fixes old → IsFlank fixes new
+flank-kept fixes old new same is = record {
+  few = is.few;
+  sized = ap (λ (known : Vec Known Global). length known.items) same ∙ is.sized;
+  known = subst (λ (known : Vec Known Global). All (IsKnown fixes) known.items) (sym same) is.known;
+}
 
 -- places of a kind are gone over in two parts
 pub sifts-parts : (fixes : List Fix) (allowed : Ends) (middle : ℕ × ℕ) (need : ℕ) (kind one other : ℕ → Type 0) (old between new : List Candidate) (least : ℕ) (first second : Arm)

@@ -94,6 +94,25 @@ fn farthest_ends(
     Ok(ends)
 }
 
+/// The farthest end from each fix, by a tree over the ends that are allowed. The only error is want
+/// of memory.
+fn farthest_allowed(
+    alloc: Global,
+    hulls: &Hulls,
+    by_place: &ByPlace,
+    allowed: &Ends,
+) -> Result<Vec<Far>, AllocError>
+    requires some { 0 < length hulls.now }
+    requires few { length hulls.now ≤ 90_000 }
+    requires order { IsByPlace hulls.now by_place.now }
+    ensures long { IfOk result (λ ends. length ends.items ≡ length hulls.now) }
+    ensures farthest { IfOk result (λ ends. AreFarthest hulls.now allowed.now ends.items) }
+{
+    let starts = ways_of_ends(alloc, hulls, allowed)?;
+    let tree = Tree::new(alloc, hulls, by_place, starts)?;
+    farthest_ends(alloc, hulls, by_place, allowed, &tree)
+}
+
 /// The ways of one leg. The only error is want of memory.
 fn ways_by(alloc: Global, ends: &Vec<Far>) -> Result<Vec<u64>, AllocError>
     requires { length ends.now.items ≤ 90_000 }
@@ -121,9 +140,7 @@ impl Half {
         ensures half { IfOk result (IsHalf hulls.now by_place.now) }
         ensures allowed { IfOk result (λ half. half.allowed ≡ allowed.now) }
     {
-        let starts = ways_of_ends(alloc, hulls, allowed)?;
-        let first = Tree::new(alloc, hulls, by_place, starts)?;
-        let ends = farthest_ends(alloc, hulls, by_place, allowed, &first)?;
+        let ends = farthest_allowed(alloc, hulls, by_place, allowed)?;
         let ways = ways_by(alloc, &ends)?;
         let tree = Tree::new(alloc, hulls, by_place, ways)?;
         Ok(Half {

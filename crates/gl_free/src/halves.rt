@@ -1,5 +1,6 @@
 ghost use Rattle.std.specs.Prelude.{◌≡◌, ◌-◌, ◌<◌, ◌≤◌, ◌^◌, IfOk, MatchOption, OnOk, length};
 ghost use Rattle.gl_goal.specs.FreeGoal.{rule_of};
+ghost use Rattle.gl_places.specs.ByPlace.{IsByPlace};
 ghost use Rattle.gl_free.specs.Code.Halves.{AreAmong, AreHalves, AreLongest};
 ghost use Rattle.gl_free.specs.Code.Search.{AreSides, IsBetter, IsOver, IsValid};
 
@@ -21,6 +22,24 @@ pub(crate) struct Halves {
 }
 
 impl Halves {
+    /// Both sides, with the ends that are allowed there. The only error is want of memory.
+    fn new(
+        alloc: Global,
+        hulls: &Hulls,
+        by_place: &ByPlace,
+        sides: &Sides,
+    ) -> Result<Halves, AllocError>
+        requires some { 0 < length hulls.now }
+        requires few { length hulls.now ≤ 90_000 }
+        requires order { IsByPlace hulls.now by_place.now }
+        ensures { IfOk result (AreHalves hulls.now by_place.now sides.now) }
+    {
+        Ok(Halves {
+            before: Half::new(alloc, hulls, by_place, &sides.before)?,
+            after: Half::new(alloc, hulls, by_place, &sides.after)?,
+        })
+    }
+
     /// The longest arms to a middle fix, if they may be worth more together than what was found.
     fn arms(
         &self,
@@ -144,9 +163,6 @@ pub(crate) fn search_by_place(
 {
     let hulls = goal.hulls();
     let by_place = ByPlace::new(alloc, hulls)?;
-    let halves = Halves {
-        before: Half::new(alloc, hulls, &by_place, &sides.before)?,
-        after: Half::new(alloc, hulls, &by_place, &sides.after)?,
-    };
+    let halves = Halves::new(alloc, hulls, &by_place, sides)?;
     Ok(halves.middles(goal, &by_place, sides, best))
 }

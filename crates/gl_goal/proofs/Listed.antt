@@ -3,8 +3,8 @@ use Rattle.std.proofs.Common.{◌≡◌, ◌∙◌, sym, ap, refl, subst, ℕ, z
 use Rattle.std.specs.Prelude.{All}
 use Rattle.std.specs.Arc.{arc_value}
 use Rattle.std.specs.List.Sorted.{IsStrictlyIncreasing}
-use Rattle.std.proofs.lemmas.List.{drop_more, get_or-map, length-append, length-map, map-append, take_more}
-use Rattle.std.proofs.lemmas.List.Elements.{All-append, All-tail}
+use Rattle.std.proofs.lemmas.List.{append-nil, drop_more, get_or-map, get_or_default, length-append, length-map, map-append, take_more}
+use Rattle.std.proofs.lemmas.List.Elements.{All-append, All-nil, All-tail}
 use Rattle.std.proofs.lemmas.Option.{get_or_from_slice_get, slice_get-get_or, slice_get_within}
 use Rattle.gl_sphere.specs.declared.place.Vec3.{Vec3}
 use Rattle.gl_igc.specs.declared.fix.Fix.{Fix}
@@ -64,6 +64,23 @@ listed_of fixes axes = record { fixes = fixes; lists = lists_of axes }
 pub listed-axis : (fixes : List Fix) (axes : List Axis) (listed : Listed) (k : ℕ) → listed_of fixes axes ≡ listed → k < length listed.lists → k < length axes
 listed-axis fixes axes listed k same below =
     omega (arith, ap (λ (l : Listed). length l.lists) same, length-map axes (λ (a : Axis). a.numbers.items))
+
+pub listed-count : (fixes : List Fix) (axes : List Axis) (listed : Listed) → listed_of fixes axes ≡ listed → length axes ≡ length listed.lists
+listed-count fixes axes listed same =
+    sym (length-map axes (λ (a : Axis). a.numbers.items)) ∙ ap (λ (l : Listed). length l.lists) same
+
+-- the numbers of an axis that is read, as contracts see them
+pub listed-list : (fixes : List Fix) (axes : List Axis) (listed : Listed) (k : ℕ) (axis : Axis) → listed_of fixes axes ≡ listed → axis ≡ get_or axes k axis → k < length listed.lists
+    → get_or listed.lists k [] ≡ axis.numbers.items
+listed-list fixes axes listed k axis same is below =
+    ap (λ (l : Listed). get_or l.lists k []) (sym same) ∙ axis-list axes k axis is (listed-axis fixes axes listed k same below)
+
+pub listed-number : (fixes : List Fix) (axes : List Axis) (listed : Listed) (k : ℕ) (axis : Axis) (place number : ℕ) → listed_of fixes axes ≡ listed → axis ≡ get_or axes k axis
+    → k < length listed.lists → place < length (get_or listed.lists k []) → number ≡ get_or axis.numbers.items place number → number ≡ fix_at listed.lists k place
+listed-number fixes axes listed k axis place number same is below inside number_is =
+    let list = listed-list fixes axes listed k axis same is below in
+    let within : place < length axis.numbers.items = omega (arith, ap length list) in
+    number_is ∙ get_or_default axis.numbers.items place number 0 within ∙ ap (λ (numbers : List ℕ). get_or numbers place 0) (sym list)
 
 pub listed-lists : (fixes : List Fix) (axes : List Axis) (listed : Listed) → listed_of fixes axes ≡ listed → AreHulled fixes axes → AreLists listed.fixes listed.lists
 listed-lists fixes axes listed same are =
@@ -343,3 +360,21 @@ pub hulled-more : (fixes : List Fix) (axes pushed : List Axis) (axis : Axis) →
 hulled-more fixes axes pushed axis is all one =
     let P : List Axis → Type 0 = All (IsHulled fixes) in
     subst P (sym is) (All-append (IsHulled fixes) axes (axis ∷ []) all (single-hulled fixes axis one))
+
+-- the axes before any list was taken
+pub none-taken : {V : Type 0} (f : V → List ℕ) (axes : List Axis) (old all : List V) → axes ≡ [] → old ≡ all → lists_of axes ++ map f old ≡ map f all
+none-taken f axes old all none same = ap (λ (list : List Axis). lists_of list ++ map f old) none ∙ ap (map f) same
+
+pub none-hulled : (fixes : List Fix) (axes : List Axis) → axes ≡ [] → All (IsHulled fixes) axes
+none-hulled fixes axes none = let P : List Axis → Type 0 = All (IsHulled fixes) in subst P (sym none) (All-nil (IsHulled fixes))
+
+-- the axes once each list was taken
+pub all-taken : {V : Type 0} (f : V → List ℕ) (axes : List Axis) (old : List V) (all : List (List ℕ)) → old ≡ [] → lists_of axes ++ map f old ≡ all → lists_of axes ≡ all
+all-taken f axes old all none is =
+    sym (append-nil (lists_of axes)) ∙ ap (λ vs. lists_of axes ++ map f vs) (sym none) ∙ is
+
+pub all-hulled : (fixes kept : List Fix) (axes : List Axis) (lists : List (List ℕ)) → length fixes ≤ 90_000 → kept ≡ fixes → lists_of axes ≡ lists → AreLists fixes lists → All (IsHulled fixes) axes
+    → AreHulled kept axes
+all-hulled fixes kept axes lists most same lists_are are hulled =
+    let P : List Fix → Type 0 = λ fs. AreHulled fs axes in
+    subst P (sym same) (record { most_fixes = most; lists = subst (AreLists fixes) (sym lists_are) are; hulled = hulled })

@@ -4,7 +4,7 @@ use crate::outlanding::OutGoal;
 use crate::triangle::TriangleGoal;
 
 /// A goal of any of the kinds that a flight can be asked for.
-#[derive(Debug, Drop)]
+#[derive(Drop)]
 pub enum AnyGoal {
     Area(AreaGoal),
     Out(OutGoal),

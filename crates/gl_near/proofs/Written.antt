@@ -1,14 +1,23 @@
 -- A text that grows piece by piece.
-use Rattle.std.proofs.Common.{◌≡◌, ◌∙◌, sym, ap, refl, Option, ℕ, ◌+◌, ◌<◌, List, [], ◌∷◌, ◌++◌, length, get_or, take, map, append_assoc, arith}
+use Rattle.std.proofs.Common.{◌≡◌, ◌∙◌, sym, ap, refl, subst, Result, Ok, Err, Option, ℕ, ◌+◌, ◌<◌, List, [], ◌∷◌, ◌++◌, length, get_or, take, map, append_assoc, arith}
 use Rattle.std.proofs.lemmas.List.{append-nil, get_or-map, length-map}
 use Rattle.std.proofs.lemmas.List.Concat.{flat_map-append}
+use Rattle.std.proofs.lemmas.List.Elements.{All-cons, All-nil}
+use Rattle.std.specs.Fmt.{decimal}
+use Rattle.std.specs.Prelude.{codes, OnErr}
+use Rattle.gl_box.specs.Cell.{ends, spans_of}
 use Rattle.gl_box.specs.Halves.{span_at}
+use Rattle.gl_box.specs.declared.cell.Cell.{Cell}
+use Rattle.gl_box.specs.declared.span.Span.{Span}
+use Rattle.gl_box.proofs.Spans.{length-spans_of, span_at-spans_of}
+use Rattle.gl_lines.specs.Kept.{Keeps}
+use Rattle.gl_lines.specs.Words.{IsSpan, span_word, total_word}
 use Rattle.gl_lines.proofs.Pieces.{pieces_more}
 use Rattle.gl_near.specs.declared.found.NearBest.{NearBest}
 use Rattle.gl_near.specs.declared.found.NearClosed.{NearClosed}
 use Rattle.gl_near.specs.declared.found.NearWhy.{NearWhy}
 use Rattle.gl_near.specs.Certificate.{box_of}
-use Rattle.gl_near.specs.Line.{EndLine, HeadingLine, Line, box_line, ended, front_lines, near_text, spelled}
+use Rattle.gl_near.specs.Line.{AreTwoSpans, BoxLine, EndLine, HeadingLine, LeastLine, Line, PairLine, box_line, ended, front_lines, near_text, reason_word, spelled}
 
 -- one box more
 pub box_more : (before was now : List ℕ) (boxes : List NearClosed) (i : ℕ) (closed : NearClosed) → i < length boxes → closed ≡ get_or boxes i closed
@@ -43,3 +52,51 @@ claim_written before a b d all best boxes one two three four =
     ∙ append_assoc (before ++ ended HeadingLine) (spelled front) (spelled lines ++ ended EndLine)
     ∙ append_assoc before (ended HeadingLine) (spelled front ++ (spelled lines ++ ended EndLine))
     ∙ ap (λ (l : List ℕ). before ++ (ended HeadingLine ++ l)) (sym tail)
+
+-- the spans of a box
+pub box_spans : (cell : Cell) (a b : Span) → cell.axes ≡ 2 → spans_of cell ≡ ends (get_or cell.spans 0 a) ∷ ends (get_or cell.spans 1 b) ∷ []
+box_spans cell a b axes =
+    two (spans_of cell) (length-spans_of cell ∙ axes) ∙ (λ i. span_at-spans_of cell 0 a (omega arith) i ∷ span_at-spans_of cell 1 b (omega arith) i ∷ [])
+
+pub two_spans : (cell : Cell) (one other : ℕ × ℕ) → spans_of cell ≡ one ∷ other ∷ [] → IsSpan one → IsSpan other → AreTwoSpans (spans_of cell)
+two_spans cell one other are first second =
+    subst AreTwoSpans (sym are) (record { two = refl; each = All-cons IsSpan one (other ∷ []) first (All-cons IsSpan other [] second (All-nil IsSpan)) })
+
+-- what is put behind a text, piece by piece
+pieces : (before front one other last : List ℕ) → (((before ++ front) ++ one) ++ other) ++ last ≡ before ++ ((front ++ (one ++ (other ++ []))) ++ last)
+pieces before front one other last = simp (append_assoc, append-nil)
+
+two_pieces : (before front one last : List ℕ) → ((before ++ front) ++ one) ++ last ≡ before ++ ((front ++ (one ++ [])) ++ last)
+two_pieces before front one last = simp (append_assoc, append-nil)
+
+-- the line of a box, piece by piece
+pub box_written : (before a b d all : List ℕ) (why : NearWhy) (one other : ℕ × ℕ) (spans : List (ℕ × ℕ)) → spans ≡ one ∷ other ∷ [] → a ≡ before ++ (codes "BOX" ++ 32 ∷ reason_word why)
+    → b ≡ a ++ 32 ∷ span_word one → d ≡ b ++ 32 ∷ span_word other → all ≡ d ++ 10 ∷ [] → all ≡ before ++ ended (BoxLine why spans)
+box_written before a b d all why one other spans are first second third fourth =
+    fourth
+    ∙ ap (λ (l : List ℕ). l ++ 10 ∷ []) (third ∙ ap (λ (l : List ℕ). l ++ 32 ∷ span_word other) (second ∙ ap (λ (l : List ℕ). l ++ 32 ∷ span_word one) first))
+    ∙ pieces before (codes "BOX" ++ 32 ∷ reason_word why) (32 ∷ span_word one) (32 ∷ span_word other) (10 ∷ [])
+    ∙ ap (λ (s : List (ℕ × ℕ)). before ++ ended (BoxLine why s)) (sym are)
+
+-- the line of a pair, piece by piece
+pub pair_written : (before a b d all : List ℕ) (first second : ℕ) → a ≡ before ++ codes "PAIR" → b ≡ a ++ 32 ∷ decimal first → d ≡ b ++ 32 ∷ decimal second → all ≡ d ++ 10 ∷ []
+    → all ≡ before ++ ended (PairLine first second)
+pair_written before a b d all first second one two_is three four =
+    four
+    ∙ ap (λ (l : List ℕ). l ++ 10 ∷ []) (three ∙ ap (λ (l : List ℕ). l ++ 32 ∷ decimal second) (two_is ∙ ap (λ (l : List ℕ). l ++ 32 ∷ decimal first) one))
+    ∙ pieces before (codes "PAIR") (32 ∷ decimal first) (32 ∷ decimal second) (10 ∷ [])
+
+-- the line of a least distance, piece by piece
+pub least_written : (before a b all : List ℕ) (total : Option ℕ) → a ≡ before ++ codes "LEAST" → b ≡ a ++ 32 ∷ total_word total → all ≡ b ++ 10 ∷ [] → all ≡ before ++ ended (LeastLine total)
+least_written before a b all total one two_is three =
+    three
+    ∙ ap (λ (l : List ℕ). l ++ 10 ∷ []) (two_is ∙ ap (λ (l : List ℕ). l ++ 32 ∷ total_word total) one)
+    ∙ two_pieces before (codes "LEAST") (32 ∷ total_word total) (10 ∷ [])
+
+pub keeps_same : (before after : List ℕ) → after ≡ before → Keeps before after
+keeps_same before after is = ([], is ∙ sym (append-nil before))
+
+-- what holds at any end holds at an error
+pub at_err : {T E : Type 0} (result : Result T E) (P : Type 0) → P → OnErr result P
+at_err (Ok x) P holds = tt
+at_err (Err e) P holds = holds

@@ -16,3 +16,6 @@ returns-clause-flank c =
 
 pub returns-clause-farthest : goal.returns-clause-farthest
 returns-clause-farthest c = c.farthest-far.ensures
+
+pub returns-then-eq-2-clause-flank : goal.returns-then-eq-2-clause-flank
+returns-then-eq-2-clause-flank c = c.requires.flank

@@ -1,4 +1,4 @@
-use Rattle.std.proofs.Common.{inl, inr, ⊎_elim}
+use Rattle.std.proofs.Common.{inl, inr, ⊎_elim, arith}
 use Rattle.gl_box.specs.Cell.{ends}
 use Rattle.gl_free.specs.Code.Ways.{IsThere}
 use Rattle.gl_free.proofs.WayLemmas.{beaten-above, lengthens-none, lengthens-parts, there-parts}
@@ -31,3 +31,61 @@ returns-else-low-high t c =
     (IsThere numbers upper) c.args.found.now c.search-else-low-high.new.found c.search-else-low-high-2.new.found
     (λ from there. there-parts numbers (ends c.args.span) lower upper from c.halves.ensures.first c.halves.ensures.next c.halves.ensures.last there)
     c.search-else-low-high.ensures c.search-else-low-high-2.ensures
+
+pub scan-requires-clause-tree : goal.scan-requires-clause-tree
+scan-requires-clause-tree t c = c.requires.tree
+
+pub scan-requires-clause-target : goal.scan-requires-clause-target
+scan-requires-clause-target t c = c.requires.target
+
+pub scan-requires-clause-inside : goal.scan-requires-clause-inside
+scan-requires-clause-inside t c = c.requires.inside
+
+pub scan-requires-clause-known : goal.scan-requires-clause-known
+scan-requires-clause-known t c = c.requires.known
+
+pub returns-then-width-lt-FEW : goal.returns-then-width-lt-FEW
+returns-then-width-lt-FEW t c = c.scan.ensures
+
+pub most_of-low-requires-clause-tree : goal.most_of-low-requires-clause-tree
+most_of-low-requires-clause-tree t c = c.requires.tree
+
+pub most_of-low-requires-clause-target : goal.most_of-low-requires-clause-target
+most_of-low-requires-clause-target t c = c.requires.target
+
+pub most_of-high-requires-clause-tree : goal.most_of-high-requires-clause-tree
+most_of-high-requires-clause-tree t c = c.requires.tree
+
+pub most_of-high-requires-clause-target : goal.most_of-high-requires-clause-target
+most_of-high-requires-clause-target t c = c.requires.target
+
+pub search-requires : goal.search-requires
+search-requires t c =
+    let halves = c.halves.ensures in (
+      omega (arith, halves.first, halves.next, halves.last, c.halves.result.0.ordered),
+      (c.requires.tree, (c.requires.target, (omega (arith, halves.last, c.requires.inside), (c.most_of-high.ensures, c.requires.known)))),
+    )
+
+pub search-requires-then-low-high : goal.search-requires-then-low-high
+search-requires-then-low-high t c =
+    let halves = c.halves.ensures in (
+      omega (arith, halves.first, halves.next, halves.last, c.halves.result.1.ordered),
+      (
+        c.requires.tree,
+        (c.requires.target, (omega (arith, halves.next, halves.last, c.halves.result.1.ordered, c.requires.inside), (c.most_of-low.ensures, c.search.ensures.known))),
+      ),
+    )
+
+pub search-requires-else-low-high : goal.search-requires-else-low-high
+search-requires-else-low-high t c =
+    let halves = c.halves.ensures in (
+      omega (arith, halves.first, halves.next, halves.last, c.halves.result.1.ordered),
+      (c.requires.tree, (c.requires.target, (omega (arith, halves.next, halves.last, c.halves.result.1.ordered, c.requires.inside), (c.most_of-low.ensures, c.requires.known)))),
+    )
+
+pub search-requires-else-low-high-2 : goal.search-requires-else-low-high-2
+search-requires-else-low-high-2 t c =
+    let halves = c.halves.ensures in (
+      omega (arith, halves.first, halves.next, halves.last, c.halves.result.0.ordered),
+      (c.requires.tree, (c.requires.target, (omega (arith, halves.last, c.requires.inside), (c.most_of-high.ensures, c.search-else-low-high.ensures.known)))),
+    )

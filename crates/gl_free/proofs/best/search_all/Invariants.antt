@@ -2,7 +2,7 @@ use Rattle.std.specs.Prelude.{sum_by}
 use Rattle.gl_goal.specs.FreeGoal.{rule_of}
 use Rattle.gl_free.specs.Code.Ranges.{AreLeft, turns_of}
 use Rattle.gl_free.specs.Code.Search.{AreFlanks, IsValid}
-use Rattle.gl_free.proofs.best.best_free_after.Given as goal
+use Rattle.gl_free.proofs.best.search_all.Given as goal
 
 abbrev pub invariant-loop-range : goal.invariant-loop-range
 invariant-loop-range l = record {
