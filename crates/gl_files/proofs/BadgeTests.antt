@@ -10,7 +10,7 @@ use Rattle.gl_files.specs.declared.halt.Halt.{Halt}
 use Rattle.gl_files.specs.declared.halt.Halt.TheVariants.{Refused, Stopped}
 use Rattle.gl_files.specs.declared.refusal.Refusal.{Refusal}
 use Rattle.gl_files.specs.BadgeFiles.{AreBadgeCheckRead, IsBadgeRead, IsBadgeSeen, badge_check_tests, badge_tests}
-use Rattle.gl_files.specs.Code.FileTests.{AreNeeded, HasReadFile, IsNeeded, IsUnused}
+use Rattle.gl_files.specs.Code.FileTests.{HasReadFile, IsNeeded, IsUnused}
 use Rattle.gl_files.specs.FileTests.{HasTested, IsProofOfText, IsRecordingOf, ProofText, RecordingText, most_proof_bytes, text_tests}
 use Rattle.gl_files.proofs.DayTests.{is_listed, not_listed, seen_some}
 use Rattle.gl_files.proofs.FileTests.{all_pass, fails_behind, fails_in_front, some_text_fails, some_text_passes}
@@ -56,7 +56,7 @@ badge_tested folder names words (Err (Refused refusal)) lists new (seen, is, fai
 badge_tested folder names words (Err (Stopped stop)) lists new read = tt
 
 -- `badgecheck`: the recording isn't listed
-check_flight_missing : (folder : Option FilesByName) (names : List (List ℕ)) (words : BadgeWords) (halt : Halt) → ListsNames folder names → IsNeeded names words.flight (Err halt)
+pub check_flight_missing : (folder : Option FilesByName) (names : List (List ℕ)) (words : BadgeWords) (halt : Halt) → ListsNames folder names → IsNeeded names words.flight (Err halt)
     → HasTested (IsBadgeSeen words folder) (badge_check_tests words) AreBadgeCheckRead (Err halt)
 check_flight_missing folder names words (Refused refusal) lists (none, same) =
     let proof = seen_some folder words.proof in (
@@ -67,7 +67,7 @@ check_flight_missing folder names words (Refused refusal) lists (none, same) =
 check_flight_missing folder names words (Stopped stop) lists needed = tt
 
 -- it is, and the proof isn't
-proof_missing : (folder : Option FilesByName) (names : List (List ℕ)) (words : BadgeWords) (halt : Halt) → ListsNames folder names → HasFile folder words.flight
+pub proof_missing : (folder : Option FilesByName) (names : List (List ℕ)) (words : BadgeWords) (halt : Halt) → ListsNames folder names → HasFile folder words.flight
     → IsNeeded names words.proof (Err halt) → HasTested (IsBadgeSeen words folder) (badge_check_tests words) AreBadgeCheckRead (Err halt)
 proof_missing folder names words (Refused refusal) lists flight (none, same) =
     let bytes = is_listed folder words.flight flight in (
@@ -76,12 +76,6 @@ proof_missing folder names words (Refused refusal) lists flight (none, same) =
       inr (refl, inl (ap (λ (r : Refusal). r.file) same, (refl, ap (λ (r : Refusal). r.cause) same))),
     )
 proof_missing folder names words (Stopped stop) lists flight needed = tt
-
--- one of them isn't
-pub check_file_missing : (folder : Option FilesByName) (names : List (List ℕ)) (words : BadgeWords) (halt : Halt) → ListsNames folder names
-    → AreNeeded names words.flight words.proof (Err halt) → HasTested (IsBadgeSeen words folder) (badge_check_tests words) AreBadgeCheckRead (Err halt)
-check_file_missing folder names words halt lists (inl flight) = check_flight_missing folder names words halt lists flight
-check_file_missing folder names words halt lists (inr (flight, proof)) = proof_missing folder names words halt lists (HasFile-from_names folder names words.flight lists flight) proof
 
 -- both are, and the recording was refused
 pub flight_refused : (folder : Option FilesByName) (words : BadgeWords) (halt : Halt) → HasFile folder words.proof

@@ -21,7 +21,7 @@ use Rattle.gl_files.specs.declared.halt.Halt.TheVariants.{Refused, Stopped}
 use Rattle.gl_files.specs.declared.refusal.Refusal.{Refusal}
 use Rattle.gl_files.specs.DayFiles.{IsAirspaceRead, IsAirspaceSeen, IsCheckRead, IsDayRead, IsScoreRead, IsScoreSeen, IsTaskSeen, airspace_file, airspace_tests, check_tests, named_airspace, score_tests, task_tests}
 use Rattle.gl_files.specs.FileTests.{AirspaceText, HasTested, IsProofOfText, ProofText, Reads, TaskText, text_tests}
-use Rattle.gl_files.specs.Code.FileTests.{AreNeeded, HasReadFile, IsNeeded, IsUnused}
+use Rattle.gl_files.specs.Code.FileTests.{HasReadFile, IsNeeded, IsUnused}
 use Rattle.gl_files.proofs.FileTests.{all_pass, fails_behind, fails_in_front, small_fails, small_passes, some_text_fails, some_text_passes}
 use Rattle.gl_desk.proofs.DeskLemmas.{HasFile-from_names}
 
@@ -136,7 +136,7 @@ score_task_missing folder names day (Refused refusal) lists (none, same) =
     )
 score_task_missing folder names day (Stopped stop) lists needed = tt
 
-check_task_missing : (most : ℕ) (folder : Option FilesByName) (names : List (List ℕ)) (day : DayNames) (halt : Halt) → ListsNames folder names → IsNeeded names day.task (Err halt)
+pub check_task_missing : (most : ℕ) (folder : Option FilesByName) (names : List (List ℕ)) (day : DayNames) (halt : Halt) → ListsNames folder names → IsNeeded names day.task (Err halt)
     → HasTested (IsScoreSeen day folder) (check_tests most day) IsCheckRead (Err halt)
 check_task_missing most folder names day (Refused refusal) lists (none, same) =
     let proof = seen_some folder day.proof in (
@@ -160,7 +160,7 @@ score_proof_listed folder names day (Refused refusal) lists task (listed, same) 
 score_proof_listed folder names day (Stopped stop) lists task used = tt
 
 -- the task is listed, and the proof of `check` isn't
-check_proof_missing : (most : ℕ) (folder : Option FilesByName) (names : List (List ℕ)) (day : DayNames) (halt : Halt) → ListsNames folder names → HasFile folder day.task
+pub check_proof_missing : (most : ℕ) (folder : Option FilesByName) (names : List (List ℕ)) (day : DayNames) (halt : Halt) → ListsNames folder names → HasFile folder day.task
     → IsNeeded names day.proof (Err halt)
     → HasTested (IsScoreSeen day folder) (check_tests most day) IsCheckRead (Err halt)
 check_proof_missing most folder names day (Refused refusal) lists task (none, same) =
@@ -171,12 +171,6 @@ check_proof_missing most folder names day (Refused refusal) lists task (none, sa
       inr (refl, inl (ap (λ (r : Refusal). r.file) same, (refl, ap (λ (r : Refusal). r.cause) same))),
     )
 check_proof_missing most folder names day (Stopped stop) lists task needed = tt
-
--- one of the two files of `check` isn't listed
-pub check_file_missing : (most : ℕ) (folder : Option FilesByName) (names : List (List ℕ)) (day : DayNames) (halt : Halt) → ListsNames folder names
-    → AreNeeded names day.task day.proof (Err halt) → HasTested (IsScoreSeen day folder) (check_tests most day) IsCheckRead (Err halt)
-check_file_missing most folder names day halt lists (inl task) = check_task_missing most folder names day halt lists task
-check_file_missing most folder names day halt lists (inr (task, proof)) = check_proof_missing most folder names day halt lists (HasFile-from_names folder names day.task lists task) proof
 
 -- the task is listed, the proof of `score` isn't, and the day was tested
 pub score_tested : (folder : Option FilesByName) (names : List (List ℕ)) (day : DayNames) (result : Result DayFiles Halt) → ListsNames folder names → ¬ Contains names day.proof

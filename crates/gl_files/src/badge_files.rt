@@ -1,13 +1,11 @@
 ghost use Rattle.gl_desk.specs.Answers.{OnlyReads};
-ghost use Rattle.gl_desk.specs.Desk.{HasFile, ListsNames};
+ghost use Rattle.gl_desk.specs.Desk.{ListsNames};
 ghost use Rattle.gl_words.specs.BadgeWords.{badge_seen};
 ghost use Rattle.gl_files.specs.BadgeFiles.{AreBadgeCheckRead, IsBadgeRead, IsBadgeSeen, badge_check_tests, badge_tests};
 ghost use Rattle.gl_files.specs.FileTests.{HasTested};
 ghost use Rattle.gl_files.specs.Halts.{halt_stop};
 
-use crate::file_tests::{
-    MOST_PROOF_BYTES, need, need_both, need_unlisted, read_proof_file, read_recording,
-};
+use crate::file_tests::{MOST_PROOF_BYTES, need, need_unlisted, read_proof_file, read_recording};
 use crate::halt::Halt;
 use gl_desk::{Desk, Name};
 use gl_igc::Recording;
@@ -35,24 +33,6 @@ pub fn test_badge_files<D: Desk>(
     read_recording(alloc, desk, words.flight, None)
 }
 
-/// The recording and the proof that `badgecheck` needs, where the folder lists their files and
-/// these pass its further tests.
-fn read_badge_check_files<D: Desk>(
-    alloc: Global,
-    desk: &mut D,
-    words: BadgeWords<'_>,
-) -> Result<(Recording, Proof), Halt>
-    requires flight { HasFile (D.told desk.old).folder words.flight.now }
-    requires proof { HasFile (D.told desk.old).folder words.proof.now }
-    ensures tested { HasTested (IsBadgeSeen (badge_seen words.entry) (D.told desk.old).folder)
-        (badge_check_tests (badge_seen words.entry)) AreBadgeCheckRead result }
-    ensures reads { OnlyReads (halt_stop result) (D.told desk.old) (D.told desk.new) }
-{
-    let recording = read_recording(alloc, desk, words.flight, None)?;
-    let proof = read_proof_file(alloc, desk, words.proof, MOST_PROOF_BYTES)?;
-    Ok((recording, proof))
-}
-
 /// The recording and the proof that `badgecheck` needs, where the files pass its tests.
 ///
 /// The tests are made in this order: FILE and PROOF are of the folder's names; FILE has at most
@@ -68,6 +48,9 @@ pub fn test_badge_check_files<D: Desk>(
         (badge_check_tests (badge_seen words.entry)) AreBadgeCheckRead result }
     ensures reads { OnlyReads (halt_stop result) (D.told desk.old) (D.told desk.new) }
 {
-    need_both(names, words.flight, words.proof)?;
-    read_badge_check_files(alloc, desk, words)
+    need(names, words.flight)?;
+    need(names, words.proof)?;
+    let recording = read_recording(alloc, desk, words.flight, None)?;
+    let proof = read_proof_file(alloc, desk, words.proof, MOST_PROOF_BYTES)?;
+    Ok((recording, proof))
 }

@@ -11,7 +11,7 @@ ghost use Rattle.gl_files.specs.Code.FileTests.{HasRead, HasReadFile};
 ghost use Rattle.gl_files.specs.Code.Halts.{IsNoFault};
 ghost use Rattle.gl_files.specs.Halts.{halt_stop};
 
-use crate::file_tests::{need, need_both, need_unlisted, read_bytes, read_proof_file};
+use crate::file_tests::{need, need_unlisted, read_bytes, read_proof_file};
 use crate::halt::{Halt, refusing_for};
 use crate::refusal::Cause;
 use gl_airspace::{AirError, Airspace, empty, read_openair};
@@ -158,27 +158,6 @@ pub fn test_score_files<D: Desk>(
     read_day(alloc, desk, names, day.task)
 }
 
-/// The files that `check` needs, where the folder lists TASK and PROOF and they pass its further
-/// tests.
-fn read_check_files<D: Desk>(
-    alloc: Global,
-    desk: &mut D,
-    names: &[Name],
-    day: DayNames<'_>,
-    most: u64,
-) -> Result<(DayFiles, Proof), Halt>
-    requires names { ListsNames (D.told desk.old).folder names.now }
-    requires task { HasFile (D.told desk.old).folder day.task.now }
-    requires proof { HasFile (D.told desk.old).folder day.proof.now }
-    ensures tested { HasTested (IsScoreSeen (names_seen day.entry) (D.told desk.old).folder)
-        (check_tests most (names_seen day.entry)) IsCheckRead result }
-    ensures reads { OnlyReads (halt_stop result) (D.told desk.old) (D.told desk.new) }
-{
-    let files = read_day(alloc, desk, names, day.task)?;
-    let proof = read_proof_file(alloc, desk, day.proof, most)?;
-    Ok((files, proof))
-}
-
 /// The files that `check` needs, where they pass its tests.
 ///
 /// The tests are made in this order: TASK and PROOF are of the folder's names; then those of TASK
@@ -196,6 +175,9 @@ pub fn test_check_files<D: Desk>(
         (check_tests most (names_seen day.entry)) IsCheckRead result }
     ensures reads { OnlyReads (halt_stop result) (D.told desk.old) (D.told desk.new) }
 {
-    need_both(names, day.task, day.proof)?;
-    read_check_files(alloc, desk, names, day, most)
+    need(names, day.task)?;
+    need(names, day.proof)?;
+    let files = read_day(alloc, desk, names, day.task)?;
+    let proof = read_proof_file(alloc, desk, day.proof, most)?;
+    Ok((files, proof))
 }
