@@ -1,5 +1,5 @@
 -- What a worker does with the cell in its hand, and what it can't.
-use Rattle.std.proofs.Common.{◌≡◌, ◌∙◌, sym, ap, refl, subst, inr, ℕ, ◌<◌, true, false, List, map, arith}
+use Rattle.std.proofs.Common.{◌≡◌, ◌∙◌, sym, ap, refl, subst, inr, ℕ, ◌<◌, Bool, true, false, List, map, arith}
 use Rattle.std.specs.Prelude.{IfSome, IsNone, Option, Some, None, option_map}
 use Rattle.std.specs.Option.{is_some}
 use Rattle.std.proofs.lemmas.Bool.{false≢true}
@@ -11,7 +11,7 @@ use Rattle.gl_box.specs.declared.tuple.Tuple.{Tuple}
 use Rattle.gl_box.specs.Cell.{point, spans_of}
 use Rattle.gl_box.specs.Halves.{IsSingle}
 use Rattle.gl_box.specs.Tuple.{places_of}
-use Rattle.gl_goal.specs.Goal.{Goal, IsLegal, IsOpen, value}
+use Rattle.gl_goal.specs.Goal.{Goal, IsDisordered, IsLegal, IsOpen, value}
 use Rattle.gl_goal.specs.declared.best.Best.{Best}
 use Rattle.gl_plain.specs.declared.worker.Worker as code
 use Rattle.gl_plain.specs.Machine.{Closes, IsFirstReason, Keeps, Tries, Worker, greater}
@@ -21,6 +21,14 @@ use Rattle.gl_box.proofs.Lows.{single_low, point_low}
 held_spans : (worker : code.Worker) (cell : Cell) (spans : List (ℕ × ℕ)) → worker.hand ≡ Some cell → (worker_of worker).hand ≡ Some spans → spans_of cell ≡ spans
 held_spans worker cell spans is held =
     let both : Some (spans_of cell) ≡ Some spans = sym (ap (option_map spans_of) is) ∙ held in cc
+
+-- a cell is open if both tests say no
+pub open_by : (rule : Goal) (cell : List (ℕ × ℕ)) (disordered shut : Bool) → (IsDisordered rule.axes cell → disordered ≡ true) → (rule.shut cell ≡ true → shut ≡ true)
+    → disordered ≡ false → shut ≡ false → IsOpen rule cell
+open_by rule cell disordered shut told told_shut in_order not_shut = record {
+  ordered = λ is. false≢true (sym in_order ∙ told is);
+  not_shut = λ is. false≢true (sym not_shut ∙ told_shut is);
+}
 
 -- an open cell whose bound is above the total, if there is one, is closed by no reason
 pub open_above : (rule : Goal) (most : ℕ) (cell : List (ℕ × ℕ)) → IsOpen rule cell → most < rule.bound cell → (why : Why) → IsFirstReason rule (Some most) cell why → ⊥

@@ -3,7 +3,7 @@ use Rattle.std.proofs.Common.{◌≡◌, ◌∙◌, sym, subst, ℕ, zero, suc, 
 use Rattle.std.specs.Prelude.{All, IfSome, Option, None, Some}
 use Rattle.std.specs.Option.{option_to_list}
 use Rattle.std.proofs.lemmas.List.{append-nil}
-use Rattle.std.proofs.lemmas.List.Elements.{All-push, All-tail}
+use Rattle.std.proofs.lemmas.List.Elements.{All-pop, All-push, All-tail}
 use Rattle.gl_box.specs.declared.span.Span.{Span}
 use Rattle.gl_box.specs.declared.cell.Cell.{Cell}
 use Rattle.gl_box.specs.Cell.{Covers, ends, spans_of}
@@ -51,6 +51,10 @@ within_some rule xs ys None cell within covers is more = subst (AreWithin rule) 
 within_some rule xs ys (Some candidate) cell within covers is more =
     subst (AreWithin rule) (sym more) (All-push (λ (c : Candidate). Covers (whole_cell rule.axes) (spans_of c.cell)) xs candidate within
     (subst (λ (c : Cell). Covers (whole_cell rule.axes) (spans_of c)) (sym is) covers))
+
+-- candidates in the whole cell, and the last of them
+pub within_popped : (rule : Goal) (all rest : List Candidate) (top : Candidate) → all ≡ rest ++ top ∷ [] → AreWithin rule all → AreWithin rule rest × Covers (whole_cell rule.axes) (spans_of top.cell)
+within_popped rule all rest top is within = All-pop (λ (c : Candidate). Covers (whole_cell rule.axes) (spans_of c.cell)) all rest (Some top) is within
 
 -- a cell with the whole span on one axis is still covered
 pub covers-set_whole : (axes : List (List ℕ)) (cell : List (ℕ × ℕ)) (axis : ℕ) → Covers (whole_cell axes) cell → axis < length axes

@@ -4,7 +4,7 @@ use Rattle.std.proofs.lemmas.Bool.{false≢true}
 use Rattle.gl_box.specs.declared.closed.Why.{Why}
 use Rattle.gl_box.specs.Cell.{spans_of}
 use Rattle.gl_plain.specs.Machine.{IsFirstReason}
-use Rattle.gl_plain.proofs.Kept.{open_above, open_alone}
+use Rattle.gl_plain.proofs.Kept.{open_above, open_alone, open_by}
 use Rattle.gl_plain.proofs.worker.reason.Goals as goal
 
 pub returns-then-disordered : goal.returns-then-disordered
@@ -15,12 +15,11 @@ returns-then-shut g c = (λ disordered. false≢true (sym c.if-disordered.false 
 
 pub returns-in-Some : goal.returns-in-Some
 returns-in-Some g c =
-    let bound = (g.G.Goal.rule c.args.goal.now).bound (spans_of c.args.cell.now) in (
-      record {
-        ordered = λ disordered. false≢true (sym c.if-disordered.false ∙ c.disordered.ensures.1 disordered);
-        not_shut = λ shut. false≢true (sym c.if-shut.false ∙ c.shut.ensures.1 shut);
-      },
-      subst (λ (total : Option ℕ). IsSomeAnd total (λ greatest. bound ≤ greatest)) (sym c.in-Some.is) (subst (λ (least : ℕ). least ≤ c.in-Some.total) c.bound.ensures c.if-bound-total.true),
+    let rule = g.G.Goal.rule c.args.goal.now in
+    let cell = spans_of c.args.cell.now in (
+      open_by rule cell c.disordered.result c.shut.result c.disordered.ensures.1 c.shut.ensures.1 c.if-disordered.false c.if-shut.false,
+      subst (λ (total : Option ℕ). IsSomeAnd total (λ greatest. rule.bound cell ≤ greatest)) (sym c.in-Some.is)
+          (subst (λ (least : ℕ). least ≤ c.in-Some.total) c.bound.ensures c.if-bound-total.true),
     )
 
 pub returns-in_default : goal.returns-in_default
@@ -28,17 +27,11 @@ returns-in_default g c =
     let rule = g.G.Goal.rule c.args.goal.now in
     let cell = spans_of c.args.cell.now in
     subst (λ (total : Option ℕ). (why : Why) → IsFirstReason rule total cell why → ⊥) (sym c.in-Some.is)
-    (open_above rule c.in-Some.total cell record {
-      ordered = λ disordered. false≢true (sym c.if-disordered.false ∙ c.disordered.ensures.1 disordered);
-      not_shut = λ shut. false≢true (sym c.if-shut.false ∙ c.shut.ensures.1 shut);
-    } (omega (arith, c.if-bound-total.false, c.bound.ensures)))
+    (open_above rule c.in-Some.total cell (open_by rule cell c.disordered.result c.shut.result c.disordered.ensures.1 c.shut.ensures.1 c.if-disordered.false c.if-shut.false) (omega (arith, c.if-bound-total.false, c.bound.ensures)))
 
 pub returns-in_default-2 : goal.returns-in_default-2
 returns-in_default-2 g c =
     let rule = g.G.Goal.rule c.args.goal.now in
     let cell = spans_of c.args.cell.now in
     subst (λ (total : Option ℕ). (why : Why) → IsFirstReason rule total cell why → ⊥) (sym c.in_default.is)
-    (open_alone rule cell record {
-      ordered = λ disordered. false≢true (sym c.if-disordered.false ∙ c.disordered.ensures.1 disordered);
-      not_shut = λ shut. false≢true (sym c.if-shut.false ∙ c.shut.ensures.1 shut);
-    })
+    (open_alone rule cell (open_by rule cell c.disordered.result c.shut.result c.disordered.ensures.1 c.shut.ensures.1 c.if-disordered.false c.if-shut.false))
