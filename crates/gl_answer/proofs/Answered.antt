@@ -1,6 +1,8 @@
 -- How commands answer, and how they are stopped.
-use Rattle.std.proofs.Common.{◌≡◌, sym, subst, refl, inr, List, [], Result, Ok, Err}
-use Rattle.std.specs.Prelude.{IfOk}
+use Rattle.std.proofs.Common.{◌≡◌, ℕ, sym, subst, refl, inr, List, [], Result, Ok, Err, None, Some, Vec}
+use Rattle.std.specs.Prelude.{IfErr, IfOk}
+use Rattle.std.specs.declared.alloc.AllocError.{AllocError}
+use Rattle.std.specs.declared.alloc.Global.{Global}
 use Rattle.gl_desk.specs.Answers.{OnlyReads, stop_of}
 use Rattle.gl_desk.specs.Desk.{Told}
 use Rattle.gl_desk.specs.declared.error.DeskError.{DeskError}
@@ -8,9 +10,11 @@ use Rattle.gl_desk.specs.declared.error.DeskError.TheVariants.{Failed, Memory}
 use Rattle.gl_files.specs.declared.halt.Halt.{Halt}
 use Rattle.gl_files.specs.declared.halt.Halt.TheVariants.{Refused, Stopped}
 use Rattle.gl_files.specs.FileTests.{FileTest, HasTested}
+use Rattle.gl_files.proofs.ReadsTwice.{reads_twice}
 use Rattle.gl_answer.specs.declared.answer.Answer as code
 use Rattle.gl_answer.specs.declared.status.Status.{Status}
-use Rattle.gl_answer.specs.Answer.{Answer, answer_of, AnswersHalt}
+use Rattle.gl_answer.specs.declared.status.Status.TheVariants.{Done}
+use Rattle.gl_answer.specs.Answer.{Answer, answer_of, AnswersHalt, SaysDone, saying}
 use Rattle.gl_answer.specs.ByTests.{IsByTests}
 use Rattle.gl_answer.specs.Given.{Ends, HasAnswered, Stops}
 use Rattle.gl_answer.specs.Promise.{Promise, reading}
@@ -29,6 +33,28 @@ pub unread_right : (IsRight : Answer → Type 0) (Passes : Type 0) (x : Told) (r
 unread_right IsRight Passes x (Ok answer) right =
     ([], right, record { written = record { appended = (refl, refl, refl); said = refl; faults = refl }; untouched = λ none. (refl, refl) })
 unread_right IsRight Passes x (Err stop) right = tt
+
+-- a text that is right makes a right answer
+pub done_right : (IsRight : Answer → Type 0) (text : Result (Vec ℕ Global) AllocError) (result : Result code.Answer DeskError) → SaysDone text result
+    → IfOk text (λ text. IsRight (saying Done text.items)) → IfOk result (λ answer. IsRight (answer_of answer))
+done_right IsRight (Ok text) (Ok answer) same right = subst IsRight (sym same) right
+done_right IsRight (Ok text) (Err stop) same right = tt
+done_right IsRight (Err error) (Ok answer) same right = absurd same
+done_right IsRight (Err error) (Err stop) same right = tt
+
+-- only want of memory stops an answer that says a text
+pub done_stopped : (text : Result (Vec ℕ Global) AllocError) (result : Result code.Answer DeskError) → SaysDone text result → IfErr result (λ stop. stop ≡ Memory)
+done_stopped (Ok text) (Ok answer) same = tt
+done_stopped (Ok text) (Err stop) same = absurd same
+done_stopped (Err error) (Ok answer) same = absurd same
+done_stopped (Err error) (Err stop) same = same
+
+-- what is made of files that were only read, where only want of memory can stop it, leaves the desk as it is
+pub only_read : (x y z : Told) (result : Result code.Answer DeskError) → OnlyReads None x y → OnlyReads None y z → IfErr result (λ stop. stop ≡ Memory) → OnlyReads (stop_of result) x z
+only_read x y z (Ok answer) one two stopped = reads_twice x y z one two
+only_read x y z (Err stop) one two stopped =
+    let all = reads_twice x y z one two in
+    subst (λ (s : DeskError). OnlyReads (Some s) x z) (sym stopped) (record { folder = all.folder; said = all.said; outputs = all.outputs; faults = all.faults })
 
 -- a run that is stopped ends so
 pub stopped_ends : (promise : Promise) (stop : DeskError) (status : Status) (x z : Told) → status ≡ status_of stop → Stops promise x z → Ends promise status x z

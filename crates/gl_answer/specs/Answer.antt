@@ -1,5 +1,7 @@
 -- An answer of a run.
-use Rattle.std.specs.Prelude.{ℕ, List, [], ◌≡◌, Result, Ok, Err}
+use Rattle.std.specs.Prelude.{ℕ, List, [], ◌≡◌, Result, Ok, Err, Vec}
+use Rattle.std.specs.declared.alloc.AllocError.{AllocError}
+use Rattle.std.specs.declared.alloc.Global.{Global}
 use Rattle.gl_desk.specs.declared.error.DeskError.{DeskError}
 use Rattle.gl_desk.specs.declared.error.DeskError.TheVariants.{Memory}
 use Rattle.gl_files.specs.declared.refusal.Cause.{Cause}
@@ -8,7 +10,7 @@ use Rattle.gl_files.specs.declared.halt.Halt.TheVariants as halt
 use Rattle.gl_files.specs.Refusals.{refusal_line, file_refusal}
 use Rattle.gl_answer.specs.declared.answer.Answer as code
 use Rattle.gl_answer.specs.declared.status.Status.{Status}
-use Rattle.gl_answer.specs.declared.status.Status.TheVariants.{Refused}
+use Rattle.gl_answer.specs.declared.status.Status.TheVariants.{Done, Refused}
 
 -- the status that a run ends with, what it says, and what it appends to the file that its command
 -- writes
@@ -34,9 +36,16 @@ abbrev pub answer_with : code.Answer → List ℕ → Answer
 answer_with answer text =
     record { status = answer.status; said = answer.text.items; appended = text }
 
+-- the answer of a command that was carried out says a text; if there was no memory for the text,
+-- that stops the run
+abbrev pub SaysDone : Result (Vec ℕ Global) AllocError → Result code.Answer DeskError → Type 0
+SaysDone (Ok text) (Ok answer) = answer_of answer ≡ saying Done text.items
+SaysDone (Ok text) (Err stop) = ⊥
+SaysDone (Err error) (Ok answer) = ⊥
+SaysDone (Err error) (Err stop) = stop ≡ Memory
+
 -- the answer to what ended a command before its own: the line of a refusal, or what stopped it;
--- want
--- of memory can come in place of the line
+-- want of memory can come in place of the line
 abbrev pub AnswersHalt : Halt → Result code.Answer DeskError → Type 0
 AnswersHalt (halt.Refused refusal) (Ok answer) =
     answer_of answer ≡ refused refusal.file refusal.cause

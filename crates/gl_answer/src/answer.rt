@@ -1,5 +1,5 @@
 ghost use Rattle.std.specs.Prelude.{◌≡◌, IfOk};
-ghost use Rattle.gl_answer.specs.Answer.{AnswersHalt, answer_of, refused};
+ghost use Rattle.gl_answer.specs.Answer.{AnswersHalt, SaysDone, answer_of, refused};
 
 use crate::status::Status;
 use gl_desk::{DeskError, Name};
@@ -20,6 +20,16 @@ fn refuse(alloc: Global, file: &Name, cause: Cause) -> Result<Answer, AllocError
     Ok(Answer {
         status: Status::Refused,
         text: refusal_line(alloc, file, cause)?,
+    })
+}
+
+/// The answer of a command that was carried out: it says a text, if there was memory for that.
+pub fn done(text: Result<Vec<u8>, AllocError>) -> Result<Answer, DeskError>
+    ensures { SaysDone text result }
+{
+    Ok(Answer {
+        status: Status::Done,
+        text: text?,
     })
 }
 

@@ -1,18 +1,21 @@
 -- The laws of `series`.
-use Rattle.std.proofs.Common.{◌≡◌, ◌≢◌, ◌∙◌, sym, ap, subst, ℕ, inl, inr, true, List, [], ◌∷◌, Option, None, Some}
+use Rattle.std.proofs.Common.{◌≡◌, ◌≢◌, ◌∙◌, sym, ap, subst, refl, ℕ, inl, inr, true, List, [], ◌∷◌, Option, None, Some, Ok, Vec}
+use Rattle.std.specs.declared.alloc.Global.{Global}
 use Rattle.std.specs.List.{AllZip, flat_map}
 use Rattle.gl_desk.specs.Desk.{FilesByName}
 use Rattle.gl_series.specs.SeriesList.{IsLineOf, IsList, day_of}
 use Rattle.gl_series.specs.declared.entry.Entry.{Entry}
 use Rattle.gl_series.specs.declared.entry.Entry.TheVariants.{Day, Team}
+use Rattle.gl_series.specs.declared.day.DaySheet.{DaySheet}
 use Rattle.gl_series.specs.declared.series.Series.{Series}
 use Rattle.gl_words.specs.Words.{SeriesWords}
 use Rattle.gl_text.proofs.Forms.{is_unbroken, is_unbroken-file}
-use Rattle.gl_files.specs.SeriesFiles.{AreDaysSeen, DaySeen, IsDaySeen, IsListRead, IsSeriesSeen, SeriesSeen, day_tests, series_tests}
+use Rattle.gl_files.specs.FileTests.{HasTested}
+use Rattle.gl_files.specs.SeriesFiles.{AreDaysSeen, AreSeriesRead, DaySeen, IsDaySeen, IsListRead, IsSeriesSeen, SeriesSeen, day_tests, series_tests}
 use Rattle.gl_files.proofs.FileTests.{AreNamed, refusal_named}
 use Rattle.gl_answer.specs.declared.status.Status.TheVariants.{Done}
-use Rattle.gl_answer.specs.Answer.{Answer}
-use Rattle.gl_flights.specs.Series.{IsAddedUp, IsSeries, series_promise}
+use Rattle.gl_answer.specs.Answer.{Answer, saying}
+use Rattle.gl_flights.specs.Series.{IsAddedUp, IsSeries, IsStandingText, series_promise}
 use Rattle.gl_answer.specs.Texts.{IsLine}
 use Rattle.gl_answer.proofs.ByTests.{by_tests_passes, by_tests_result}
 use Rattle.gl_answer.proofs.LineTexts.{said_by}
@@ -65,3 +68,10 @@ series_lawful folder words named =
     (by_tests_result (IsSeriesSeen words folder) (series_tests words) (IsAddedUp words) (λ seen answer is. inl (added_done words seen answer is)))
     (by_tests_passes folder (IsSeriesSeen words) (series_tests words) (IsAddedUp words) (λ seen answer is. done_no_refusal answer.status (inl (added_done words seen answer is))))
     (series_line folder words named)
+
+-- the text of the standing is the answer
+pub series_answered : (folder : Option FilesByName) (words : SeriesWords) (series : Series) (sheets : Vec DaySheet Global) (text : List ℕ)
+    → HasTested (IsSeriesSeen words folder) (series_tests words) AreSeriesRead (Ok (series, sheets)) → IsStandingText series sheets.items words.left_out text
+    → IsSeries folder words (saying Done text)
+series_answered folder words series sheets text (seen, is, passes, read) says =
+    (seen, is, inl (passes, (series, read.0, sheets.items, read.1, text, says, refl)))

@@ -1,4 +1,5 @@
 pub mod Best
+pub mod Code
 pub mod Free
 pub mod Near
 pub mod OfFile

@@ -121,8 +121,7 @@ IsNearCheck folder words answer =
     IsByTests (IsNearSeen words folder) (near_check_tests words) (IsNearChecked words) answer
 
 -- A folder in which `near` ended with a result: it has the proof that was appended, of a size that
--- is
--- read, and else the files that it had before.
+-- is read, and else the files that it had before.
 pub record IsNearFolder (files : FilesByName) (words : NearWords) : Type 0 where
   pub before : FilesByName
   pub answer : Answer

@@ -1,8 +1,9 @@
-ghost use Rattle.std.specs.Prelude.{◌≡◌, IfOk};
+ghost use Rattle.std.specs.Prelude.{◌≡◌, IfErr, IfOk};
 ghost use Rattle.gl_desk.specs.Answers.{OnlyReads, stop_of};
 ghost use Rattle.gl_near.specs.Verdict.{IsCheckedAs};
 ghost use Rattle.gl_words.specs.NearWords.{near_seen};
 ghost use Rattle.gl_answer.specs.Answer.{answer_of};
+ghost use Rattle.gl_flights.specs.Code.Near.{IsClaimAnswered};
 ghost use Rattle.gl_flights.specs.Near.{IsNearCheck, box_of_verdict, pairs_of, verdict_answer, word_of_verdict};
 
 use crate::near::pairs_of;
@@ -70,6 +71,21 @@ fn verdict_of(
     check_near(alloc, &pairs, claim)
 }
 
+/// The answer for a claim by two recordings.
+fn answer_claim(
+    alloc: Global,
+    flights: &(Recording, Recording),
+    apart: Apart,
+    claim: &NearClaim,
+) -> Result<Answer, DeskError>
+    ensures right { IfOk result
+        (IsClaimAnswered (pairs_of flights.now apart.seconds) claim.now) }
+    ensures stopped { IfErr result (λ stop. stop ≡ DeskError.Memory) }
+{
+    let verdict = verdict_of(alloc, flights, apart, claim)?;
+    Ok(verdict_answer(alloc, verdict)?)
+}
+
 /// The answer of `nearcheck FILE OTHER SECONDS PROOF`: whether the proof is that of the two
 /// recordings.
 pub fn near_check<D: Desk>(
@@ -83,10 +99,7 @@ pub fn near_check<D: Desk>(
 {
     let names = desk.names(alloc)?;
     match test_near_check_files(alloc, desk, &names, words) {
-        Ok((flights, claim)) => {
-            let verdict = verdict_of(alloc, &flights, words.apart, &claim)?;
-            Ok(verdict_answer(alloc, verdict)?)
-        }
+        Ok((flights, claim)) => answer_claim(alloc, &flights, words.apart, &claim),
         Err(halt) => answer_halt(alloc, halt),
     }
 }

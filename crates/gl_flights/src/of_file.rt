@@ -7,7 +7,7 @@ ghost use Rattle.gl_flights.specs.OfFile.{IsOfFile};
 use crate::free::free_of_recording;
 use crate::near::point_of_recording;
 use crate::triangle::triangle_of_recording;
-use gl_answer::{Answer, Status, answer_halt};
+use gl_answer::{Answer, answer_halt, done};
 use gl_desk::{Desk, DeskError, Name};
 use gl_files::test_flight;
 use gl_igc::Recording;
@@ -53,10 +53,7 @@ pub fn answer_of_file<D: Desk>(
 {
     let names = desk.names(alloc)?;
     match test_flight(alloc, desk, &names, file) {
-        Ok(recording) => Ok(Answer {
-            status: Status::Done,
-            text: text_of_recording(alloc, question, &recording)?,
-        }),
+        Ok(recording) => done(text_of_recording(alloc, question, &recording)),
         Err(halt) => answer_halt(alloc, halt),
     }
 }

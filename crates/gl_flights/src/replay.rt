@@ -6,7 +6,7 @@ ghost use Rattle.gl_flights.specs.Replay.{IsReplay, IsReplayOf, closed_line};
 
 use crate::best::best_lines;
 use crate::free::whole_free_goal;
-use gl_answer::{Answer, Status, answer_halt};
+use gl_answer::{Answer, answer_halt, done};
 use gl_desk::{Desk, DeskError};
 use gl_files::test_replay_files;
 use gl_igc::Recording;
@@ -62,10 +62,12 @@ pub fn replay_schedule<D: Desk>(
 {
     let names = desk.names(alloc)?;
     match test_replay_files(alloc, desk, &names, words) {
-        Ok((recording, steps)) => Ok(Answer {
-            status: Status::Done,
-            text: replay_of_recording(alloc, &recording, words.workers, &steps)?,
-        }),
+        Ok((recording, steps)) => done(replay_of_recording(
+            alloc,
+            &recording,
+            words.workers,
+            &steps,
+        )),
         Err(halt) => answer_halt(alloc, halt),
     }
 }

@@ -6,7 +6,7 @@ ghost use Rattle.gl_words.specs.SeriesWords.{series_seen};
 ghost use Rattle.gl_answer.specs.Answer.{answer_of};
 ghost use Rattle.gl_flights.specs.Series.{IsStandingText, IsSeries as IsRightSeries};
 
-use gl_answer::{Answer, Status, answer_halt};
+use gl_answer::{Answer, answer_halt, done};
 use gl_desk::{Desk, DeskError};
 use gl_files::test_series_files;
 use gl_series::{DaySheet, Series, series_text, totals};
@@ -42,10 +42,7 @@ pub fn series<D: Desk>(
 {
     let names = desk.names(alloc)?;
     match test_series_files(alloc, desk, &names, words) {
-        Ok((series, sheets)) => Ok(Answer {
-            status: Status::Done,
-            text: text_of_standing(alloc, &series, &sheets, words.left_out)?,
-        }),
+        Ok((series, sheets)) => done(text_of_standing(alloc, &series, &sheets, words.left_out)),
         Err(halt) => answer_halt(alloc, halt),
     }
 }

@@ -1,0 +1,2 @@
+-- Definitions of the code alone. No promise to a caller cites them.
+pub mod Near
