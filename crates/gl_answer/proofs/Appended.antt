@@ -1,6 +1,6 @@
 -- Pieces that are appended to a file one after the other make their text.
-use Rattle.std.proofs.Common.{◌≡◌, ◌∙◌, refl, sym, ap, subst, ℕ, ◌+◌, List, [], ◌++◌, length, take, Option, None, Some, append_assoc, append-nil, inl, inr, arith}
-use Rattle.std.specs.Prelude.{unwrap_or, min}
+use Rattle.std.proofs.Common.{◌≡◌, ◌∙◌, refl, sym, ap, subst, ℕ, ◌+◌, List, [], ◌++◌, length, take, Option, None, Some, append-nil, inl, inr, arith}
+use Rattle.std.specs.Prelude.{min}
 use Rattle.std.proofs.Math.Seq.{take-append-add, take-length}
 use Rattle.std.proofs.lemmas.List.{take-append-le, take_min}
 use Rattle.gl_desk.specs.Answers.{CountsFaults, OnlyReads}

@@ -1,16 +1,28 @@
-ghost use Rattle.std.specs.Prelude.{IfOk};
+ghost use Rattle.std.specs.Prelude.{◌≡◌, IfErr, IfOk};
 ghost use Rattle.gl_desk.specs.Answers.{OnlyReads, stop_of};
 ghost use Rattle.gl_words.specs.BadgeWords.{badge_seen};
 ghost use Rattle.gl_answer.specs.Answer.{answer_of};
 ghost use Rattle.gl_claims.specs.Badge.{IsBadgeCheck};
+ghost use Rattle.gl_claims.specs.Code.Badge.{AreClaimsAnswered};
 
 use crate::check::checked_answer;
 use gl_answer::{Answer, answer_halt};
 use gl_badge::check_badges;
 use gl_desk::{Desk, DeskError};
 use gl_files::test_badge_check_files;
+use gl_igc::Recording;
+use gl_proof::Proof;
 use gl_words::BadgeWords;
 use std::alloc::Global;
+
+/// The answer for the claims of a proof by a recording.
+fn answer_claims(alloc: Global, recording: &Recording, proof: &Proof) -> Result<Answer, DeskError>
+    ensures right { IfOk result (AreClaimsAnswered recording.now proof.now) }
+    ensures stopped { IfErr result (λ stop. stop ≡ DeskError.Memory) }
+{
+    let said = check_badges(alloc, recording, proof.claims.as_slice())?;
+    Ok(checked_answer(alloc, said)?)
+}
 
 /// The answer of `badgecheck FILE PROOF`: whether the proof is that of the flight's badge claims.
 pub fn badge_check<D: Desk>(
@@ -24,10 +36,7 @@ pub fn badge_check<D: Desk>(
 {
     let names = desk.names(alloc)?;
     match test_badge_check_files(alloc, desk, &names, words) {
-        Ok((recording, proof)) => {
-            let said = check_badges(alloc, &recording, proof.claims.as_slice())?;
-            Ok(checked_answer(alloc, said)?)
-        }
+        Ok((recording, proof)) => answer_claims(alloc, &recording, &proof),
         Err(halt) => answer_halt(alloc, halt),
     }
 }

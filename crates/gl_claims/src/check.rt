@@ -29,8 +29,14 @@ pub(crate) fn check_proof<D: Desk>(
     ensures reads { OnlyReads (halt_stop result) (D.told desk.old) (D.told desk.new) }
 {
     let names = desk.names(alloc)?;
-    let (files, proof) = test_check_files(alloc, desk, &names, day, most)?;
-    Ok(check_claims(alloc, desk, &names, &files, proof.claims.as_slice())?)
+    match test_check_files(alloc, desk, &names, day, most) {
+        Ok((files, proof)) => {
+            check_claims(alloc, desk, &names, &files, proof.claims.as_slice()).map_err(
+                Halt::Stopped,
+            )
+        }
+        Err(halt) => Err(halt),
+    }
 }
 
 /// The answer that says what was found.

@@ -3,7 +3,8 @@ ghost use Rattle.gl_day.specs.Flight.{steward_rules};
 ghost use Rattle.gl_words.specs.DayNames.{names_seen};
 ghost use Rattle.gl_answer.specs.Answer.{answer_of};
 ghost use Rattle.gl_claims.specs.Check.{IsScoredFolder};
-ghost use Rattle.gl_claims.specs.Demo.{IsCountOf, IsDemo, claims_line};
+ghost use Rattle.gl_demo.specs.Day.{generated_files};
+ghost use Rattle.gl_claims.specs.Demo.{HasJust, IsCountOf, IsDemo, claims_line, demo_names};
 ghost use Rattle.gl_claims.specs.Code.Shelf.{folder_on};
 
 use crate::check::check_proof;
@@ -64,6 +65,37 @@ fn accepted_claims(
     }
 }
 
+/// The answer of `demo NUMBER`, where a shelf has the files of that day and no others.
+fn announce(
+    alloc: Global,
+    shelf: &mut Shelf,
+    day: DayNumber,
+    names: DayNames<'_>,
+    stewards: &mut Vec<Box<dyn Steward>>,
+) -> Result<Answer, DeskError>
+    requires files { HasJust (generated_files day.number) (folder_on shelf.old) }
+    requires names { names_seen names ≡ demo_names }
+    ensures right { IfOk result (λ answer. IsDemo
+        (map (λ s. steward_rules (opening s) (fed s) (owed s)) stewards.old.items)
+        day.number (answer_of answer)) }
+    ensures no_fault { result ≡ Err DeskError.Failed → ⊥ }
+    ensures kept { map (λ s. steward_rules (opening s) (fed s) (owed s)) stewards.new.items
+        ≡ map (λ s. steward_rules (opening s) (fed s) (owed s)) stewards.old.items }
+{
+    let scored = score(alloc, shelf, &Alone, names, stewards)?;
+    let Status::Done = scored.status else {
+        unreachable!()
+    };
+    let bytes = size_of(shelf, names.proof);
+    let claims = accepted_claims(alloc, shelf, names, bytes)?;
+    let mut text = scored.text;
+    push_claims(&mut text, claims)?;
+    Ok(Answer {
+        status: Status::Done,
+        text,
+    })
+}
+
 /// The answer of `demo NUMBER`: the sheet of the generated day of that number, and how many claims
 /// its proof has, which the checker reads again, however large it is. Nothing outside is read, and
 /// nothing appended.
@@ -86,16 +118,5 @@ pub fn demo(
         task: &task,
         proof: &proof,
     };
-    let scored = score(alloc, &mut shelf, &Alone, names, stewards)?;
-    let Status::Done = scored.status else {
-        unreachable!()
-    };
-    let bytes = size_of(&shelf, &proof);
-    let claims = accepted_claims(alloc, &mut shelf, names, bytes)?;
-    let mut text = scored.text;
-    push_claims(&mut text, claims)?;
-    Ok(Answer {
-        status: Status::Done,
-        text,
-    })
+    announce(alloc, &mut shelf, day, names, stewards)
 }

@@ -1,44 +1,13 @@
-use Rattle.std.proofs.Common.{[], refl, subst}
-use Rattle.gl_words.specs.Words.{DayNames}
-use Rattle.gl_answer.specs.declared.status.Status.TheVariants.{Done}
-use Rattle.gl_answer.specs.Answer.{answer_with}
-use Rattle.gl_claims.specs.Demo.{HasJust, IsCountOf}
-use Rattle.gl_claims.specs.Code.Shelf.{folder_on, told_on}
-use Rattle.gl_claims.proofs.Demos.{demo_announced, demo_done, just_files, scored_folder, small_of}
+use Rattle.std.proofs.Common.{subst}
+use Rattle.gl_claims.specs.Demo.{HasJust}
+use Rattle.gl_claims.specs.Code.Shelf.{folder_on}
+use Rattle.gl_claims.proofs.Demos.{just_files}
 use Rattle.gl_claims.proofs.demo.demo.Goals as goal
 
-pub returns-clause-right : goal.returns-clause-right
-returns-clause-right g c =
-    let shelf = c.in_ok-shelf.shelf in
-    let folder = folder_on shelf in
-    let behind = c.score.new.desk in
-    let right = c.in_ok-scored.ensures.right in
-    let answer = answer_with c.in_ok-scored.scored right.0 in
-    let has = subst (λ files. HasJust files folder) c.in_ok-generated_day.ensures.files (just_files c.in_ok-generated_day.field-0.items folder c.in_ok-shelf.ensures.files) in
-    let names : DayNames = record { task = c.in_ok-task.task; proof = c.in_ok-proof.proof } in
-    let scored = scored_folder c.size_of-bytes.result (told_on shelf) (told_on behind) folder (folder_on behind) _ names answer refl refl right.1 c.in-Done.is right.2
-    (λ bytes there. small_of c.size_of-bytes.result (folder_on behind names.proof) bytes c.size_of-bytes.ensures there) in
-    demo_announced _ c.args.day.number folder names answer _ c.in_ok-claims.claims
-    (record { has = has; names_are = λ i. record { task = c.in_ok-task.ensures i; proof = c.in_ok-proof.ensures i }; is = right.1 })
-    (subst (λ text. IsCountOf text c.in_ok-claims.claims) scored.1 (c.in_ok-claims.ensures.counted scored.0))
-    (λ i. record { status = Done; said = c.in_ok-push_claims.ensures i; appended = [] })
-
-pub accepted_claims-requires : goal.accepted_claims-requires
-accepted_claims-requires g c =
-    let shelf = c.in_ok-shelf.shelf in
-    let folder = folder_on shelf in
-    let behind = c.score.new.desk in
-    let right = c.in_ok-scored.ensures.right in
-    let answer = answer_with c.in_ok-scored.scored right.0 in
-    let names : DayNames = record { task = c.in_ok-task.task; proof = c.in_ok-proof.proof } in
-    (scored_folder c.size_of-bytes.result (told_on shelf) (told_on behind) folder (folder_on behind) _ names answer refl refl right.1 c.in-Done.is right.2
-    (λ bytes there. small_of c.size_of-bytes.result (folder_on behind names.proof) bytes c.size_of-bytes.ensures there)).0
-
-pub unreachable-requires : goal.unreachable-requires
-unreachable-requires g c =
+pub announce-requires-clause-files : goal.announce-requires-clause-files
+announce-requires-clause-files g c =
     let folder = folder_on c.in_ok-shelf.shelf in
-    let right = c.in_ok-scored.ensures.right in
-    let has = subst (λ files. HasJust files folder) c.in_ok-generated_day.ensures.files (just_files c.in_ok-generated_day.field-0.items folder c.in_ok-shelf.ensures.files) in
-    c.in_default.not-Done
-    (demo_done _ c.args.day.number folder (record { task = c.in_ok-task.task; proof = c.in_ok-proof.proof }) (answer_with c.in_ok-scored.scored right.0)
-    (record { has = has; names_are = λ i. record { task = c.in_ok-task.ensures i; proof = c.in_ok-proof.ensures i }; is = right.1 }))
+    subst (λ files. HasJust files folder) c.in_ok-generated_day.ensures.files (just_files c.in_ok-generated_day.field-0.items folder c.in_ok-shelf.ensures.files)
+
+pub announce-requires-clause-names : goal.announce-requires-clause-names
+announce-requires-clause-names g c = λ i. record { task = c.in_ok-task.ensures i; proof = c.in_ok-proof.ensures i }
