@@ -97,24 +97,39 @@ all_legal a b c one other third =
     let P : FlightClaim → Type 0 = λ claim. HasLegal claim.kind claim.rule in
     All-append P a (b ++ c) one (All-append P b c other third)
 
-module _ (task : Task) (fixes : List Fix) (judged : Stretch) (outcome : Judged) (none one two three : List (ClaimKind × AnyGoal)) (begun : none ≡ [])
+-- claims for the distance, of the free distances and of the triangles are those of a flight
+module _ (task : Task) (fixes : List Fix) (judged : Stretch) (outcome : Judged) (none one two three : List (ClaimKind × AnyGoal))
     (chosen : AreAppended none one (AreChoices task.kind task fixes judged outcome)) (free : AreAppended one two (λ claims. claims ≡ free_claims task fixes judged))
     (triangle : AreAppended two three (λ claims. claims ≡ triangle_claims task fixes judged)) where
-  whole : three ≡ chosen.more ++ (free.more ++ triangle.more)
+  whole : three ≡ none ++ (chosen.more ++ (free.more ++ triangle.more))
   whole =
-      let first : one ≡ chosen.more = chosen.is ∙ ap (λ (l : List (ClaimKind × AnyGoal)). l ++ chosen.more) begun in
-      let second : two ≡ chosen.more ++ free.more = free.is ∙ ap (λ (l : List (ClaimKind × AnyGoal)). l ++ free.more) first in
-      triangle.is ∙ (ap (λ (l : List (ClaimKind × AnyGoal)). l ++ triangle.more) second ∙ append_assoc chosen.more free.more triangle.more)
+      triangle.is ∙ ap (λ (l : List (ClaimKind × AnyGoal)). l ++ triangle.more) (free.is ∙ ap (λ (l : List (ClaimKind × AnyGoal)). l ++ free.more) chosen.is)
+      ∙ simp append_assoc
 
-  pub claims_legal : HaveLegal (rules_of_claims three)
-  claims_legal =
-      subst HaveLegal (sym (ap rules_of_claims whole ∙ parts chosen.more free.more triangle.more))
-      (all_legal (rules_of_claims chosen.more) (rules_of_claims free.more) (rules_of_claims triangle.more) chosen.legal free.legal triangle.legal)
-
-  pub claims_listed : AreClaims task fixes judged outcome (rules_of_claims three)
-  claims_listed = record {
+  listed : AreClaims task fixes judged outcome (rules_of_claims (chosen.more ++ (free.more ++ triangle.more)))
+  listed = record {
     choices = rules_of_claims chosen.more;
     are = chosen.hold;
-    all = ap rules_of_claims whole ∙ (parts chosen.more free.more triangle.more ∙ (ap (λ (l : List FlightClaim). rules_of_claims chosen.more ++ (l ++ rules_of_claims triangle.more)) free.hold
-        ∙ ap (λ (l : List FlightClaim). rules_of_claims chosen.more ++ (free_claims task fixes judged ++ l)) triangle.hold));
+    all = parts chosen.more free.more triangle.more ∙ (ap (λ (l : List FlightClaim). rules_of_claims chosen.more ++ (l ++ rules_of_claims triangle.more)) free.hold
+        ∙ ap (λ (l : List FlightClaim). rules_of_claims chosen.more ++ (free_claims task fixes judged ++ l)) triangle.hold);
   }
+
+  pub claims_appended : AreAppended none three (AreClaims task fixes judged outcome)
+  claims_appended = record {
+    more = chosen.more ++ (free.more ++ triangle.more);
+    is = whole;
+    hold = listed;
+    legal = subst HaveLegal (sym (parts chosen.more free.more triangle.more))
+        (all_legal (rules_of_claims chosen.more) (rules_of_claims free.more) (rules_of_claims triangle.more) chosen.legal free.legal triangle.legal);
+  }
+
+-- what is appended to an empty list is all of it
+module _ (none all : List (ClaimKind × AnyGoal)) (Hold : List FlightClaim → Type 0) (begun : none ≡ []) (appended : AreAppended none all Hold) where
+  from_none : all ≡ appended.more
+  from_none = appended.is ∙ ap (λ (l : List (ClaimKind × AnyGoal)). l ++ appended.more) begun
+
+  pub all_hold : Hold (rules_of_claims all)
+  all_hold = subst Hold (sym (ap rules_of_claims from_none)) appended.hold
+
+  pub all_have_legal : HaveLegal (rules_of_claims all)
+  all_have_legal = subst HaveLegal (sym (ap rules_of_claims from_none)) appended.legal

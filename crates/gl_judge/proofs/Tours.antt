@@ -258,9 +258,12 @@ pub out_goal-as : (fixes given : List Fix) (wanted lists : List (List ℕ)) (sta
 out_goal-as fixes given wanted lists start fixed target given_is lists_are = λ i. out_goal (given_is i) (lists_are i) start fixed target
 
 -- the items of one list, or of lists and one more
-pub one-list : {V : Type 0} (f : V → List ℕ) (none pushed : List V) (v : V) (list : List ℕ) → none ≡ [] → pushed ≡ none ++ v ∷ [] → f v ≡ list → map f pushed ≡ list ∷ []
-one-list f none pushed v list none_is is list_is =
-    ap (map f) (is ∙ ap (λ vs. vs ++ v ∷ []) none_is) ∙ ap (λ (l : List ℕ). l ∷ []) list_is
+pub one-list : {V : Type 0} (f : V → List ℕ) (none pushed : List V) (list : List ℕ) → none ≡ [] → map f pushed ≡ map f none ++ list ∷ [] → map f pushed ≡ list ∷ []
+one-list f none pushed list none_is is = is ∙ ap (λ vs. map f vs ++ list ∷ []) none_is
+
+pub lists-more : {V : Type 0} (f : V → List ℕ) (before pushed : List V) (lists : List (List ℕ)) (list : List ℕ) → map f before ≡ lists → map f pushed ≡ map f before ++ list ∷ []
+    → map f pushed ≡ lists ++ list ∷ []
+lists-more f before pushed lists list lists_are is = is ∙ ap (λ (l : List (List ℕ)). l ++ list ∷ []) lists_are
 
 pub lists-then : {V : Type 0} (f : V → List ℕ) (before pushed : List V) (v : V) (lists : List (List ℕ)) (list : List ℕ) → map f before ≡ lists → pushed ≡ before ++ v ∷ [] → f v ≡ list
     → map f pushed ≡ lists ++ list ∷ []

@@ -15,7 +15,7 @@ use crate::marking::{finish_point, ring_radius};
 use crate::outcome::Window;
 use crate::stretch::Stretch;
 use crate::visits::visit_zones;
-use crate::zone_lists::{numbers_of, zone_lists};
+use crate::zone_lists::{push_numbers, zone_lists};
 use gl_goal::{AreaGoal, OutGoal};
 use gl_igc::Recording;
 use gl_task::{Kind, Task};
@@ -82,7 +82,7 @@ fn racing_choice(
         to: window.last as usize + 1,
     };
     let mut lists = Vec::new(alloc);
-    lists.push(numbers_of(alloc, stretch)?)?;
+    push_numbers(&mut lists, alloc, stretch)?;
     let start = course_point(task, count);
     let target = course_point(task, count + 1);
     let fixed = legs_to(task, count);
@@ -111,7 +111,7 @@ fn areas_choice(
         to: judged.to,
     };
     let mut lists = zone_lists(alloc, &task.zones.as_slice()[..count], fixes, stretch)?;
-    lists.push(numbers_of(alloc, stretch)?)?;
+    push_numbers(&mut lists, alloc, stretch)?;
     let target = course_point(task, count + 1);
     OutGoal::new(alloc, fixes, lists, task.start.line.centre, 0, target)
 }

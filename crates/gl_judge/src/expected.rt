@@ -1,4 +1,4 @@
-ghost use Rattle.std.specs.Prelude.{◌≡◌, ◌-◌, ◌≤◌, ◌<◌, [], ◌∷◌, length, IfOk, MatchOption, OnOk};
+ghost use Rattle.std.specs.Prelude.{◌≡◌, ◌-◌, ◌≤◌, ◌<◌, [], ◌∷◌, ◌++◌, length, IfOk, MatchOption, OnOk};
 ghost use Rattle.gl_judge.specs.Claimed.{FlightClaim, rules_of_claims};
 ghost use Rattle.gl_judge.specs.Code.Claims.{AreAppended, AreClaims};
 ghost use Rattle.gl_judge.specs.Claims.{AreChoices, AreExpected, HaveLegal, claim_if, free_claims, triangle_claims};
@@ -23,6 +23,17 @@ pub struct JudgedFlight {
     pub claims: Vec<(ClaimKind, AnyGoal)>,
 }
 
+/// Appends a claim. The only error is want of memory.
+fn push_claim(
+    claims: &mut Vec<(ClaimKind, AnyGoal)>,
+    kind: ClaimKind,
+    goal: AnyGoal,
+) -> Result<(), AllocError>
+    ensures { OnOk result (claims.new.items ≡ claims.old.items ++ (kind, goal) ∷ []) }
+{
+    Ok(claims.push((kind, goal))?)
+}
+
 /// Appends the claim for the distance of a flight, where the rules leave a choice. The only error
 /// is want of memory.
 fn push_chosen(
@@ -42,11 +53,11 @@ fn push_chosen(
         (Judged::Finished { .. }, Kind::Racing) | (Judged::NoStart, _) => Ok(()),
         (Judged::Finished { window, .. }, Kind::Area { .. }) => {
             let goal = area_choice(alloc, task, rec, window)?;
-            Ok(claims.push((ClaimKind::Area, AnyGoal::Area(goal)))?)
+            push_claim(claims, ClaimKind::Area, AnyGoal::Area(goal))
         }
         (Judged::Outlanded { window, zones }, _) => {
             let goal = out_choice(alloc, task, rec, judged, window, zones as usize)?;
-            Ok(claims.push((ClaimKind::Out, AnyGoal::Out(goal)))?)
+            push_claim(claims, ClaimKind::Out, AnyGoal::Out(goal))
         }
     }
 }
@@ -84,7 +95,7 @@ fn push_free(
         return Ok(());
     };
     let goal = FreeGoal::new(alloc, rec.fixes.as_slice(), first, last, task.rules.loss)?;
-    Ok(claims.push((ClaimKind::Free, AnyGoal::Free(goal)))?)
+    push_claim(claims, ClaimKind::Free, AnyGoal::Free(goal))
 }
 
 /// Appends the claim of the list of triangles, where it is asked for and a fix is judged. The only
@@ -104,7 +115,27 @@ fn push_triangle(
         return Ok(());
     };
     let goal = TriangleGoal::new(alloc, rec.fixes.as_slice(), first, last, task.rules.closing)?;
-    Ok(claims.push((ClaimKind::Triangle, AnyGoal::Triangle(goal)))?)
+    push_claim(claims, ClaimKind::Triangle, AnyGoal::Triangle(goal))
+}
+
+/// Appends the claims that are expected of a flight with these judged fixes and this outcome, the
+/// one for the distance first. The only error is want of memory.
+fn push_claims(
+    claims: &mut Vec<(ClaimKind, AnyGoal)>,
+    alloc: Global,
+    task: &Task,
+    rec: &Recording,
+    judged: Stretch,
+    outcome: Judged,
+) -> Result<(), AllocError>
+    requires to_in_list { judged.to ≤ length rec.now.fixes }
+    requires outcome { IsOutcome task.now rec.now judged outcome }
+    ensures { OnOk result (AreAppended claims.old.items claims.new.items
+        (AreClaims task.now rec.now.fixes judged outcome)) }
+{
+    push_chosen(claims, alloc, task, rec, judged, outcome)?;
+    push_free(claims, alloc, task, rec, judged)?;
+    push_triangle(claims, alloc, task, rec, judged)
 }
 
 /// The claims that are expected of a flight with these judged fixes and this outcome, the one for
@@ -123,9 +154,7 @@ fn claims_of(
     ensures legal { IfOk result (λ claims. HaveLegal (rules_of_claims claims.items)) }
 {
     let mut claims = Vec::new(alloc);
-    push_chosen(&mut claims, alloc, task, rec, judged, outcome)?;
-    push_free(&mut claims, alloc, task, rec, judged)?;
-    push_triangle(&mut claims, alloc, task, rec, judged)?;
+    push_claims(&mut claims, alloc, task, rec, judged, outcome)?;
     Ok(claims)
 }
 

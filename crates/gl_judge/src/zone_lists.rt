@@ -1,4 +1,4 @@
-ghost use Rattle.std.specs.Prelude.{◌≡◌, ◌≤◌, length, map, IfOk};
+ghost use Rattle.std.specs.Prelude.{◌≡◌, ◌≤◌, [], ◌∷◌, ◌++◌, length, map, IfOk, OnOk};
 ghost use Rattle.gl_judge.specs.Choices.{numbers_before, numbers_in_zone, zone_lists};
 
 use crate::stretch::Stretch;
@@ -8,7 +8,7 @@ use gl_zone::Zone;
 use std::alloc::{AllocError, Global};
 
 /// The numbers of a stretch. The only error is want of memory.
-pub(crate) fn numbers_of(alloc: Global, stretch: Stretch) -> Result<Vec<u32>, AllocError>
+fn numbers_of(alloc: Global, stretch: Stretch) -> Result<Vec<u32>, AllocError>
     requires ordered { stretch.from ≤ stretch.to }
     requires most { stretch.to ≤ 90_000 }
     ensures { IfOk result (λ numbers. numbers.items ≡ numbers_before stretch.from stretch.to) }
@@ -18,6 +18,22 @@ pub(crate) fn numbers_of(alloc: Global, stretch: Stretch) -> Result<Vec<u32>, Al
         numbers.push(i as u32)?;
     }
     Ok(numbers)
+}
+
+/// Appends the numbers of a stretch to some lists. The only error is want of memory.
+pub(crate) fn push_numbers(
+    lists: &mut Vec<Vec<u32>>,
+    alloc: Global,
+    stretch: Stretch,
+) -> Result<(), AllocError>
+    requires ordered { stretch.from ≤ stretch.to }
+    requires most { stretch.to ≤ 90_000 }
+    ensures { OnOk result (map (λ list. list.items) lists.new.items
+        ≡ map (λ list. list.items) lists.old.items
+        ++ numbers_before stretch.from stretch.to ∷ []) }
+{
+    let numbers = numbers_of(alloc, stretch)?;
+    Ok(lists.push(numbers)?)
 }
 
 /// The numbers of the fixes of a stretch in a zone. The only error is want of memory.
