@@ -1,8 +1,10 @@
 -- What the lemmas on a run of `score` have in common.
-use Rattle.std.proofs.Common.{◌≡◌, ℕ, ◌<◌, List, length, get_or, take, Option, None}
-use Rattle.std.specs.Prelude.{Contains}
-use Rattle.gl_desk.specs.Answers.{OnlyReads}
+use Rattle.std.proofs.Common.{◌≡◌, ℕ, ◌<◌, List, length, get_or, take, Option, None, Result, Ok, Err, Some, sym, subst}
+use Rattle.std.specs.Prelude.{Contains, IfErr}
+use Rattle.gl_desk.specs.Answers.{OnlyReads, stop_of}
 use Rattle.gl_desk.specs.Desk.{ListsNames, Told}
+use Rattle.gl_desk.specs.declared.error.DeskError.{DeskError}
+use Rattle.gl_desk.specs.declared.error.DeskError.TheVariants.{Memory}
 use Rattle.gl_goal.specs.declared.any.AnyGoal.{AnyGoal}
 use Rattle.gl_goal.specs.AnyGoal.{any_rule}
 use Rattle.gl_judge.specs.Claimed.{rules_of_claims}
@@ -80,3 +82,9 @@ pub record IsNext (run : ClaimRun) (i : ℕ) (goal : ClaimKind × AnyGoal) (stat
   pub below : i < length run.goals
   pub is : goal ≡ get_or run.goals i goal
   pub proves : Proves (record { number = run.number; kind = goal.0; rule = any_rule goal.1 }) statement
+
+-- want of memory behind a call that only read leaves that the desk was only read
+pub reads_memory : {X : Type 0} (before now : Told) (result : Result X DeskError) → IfErr result (λ stop. stop ≡ Memory) → OnlyReads None before now → OnlyReads (stop_of result) before now
+reads_memory before now (Ok x) memory reads = reads
+reads_memory before now (Err stop) memory reads =
+    subst (λ (s : DeskError). OnlyReads (Some s) before now) (sym memory) (record { folder = reads.folder; said = reads.said; outputs = reads.outputs; faults = reads.faults })

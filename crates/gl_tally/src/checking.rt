@@ -1,9 +1,10 @@
-ghost use Rattle.std.specs.Prelude.{◌≡◌, ◌++◌, ◌∷◌, IfOk, OnOk, map};
+ghost use Rattle.std.specs.Prelude.{◌≡◌, ◌++◌, ◌∷◌, IfErr, IfOk, OnOk, map};
 ghost use Rattle.gl_desk.specs.Answers.{OnlyReads, stop_of};
 ghost use Rattle.gl_desk.specs.Desk.{ListsNames};
 ghost use Rattle.gl_proof.specs.Claim.{statement_of};
 ghost use Rattle.gl_day.specs.Expected.{expected_of};
 ghost use Rattle.gl_judge.specs.Claimed.{rules_of_claims};
+ghost use Rattle.gl_judge.specs.Claims.{AreExpected};
 ghost use Rattle.gl_tally.specs.Asked.{AreAskedIn};
 ghost use Rattle.gl_tally.specs.DayChecked.{IsDayChecked};
 
@@ -12,10 +13,24 @@ use gl_day::{Checked, Seen, check_end, check_flight};
 use gl_desk::{Desk, DeskError, Name};
 use gl_files::DayFiles;
 use gl_goal::AnyGoal;
+use gl_igc::Recording;
 use gl_judge::claims;
 use gl_proof::{Claim, ClaimKind};
 use gl_task::Entrant;
 use std::alloc::Global;
+
+/// The claims that are expected of a recording, with their goals. The only error is want of memory.
+fn claims_of_recording(
+    alloc: Global,
+    files: &DayFiles,
+    rec: &Recording,
+) -> Result<Vec<(ClaimKind, AnyGoal)>, DeskError>
+    ensures expected { IfOk result (λ goals.
+        AreExpected files.now.task files.now.airspace rec.now (rules_of_claims goals.items)) }
+    ensures memory { IfErr result (λ error. error ≡ DeskError.Memory) }
+{
+    Ok(claims(alloc, &files.task, &files.airspace, rec)?)
+}
 
 /// The claims that a proof has to have of an entrant, with their goals.
 fn asked_of<D: Desk>(
@@ -32,7 +47,7 @@ fn asked_of<D: Desk>(
     ensures reads { OnlyReads (stop_of result) (D.told desk.old) (D.told desk.new) }
 {
     match see_entrant(alloc, desk, names, &files.task, entrant)? {
-        Seen::Recorded(rec) => Ok(claims(alloc, &files.task, &files.airspace, &rec)?),
+        Seen::Recorded(rec) => claims_of_recording(alloc, files, &rec),
         Seen::Refused(_) => Ok(Vec::new(alloc)),
     }
 }

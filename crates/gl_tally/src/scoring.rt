@@ -7,6 +7,8 @@ ghost use Rattle.gl_text.specs.Forms.{is_number};
 ghost use Rattle.gl_day.specs.declared.flight.Seen.TheVariants.{Recorded};
 ghost use Rattle.gl_day.specs.Expected.{expected_of};
 ghost use Rattle.gl_judge.specs.Claimed.{rules_of_claims};
+ghost use Rattle.gl_judge.specs.Claims.{AreExpected, HaveLegal};
+ghost use Rattle.gl_judge.specs.Outcome.{IsJudged};
 ghost use Rattle.gl_day.specs.Flight.{IsSeen, steward_rules};
 ghost use Rattle.gl_answer.specs.Appending.{HasAppended, HasAppendedPart};
 ghost use Rattle.gl_tally.specs.Code.Asked.{IsSeenAmong};
@@ -23,7 +25,7 @@ use gl_desk::{Desk, DeskError, Name};
 use gl_files::DayFiles;
 use gl_goal::AnyGoal;
 use gl_igc::Recording;
-use gl_judge::judge_flight;
+use gl_judge::{JudgedFlight, judge_flight};
 use gl_proof::{Claim, ClaimKind, write_boxes, write_front};
 use gl_steward::Steward;
 use gl_task::Entrant;
@@ -141,6 +143,54 @@ fn prove_claims<D: Desk, S: Search>(
     Ok(totals)
 }
 
+/// The flight of an entrant that was judged; the lines of its claims are appended to the proof.
+fn score_judged<D: Desk, S: Search>(
+    alloc: Global,
+    desk: &mut D,
+    search: &S,
+    files: &DayFiles,
+    proof: &Name,
+    entrant: &Entrant,
+    rec: &Recording,
+    judged: &JudgedFlight,
+    stewards: &mut Vec<Box<dyn Steward>>,
+) -> Result<Flight, DeskError>
+    requires search { S.ready search.now }
+    requires judged { IsJudged files.now.task files.now.airspace rec.now judged.now.outcome }
+    requires expected { AreExpected files.now.task files.now.airspace rec.now
+        (rules_of_claims judged.now.claims.items) }
+    requires legal { HaveLegal (rules_of_claims judged.now.claims.items) }
+    ensures scored { IfOk result (λ flight. (bytes : List ℕ)
+        → IsSeen files.now.task entrant.now bytes (Recorded rec.now)
+        → IsEntrantScored files.now
+        (map (λ s. steward_rules (opening s) (fed s) (owed s)) stewards.old.items)
+        entrant.now (Some bytes) proof.now (D.told desk.old) (D.told desk.new) flight) }
+    ensures stopped { IfErr result (λ stop.
+        HasAppendedPart proof.now [] (D.told desk.old) (D.told desk.new) stop
+        ⊎ ((bytes : List ℕ) → IsSeen files.now.task entrant.now bytes (Recorded rec.now)
+        → IsEntrantBegun files.now entrant.now (Some bytes) proof.now
+        (D.told desk.old) (D.told desk.new) stop)) }
+    ensures kept { map (λ s. steward_rules (opening s) (fed s) (owed s)) stewards.new.items
+        ≡ map (λ s. steward_rules (opening s) (fed s) (owed s)) stewards.old.items }
+{
+    let totals = prove_claims(
+        alloc,
+        desk,
+        search,
+        proof,
+        &entrant.number,
+        judged.claims.as_slice(),
+    )?;
+    Ok(finish_flight(
+        &files.task,
+        entrant,
+        rec,
+        &judged.outcome,
+        &totals,
+        stewards,
+    ))
+}
+
 /// The flight of an entrant with a recording; the lines of its claims are appended to the proof.
 fn score_recorded<D: Desk, S: Search>(
     alloc: Global,
@@ -167,22 +217,9 @@ fn score_recorded<D: Desk, S: Search>(
         ≡ map (λ s. steward_rules (opening s) (fed s) (owed s)) stewards.old.items }
 {
     let judged = judge_flight(alloc, &files.task, &files.airspace, rec)?;
-    let totals = prove_claims(
-        alloc,
-        desk,
-        search,
-        proof,
-        &entrant.number,
-        judged.claims.as_slice(),
-    )?;
-    Ok(finish_flight(
-        &files.task,
-        entrant,
-        rec,
-        &judged.outcome,
-        &totals,
-        stewards,
-    ))
+    score_judged(
+        alloc, desk, search, files, proof, entrant, rec, &judged, stewards,
+    )
 }
 
 /// The flight of an entrant; the lines of its claims are appended to the proof.

@@ -1,13 +1,31 @@
-ghost use Rattle.std.specs.Prelude.{ℕ, List, Option, IfOk};
+ghost use Rattle.std.specs.Prelude.{◌≡◌, ◌≤◌, ℕ, List, Option, Some, IfErr, IfOk, length};
 ghost use Rattle.gl_desk.specs.Answers.{OnlyReads, stop_of};
 ghost use Rattle.gl_desk.specs.Desk.{HaveFiles};
+ghost use Rattle.gl_desk.specs.Limits.{most_bytes};
+ghost use Rattle.gl_igc.specs.Recording.{IsReadAs};
+ghost use Rattle.gl_day.specs.Flight.{IsSeen};
 ghost use Rattle.gl_tally.specs.Code.Asked.{IsEntrantSeen, IsSeenAmong};
 
 use gl_day::{Seen, absent_flight, large_flight, read_flight};
 use gl_desk::{Desk, DeskError, Name, ReadError};
 use gl_files::read_recording_file;
+use gl_igc::{IgcError, Recording};
 use gl_task::{Entrant, Task};
 use std::alloc::Global;
+
+/// What is seen of an entrant's file that was read so, by the task's day. The only error is want of
+/// memory.
+fn see_read(
+    task: &Task,
+    entrant: &Entrant,
+    read: Result<Recording, IgcError>,
+) -> Result<Seen, DeskError>
+    ensures seen { IfOk result (λ seen. (bytes : List ℕ) → length bytes ≤ most_bytes
+        → IsReadAs bytes (Some task.now.date) read → IsSeen task.now entrant.now bytes seen) }
+    ensures memory { IfErr result (λ error. error ≡ DeskError.Memory) }
+{
+    Ok(read_flight(task, entrant, read)?)
+}
 
 /// What is seen of an entrant's file, which is one of the folder's names or isn't there. A file
 /// that is missing, too large or no recording of the day refuses nothing: it is the entrant's.
@@ -28,7 +46,7 @@ pub fn see_entrant<D: Desk>(
         return Ok(Seen::Refused(absent_flight(task, entrant)));
     }
     match read_recording_file(alloc, desk, &entrant.file, Some(task.date)) {
-        Ok(read) => Ok(read_flight(task, entrant, read)?),
+        Ok(read) => see_read(task, entrant, read),
         Err(ReadError::TooLarge) => Ok(Seen::Refused(large_flight(task, entrant))),
         Err(ReadError::Fault) => Err(DeskError::Failed),
         Err(ReadError::Memory) => Err(DeskError::Memory),

@@ -22,3 +22,6 @@ returns-in-Refused-clause-scored g c =
     refused_seen (record { files = c.args.files.now; stewards = _; names = c.args.names.now; proof = c.args.proof.now; entrant = c.args.entrant.now; before = g.D.Desk.told c.args.desk.now })
     c.in_ok-rec.field-0 c.in-Refused.flight (g.D.Desk.told c.see_entrant.new.desk)
     (record { there = seen.0; among = seen.1; is = seen.2; reads = c.in_ok-rec.ensures.reads }) c.in-Refused.is
+
+pub returns-in-Recorded-clause-kept : goal.returns-in-Recorded-clause-kept
+returns-in-Recorded-clause-kept g c = c.score_recorded.ensures.kept
