@@ -206,6 +206,14 @@ within_some pairing xs ys (Some candidate) cell within covers is more =
     subst (AreWithin pairing) (sym more) (All-push (λ (c : Candidate). Covers (whole_cell pairing) (spans_of c.cell)) xs candidate within
     (subst (λ (c : Cell). Covers (whole_cell pairing) (spans_of c)) (sym is) covers))
 
+-- candidates in the whole cell, and two more
+pub within_both : (pairing : Pairing) (xs ys : List Candidate) (one other : Option Candidate) (first second : Cell) → AreWithin pairing xs → Covers (whole_cell pairing) (spans_of first)
+    → Covers (whole_cell pairing) (spans_of second) → IfSome one (λ candidate. candidate.cell ≡ first) → IfSome other (λ candidate. candidate.cell ≡ second)
+    → ys ≡ (xs ++ option_to_list one) ++ option_to_list other → AreWithin pairing ys
+within_both pairing xs ys one other first second within covers covers_other is other_is more =
+    let zs = xs ++ option_to_list one in
+    within_some pairing zs ys other second (within_some pairing xs zs one first within covers is refl) covers_other other_is more
+
 -- each box of a certificate has two axes
 pub two_axes_each : (pairing : Pairing) (best : Option NearBest) (boxes : List NearClosed) → IsCertificate pairing best (map box_of boxes) → All (λ (box : NearClosed). box.cell.axes ≡ 2) boxes
 two_axes_each pairing best boxes certificate k d below =

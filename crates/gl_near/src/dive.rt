@@ -44,6 +44,20 @@ fn push_some(
     Ok(())
 }
 
+/// Puts two candidates, each if there is one, on top, the second one last. The only error is want of
+/// memory.
+fn push_both(
+    candidates: &mut Vec<Candidate>,
+    first: Option<Candidate>,
+    second: Option<Candidate>,
+) -> Result<(), AllocError>
+    ensures { OnOk result (candidates.new.items
+        ≡ (candidates.old.items ++ option_to_list first) ++ option_to_list second) }
+{
+    push_some(candidates, first)?;
+    push_some(candidates, second)
+}
+
 /// Whether one candidate is nearer than the other. None is farthest.
 fn is_nearer(one: &Option<Candidate>, other: &Option<Candidate>) -> bool {
     match (one, other) {
@@ -74,13 +88,9 @@ fn look(
     let low = tested(pairs, &lower, best);
     let high = tested(pairs, &upper, best);
     if is_nearer(&low, &high) {
-        push_some(candidates, high)?;
-        push_some(candidates, low)?;
-        return Ok(());
+        return push_both(candidates, high, low);
     }
-    push_some(candidates, low)?;
-    push_some(candidates, high)?;
-    Ok(())
+    push_both(candidates, low, high)
 }
 
 /// Searches a cell depth first for nearer pairs, the nearer half first, and stops after so many

@@ -1,8 +1,9 @@
+use Rattle.std.proofs.lemmas.Result.{on_ok_weaker}
 use Rattle.gl_box.specs.Cell.{Covers, spans_of}
 use Rattle.gl_box.proofs.Nodes.{covers_lower, covers_through, covers_upper}
 use Rattle.gl_near.specs.Pairing.{whole_cell}
 use Rattle.gl_near.specs.Pairs.{pairing_of}
-use Rattle.gl_near.proofs.Stack.{within_some}
+use Rattle.gl_near.proofs.Stack.{within_both}
 use Rattle.gl_near.proofs.dive.look.Goals as goal
 
 pub tested-low-requires : goal.tested-low-requires
@@ -19,8 +20,8 @@ returns-then-is_nearer-clause-within c =
     let whole = whole_cell pairing in
     let low : Covers whole (spans_of c.in-Some.lower) = covers_through whole (spans_of c.args.cell.now) (spans_of c.in-Some.lower) c.requires.covers (covers_lower _ _ _ c.in-Some.ensures.halves) in
     let high : Covers whole (spans_of c.in-Some.upper) = covers_through whole (spans_of c.args.cell.now) (spans_of c.in-Some.upper) c.requires.covers (covers_upper _ _ _ c.in-Some.ensures.halves) in
-    let first = within_some pairing _ c.push_some.new.candidates.items c.tested-high.result c.in-Some.upper c.requires.within high c.tested-high.ensures c.in_ok-push_some.ensures in
-    within_some pairing c.push_some.new.candidates.items _ c.tested-low.result c.in-Some.lower first low c.tested-low.ensures c.in_ok-push_some-2.ensures
+    on_ok_weaker _ (λ more. within_both pairing c.args.candidates.now.items c.push_both.new.candidates.items c.tested-high.result c.tested-low.result _ _ c.requires.within
+    high low c.tested-high.ensures c.tested-low.ensures more) c.push_both.ensures
 
 pub returns-clause-within : goal.returns-clause-within
 returns-clause-within c =
@@ -28,5 +29,5 @@ returns-clause-within c =
     let whole = whole_cell pairing in
     let low : Covers whole (spans_of c.in-Some.lower) = covers_through whole (spans_of c.args.cell.now) (spans_of c.in-Some.lower) c.requires.covers (covers_lower _ _ _ c.in-Some.ensures.halves) in
     let high : Covers whole (spans_of c.in-Some.upper) = covers_through whole (spans_of c.args.cell.now) (spans_of c.in-Some.upper) c.requires.covers (covers_upper _ _ _ c.in-Some.ensures.halves) in
-    let first = within_some pairing _ c.push_some-2.new.candidates.items c.tested-low.result c.in-Some.lower c.requires.within low c.tested-low.ensures c.in_ok-push_some-3.ensures in
-    within_some pairing c.push_some-2.new.candidates.items _ c.tested-high.result c.in-Some.upper first high c.tested-high.ensures c.in_ok-push_some-4.ensures
+    on_ok_weaker _ (λ more. within_both pairing c.args.candidates.now.items c.push_both-2.new.candidates.items c.tested-low.result c.tested-high.result _ _ c.requires.within
+    low high c.tested-low.ensures c.tested-high.ensures more) c.push_both-2.ensures
