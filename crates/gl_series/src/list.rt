@@ -45,16 +45,15 @@ fn number_and_team(text: &[u8]) -> Option<(&str, &str)>
         (λ texts. IsMember texts.0.now texts.1.now
         × (text.now ≡ texts.0.now ++ 32 ∷ texts.1.now)) }
 {
-    let (number, team) = part_at_space(text)?;
-    let number = text_in(number)?;
-    let team = text_in(team)?;
-    if !is_number(number) {
-        return None;
+    if let Some((number, team)) = part_at_space(text)
+        && let Some(number) = text_in(number)
+        && let Some(team) = text_in(team)
+        && is_number(number)
+        && is_team(team)
+    {
+        return Some((number, team));
     }
-    if !is_team(team) {
-        return None;
-    }
-    Some((number, team))
+    None
 }
 
 /// The number and the team of a member, where the line is that of one.

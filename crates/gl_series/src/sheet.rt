@@ -129,17 +129,18 @@ fn written_in(columns: &ByteRecord) -> Option<Written<'_>>
         ((row : DayRow) → IsRowOf (fields_of columns.now) row → ⊥)
         (λ written. IsRowOf (fields_of columns.now) (row_written written)) }
 {
-    if columns.len() != COLUMNS {
-        return None;
+    if columns.len() == COLUMNS
+        && let Some(number) = number_in(columns)
+        && let Some(name) = name_in(columns)
+        && let Some(points) = points_in(columns)
+    {
+        return Some(Written {
+            number,
+            name,
+            points,
+        });
     }
-    let number = number_in(columns)?;
-    let name = name_in(columns)?;
-    let points = points_in(columns)?;
-    Some(Written {
-        number,
-        name,
-        points,
-    })
+    None
 }
 
 /// The row that a record writes, where it writes one.
