@@ -7,8 +7,7 @@ use Rattle.gl_answer.specs.Answer.{Answer, refused}
 use Rattle.gl_answer.specs.Promise.{IsTold}
 
 -- An answer by what was seen: where all tests pass it is one that the files then give, else it is
--- the
--- line of the first that fails.
+-- the line of the first that fails.
 abbrev pub IsByTests : {Seen : Type 0} → (Seen → Type 0) → (Seen → List FileTest)
     → (Seen → Answer → Type 0) → Answer → Type 0
 IsByTests IsSeen tests Gives answer = (seen : _) × IsSeen seen

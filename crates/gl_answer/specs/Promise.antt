@@ -12,8 +12,7 @@ pub record Promise : Type 1 where
   -- that is what the folder has
   pub IsRight : Answer → Type 0
   -- a run that is stopped on its way has appended this text, which is a first part of that of a
-  -- right
-  -- answer
+  -- right answer
   pub IsBegun : List ℕ → Type 0
   -- the desk tells its folder, and its files pass every test
   pub Passes : Type 0

@@ -38,8 +38,7 @@ abbrev pub no_pair : List ℕ
 no_pair = codes "NO PAIR" ++ 10 ∷ []
 
 -- the line for a proof that isn't accepted: the number of the claim that is wrong, the word for
--- what
--- is wrong with it, and the number of the box that it is about, or 0
+-- what is wrong with it, and the number of the box that it is about, or 0
 unfoldable pub wrong_line : ℕ → List ℕ → ℕ → List ℕ
 wrong_line claim word box =
     codes "NOT PROVED " ++ decimal claim ++ codes " " ++ word ++ codes " " ++ decimal box

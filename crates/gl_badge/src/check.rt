@@ -60,8 +60,7 @@ fn check_claim(
 }
 
 /// What is wrong with the first claim of a proof that is, where these badge claims are expected;
-/// none
-/// where all of them are right. The only error is want of memory.
+/// none where all of them are right. The only error is want of memory.
 fn check_claims(
     alloc: Global,
     claims: &[BadgeClaim],

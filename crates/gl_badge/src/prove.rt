@@ -74,10 +74,8 @@ fn totals_of(alloc: Global, claims: &[Claim]) -> Result<Vec<Option<u64>>, AllocE
 }
 
 /// The three lines of a flight's badge claims, and the claims themselves, proved: each has the
-/// fixes
-/// that reach its total and the boxes that show that no others reach more. The only error is want
-/// of
-/// memory.
+/// fixes that reach its total and the boxes that show that no others reach more. The only error is
+/// want of memory.
 pub fn prove_badges(alloc: Global, rec: &Recording) -> Result<Badges, AllocError>
     ensures { IfOk result (λ badges.
         IsBadgeFound rec.now badges.lines.items (map statement_of badges.claims.items)) }

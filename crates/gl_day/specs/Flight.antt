@@ -31,8 +31,7 @@ use Rattle.gl_day.specs.Totals.{AreTotals, claimed_total, column, is_distance, i
 use Rattle.gl_judge.specs.Claimed.{FlightClaim}
 
 -- A steward by its rules: the list that it opens a flight with, what a fix makes of a list, and
--- what
--- is owed for a list.
+-- what is owed for a list.
 pub record StewardRules : Type 0 where
   pub opening : LocalRules → List ℕ
   pub fed : List ℕ → Fix → List ℕ
@@ -119,10 +118,8 @@ IsReadFlight task air stewards entrant (Err error) statements flight =
     × IsRefusedFlight task entrant number statements flight
 
 -- What the flight of an entrant gives, with these claims: not launched where there is no file;
--- refused
--- by 7 where it has too many bytes, and by the number of its refusal where it is no recording of
--- the
--- day; else what is judged.
+-- refused by 7 where it has too many bytes, and by the number of its refusal where it is no
+-- recording of the day; else what is judged.
 abbrev pub IsFlight : Task → Airspace → List StewardRules → Entrant → Option (List ℕ)
     → List Statement → Flight → Type 0
 IsFlight task air stewards entrant None statements flight =
@@ -142,8 +139,7 @@ IsSeen task entrant bytes (seen.Refused flight) =
     → IsFlight task air stewards entrant (Some bytes) [] flight
 
 -- The claims that are expected of a flight with a recording are all proved, in their order, and
--- these
--- are their totals.
+-- these are their totals.
 pub record AreClaims (task : Task) (air : Airspace) (entrant : Entrant) (recording : Recording)
     (statements : List Statement) (totals : Totals) : Type 0 where
   pub claims : List FlightClaim

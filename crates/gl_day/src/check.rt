@@ -81,8 +81,7 @@ fn fault_at<G: Goal>(
 }
 
 /// Checks one claim, where `count` claims of the proof were found right before: the answer is what
-/// is
-/// wrong with the next one, as [`check_flight`] has it. The only error is want of memory.
+/// is wrong with the next one, as [`check_flight`] has it. The only error is want of memory.
 pub fn check_next<G: Goal>(
     alloc: Global,
     number: &Name,
@@ -107,13 +106,10 @@ pub fn check_next<G: Goal>(
 }
 
 /// Checks the claims of one entrant's flight: `goals` are those that are expected, and `count` is
-/// how
-/// many claims of the proof were found right before. The answer is the first claim that is wrong;
-/// where
-/// there is none, so many more are right. A claim is wrong where the proof has none there, where it
-/// has
-/// another number or kind, or else by what the checker says of it. The only error is want of
-/// memory.
+/// how many claims of the proof were found right before. The answer is the first claim that is
+/// wrong; where there is none, so many more are right. A claim is wrong where the proof has none
+/// there, where it has another number or kind, or else by what the checker says of it. The only
+/// error is want of memory.
 pub fn check_flight(
     alloc: Global,
     number: &Name,

@@ -51,8 +51,7 @@ fn rows(alloc: Global, day: &Summary, flights: &[Flight]) -> Result<Vec<Row>, Al
 }
 
 /// The rows of the sheet of a day, one a flight and in their order: the points of each by the
-/// figures of
-/// all performances, less its penalty. The only error is want of memory.
+/// figures of all performances, less its penalty. The only error is want of memory.
 pub fn day_rows(alloc: Global, flights: &[Flight]) -> Result<Vec<Row>, AllocError>
     requires { length flights.now ≤ performance_limit }
     ensures are { IfOk result (λ list. AreRows flights.now list.items) }

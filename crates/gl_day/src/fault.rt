@@ -61,8 +61,7 @@ impl Fault {
 }
 
 /// A proof isn't that of a day: the first claim that is wrong, counted among those that are
-/// expected
-/// from 1, and why.
+/// expected from 1, and why.
 #[derive(Clone, Copy, Debug, PartialEq, Eq)]
 pub struct NotProved {
     pub claim: usize,

@@ -74,8 +74,8 @@ fn outcome_of(judged: &Judged) -> Outcome
 }
 
 /// The flight of an entrant with a recording, once it is judged and all its claims are proved:
-/// `totals`
-/// are theirs. The stewards keep their rules; a flight without a window leaves them as they are.
+/// `totals` are theirs. The stewards keep their rules; a flight without a window leaves them as
+/// they are.
 pub fn finish_flight(
     task: &Task,
     entrant: &Entrant,

@@ -1,8 +1,7 @@
 use gl_proof::{Claim, ClaimKind};
 
 /// The totals that the claims of a flight have so far, in centimetres: for the distance of the
-/// task,
-/// for the free distance and for the triangle.
+/// task, for the free distance and for the triangle.
 #[derive(Clone, Copy, Debug, PartialEq, Eq)]
 pub struct Totals {
     pub distance: Option<u64>,

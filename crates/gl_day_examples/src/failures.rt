@@ -4,8 +4,7 @@ use std::process::Abort;
 use std::test::Fail;
 
 /// Each call of the desk fails in turn: the run ends with `Desk`, says nothing or a first part of
-/// the
-/// sheet, and has appended a first part of the proof, all of it before the sheet is said.
+/// the sheet, and has appended a first part of the proof, all of it before the sheet is said.
 #[test]
 fn each_call_of_the_desk_fails(rt: HostRuntime) -> Result<(), Fail> {
     let files = race(rt.alloc(), RACE)?;

@@ -6,8 +6,7 @@ use std::process::Abort;
 use std::test::Fail;
 
 /// The task of a race from the origin one degree east, from there one degree north and back, with
-/// three
-/// entrants: Ann, Ben and Cy.
+/// three entrants: Ann, Ben and Cy.
 pub const RACE: &str = "date = \"2024-07-01\"\nkind = \"racing\"\ncloses = 72000\n\
     [start]\nat = \"0000000N00000000E\"\ntowards = \"0000000N00100000E\"\nhalf = 5000\n\
     open = 36000\nclose = 43200\n\
@@ -119,8 +118,7 @@ pub fn names(alloc: Global, line: &str) -> Result<Vec<Name>, AllocError> {
 }
 
 /// Runs the words of the line in a folder of these files; the proof is `P.TXT`. The k-th call of
-/// the
-/// desk fails where k isn't 0.
+/// the desk fails where k isn't 0.
 pub fn run(alloc: Global, line: &str, files: &[File], failing: u64) -> Result<Ended, Fail> {
     let mut desk = filled(alloc, files, failing)?;
     let words = names(alloc, line)?;

@@ -1,7 +1,6 @@
 //! What of whole days isn't one answer: each call of the desk failing in turn, each first part of a
 //! proof, generated days, whose `demo` says what `score` says of their files, and two workers at
-//! work
-//! at the same time.
+//! work at the same time.
 #![tactic(auto)]
 
 #[cfg(test)]

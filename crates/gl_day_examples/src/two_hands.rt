@@ -6,8 +6,7 @@ use gl_steward::{Ceiling, EngineNoise, Steward};
 use std::test::Fail;
 
 /// `score` by two workers hands its one claim to both of them, and comes to the sheet and the proof
-/// of
-/// the day.
+/// of the day.
 #[test]
 fn two_workers_of_a_day_see_each_other_at_the_gate(rt: HostRuntime) -> Result<(), Fail> {
     let alloc = rt.alloc();

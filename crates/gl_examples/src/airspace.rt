@@ -69,8 +69,7 @@ fn compare(rt: &impl Abort, alloc: Global, filling: &str, table: &str) -> Result
 }
 
 /// Compares the answer of a volume with each of the lines behind its first ones: where the line
-/// reads,
-/// the volume isn't complete and so its first line is the one that doesn't read.
+/// reads, the volume isn't complete and so its first line is the one that doesn't read.
 fn compare_lines(
     rt: &impl Abort,
     alloc: Global,

@@ -1,8 +1,6 @@
 //! Worked examples of airspace texts, of flights through areas and in races, of claims from the
-//! search
-//! to the checker, and runs of the desks, with answers that were computed by hand or by an
-//! independent
-//! program.
+//! search to the checker, and runs of the desks, with answers that were computed by hand or by an
+//! independent program.
 #![tactic(auto)]
 
 #[cfg(test)]

@@ -7,8 +7,7 @@ use std::test::Fail;
 
 /// A recording with two more decimals of the minutes of each place: the origin, a degree east of
 /// it, a degree north of it, and a place which is by the last two digits 999.99 m or 1,000.01 m
-/// east
-/// of it.
+/// east of it.
 fn round_flight(alloc: Global, digits: &str) -> Result<Vec<u8>, AllocError> {
     let text = format!(in alloc;
         "AXXXABC\nHFDTE010724\nI023637LAD3839LOD\n\

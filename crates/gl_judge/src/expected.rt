@@ -159,8 +159,7 @@ fn claims_of(
 }
 
 /// How a flight is judged, as [`judge`](crate::judge) has it, and the claims that are expected of
-/// it,
-/// as [`claims`] has them. The only error is want of memory.
+/// it, as [`claims`] has them. The only error is want of memory.
 pub fn judge_flight(
     alloc: Global,
     task: &Task,

@@ -1,6 +1,5 @@
 //! The program: carries out the words of the system over the current folder and the standard
-//! output, and
-//! ends with the status of the run as a number.
+//! output, and ends with the status of the run as a number.
 #![tactic(auto)]
 
 use gl_app::run_program;

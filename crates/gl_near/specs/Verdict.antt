@@ -26,8 +26,7 @@ AreSaid pairing best boxes said =
 
 -- The first of these that holds. Pair: there is a total, and the pair isn't there or doesn't fit.
 -- Total: the pair has another distance. Then the first box that is wrong. Extra: the boxes before
--- it
--- are already the whole. Place: with it they begin no partition of the whole. Cell: it isn't
+-- it are already the whole. Place: with it they begin no partition of the whole. Cell: it isn't
 -- closed. Open: the boxes end before they are the whole. Yes: nothing is wrong.
 abbrev pub IsVerdict : Pairing → Option NearBest → List (List (ℕ × ℕ) × NearWhy) → NearVerdict
     → Type 0

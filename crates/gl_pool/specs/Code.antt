@@ -1,6 +1,5 @@
 -- Definitions of the code alone: what its loops keep, and views of its types. No promise to a
--- caller
--- cites them.
+-- caller cites them.
 pub mod Crew
 pub mod Many
 pub mod Settle

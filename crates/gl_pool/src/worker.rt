@@ -41,8 +41,8 @@ fn empty_bench<G: Goal>(alloc: Global, goal: &G, seen: Option<u64>) -> Result<Be
     })
 }
 
-/// What one worker does, but for the gate. Its closed cells come as lists that are in order: those
-/// of a cell that it stole begin another list.
+/// What one worker does, but for the gate. Its closed cells come as runs that are in order: those
+/// of a cell that it stole begin another run.
 pub(crate) fn work_on<Rt: Wait, G: Goal>(
     rt: &Rt,
     alloc: Global,

@@ -21,8 +21,7 @@ pub fn short(alloc: Global, most: u64) -> Result<MemDesk, AllocError> {
 }
 
 /// A folder with the same files, whose call with this number fails, counted behind those that put
-/// the
-/// files there. None fails if it is 0.
+/// the files there. None fails if it is 0.
 pub fn twin(alloc: Global, desk: &mut MemDesk, failing: u64) -> Result<MemDesk> {
     let names = desk.names(alloc)?;
     let before = if failing == 0 { 0 } else { names.len() as u64 };
@@ -76,8 +75,7 @@ pub fn copy(rt: &HostRuntime, desk: &mut MemDesk, rest: &str) -> Result<()> {
 }
 
 /// `change NAME FILE OLD -> NEW` appends what a file of `data/` has, with its first part that is
-/// `OLD`
-/// replaced.
+/// `OLD` replaced.
 pub fn change(rt: &HostRuntime, desk: &mut MemDesk, rest: &str) -> Result<()> {
     let (name, rest) = rest.split_once(' ').context("a name")?;
     let (file, rest) = rest.split_once(' ').context("a file")?;
@@ -106,8 +104,7 @@ pub fn times(rt: &HostRuntime, desk: &mut MemDesk, rest: &str) -> Result<()> {
 }
 
 /// `seconds COUNT NAME` appends so many fixes a second apart from midnight on, across the next one,
-/// at
-/// one place.
+/// at one place.
 pub fn seconds(rt: &HostRuntime, desk: &mut MemDesk, rest: &str) -> Result<()> {
     let (count, name) = rest.split_once(' ').context("a count and a name")?;
     let mut all = String::new(rt.alloc());

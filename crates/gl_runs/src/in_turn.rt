@@ -13,12 +13,10 @@ use std::thread::Threads;
 #[derive(Clone, Copy)]
 pub enum Often<'a> {
     /// `failures WORDS`: how they end, and how many calls of the desk they make, if each of these
-    /// can
-    /// fail as it has to.
+    /// can fail as it has to.
     Failures(&'a str),
     /// `prefixes NAME NUMBER WORDS`: the result and the metres of the entrant with this number, for
-    /// each
-    /// first part of the file in its place, said where they change.
+    /// each first part of the file in its place, said where they change.
     Prefixes(&'a str),
 }
 
@@ -57,8 +55,7 @@ fn holds_first_parts(
 
 /// Each call of the desk fails in turn. The run has to end with `Desk` at that call, to have said a
 /// first part of what the whole run says, and to have left each file that was there, and a first
-/// part
-/// of each that it makes.
+/// part of each that it makes.
 fn failures<Rt: Threads + Wait + Sync>(
     rt: &Rt,
     alloc: Global,

@@ -31,12 +31,10 @@ pub enum Line<'a> {
     /// `first WORDS`: how it ended, and the first line of what it said.
     First(&'a str),
     /// `among WORDS | LINE | LINE`: how it ended, the first line of what it said, and whether the
-    /// rest
-    /// of it is one of these lines.
+    /// rest of it is one of these lines.
     Among(&'a str, &'a str),
     /// `severe WORDS`: how it ended with a steward that always owes the greatest number, and what
-    /// it
-    /// said.
+    /// it said.
     Severe(&'a str),
 }
 

@@ -167,12 +167,9 @@ fn all_choices(alloc: Global) -> Result<String, AllocError> {
 }
 
 /// A flight from the origin by two degrees east, and by 2.7 degrees north and half a degree east,
-/// back
-/// to the origin. Its triangle of 871 km has legs of 25.5, 39.4 and 35.0 percent. So the choice of
-/// its
-/// first three fixes isn't shut, and that is box 11; those before it are disordered or have legs of
-/// 0
-/// and twice 50 percent.
+/// back to the origin. Its triangle of 871 km has legs of 25.5, 39.4 and 35.0 percent. So the
+/// choice of its first three fixes isn't shut, and that is box 11; those before it are disordered
+/// or have legs of 0 and twice 50 percent.
 #[test]
 fn no_box_shuts_a_large_triangle_out(rt: HostRuntime) -> Result<(), Fail> {
     let fixes = [

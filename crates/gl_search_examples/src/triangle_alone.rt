@@ -11,8 +11,7 @@ use std::test::Fail;
 
 /// Flights, a line each: within how many centimetres they close, whether they have a triangle, and
 /// their places in whole degrees north and east. The first three come back to their start, or stay
-/// a
-/// degree away from it; of the fourth a smaller part comes back. Then come one across the 180th
+/// a degree away from it; of the fourth a smaller part comes back. Then come one across the 180th
 /// meridian and one round a pole, one that stays at one place, and a line there and back.
 const FLIGHTS: &str = "0 true: 0 0, 3 2, 0 4, 0 0
 11119491 false: 0 0, 3 2, 0 4, 0 1
@@ -141,8 +140,7 @@ fn next_draw(draw: u32) -> u32 {
 }
 
 /// Eight fixes that are drawn from a square of 370 km: of each angle a thousand values are 12
-/// seconds
-/// apart, from 100 minutes below 0 on.
+/// seconds apart, from 100 minutes below 0 on.
 fn drawn_flight(alloc: Global, seed: u32) -> Result<Vec<Fix>, AllocError> {
     let mut fixes = Vec::new(alloc);
     let mut draw = seed;

@@ -34,8 +34,7 @@ const OPEN_AND_CLOSED: &str = "\
 
 /// The first three events count, in the order of the file, which isn't that of their times; E lines
 /// of another code are no events. An event that comes after the crossing doesn't announce it,
-/// unless
-/// it is only written down later.
+/// unless it is only written down later.
 const COUNTED: &str = "\
     010724 090000-PEV 090100-PEV 100500-PEV 101450-W 101510-E: outlanded 1 1 36900 0\n\
     010724 090000-PEV 090100-PEV 090200-PEV 100500-PEV 101450-W 101510-E: no start\n\
