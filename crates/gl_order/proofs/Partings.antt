@@ -3,25 +3,25 @@ use Rattle.std.proofs.Common.{◌≡◌, ◌≢◌, ◌∙◌, sym, ap, refl, su
 use Rattle.std.specs.Prelude.{All}
 use Rattle.std.specs.List.{SwappedAt}
 use Rattle.std.proofs.lemmas.Bool.{cases_order}
-use Rattle.std.proofs.lemmas.List.{get_or_default, get_or-take, get_or-drop, length-drop, length-map, length-take, length-take-le, map-append, take-append-drop, take-map, drop-map}
+use Rattle.std.proofs.lemmas.List.{get_or_default, get_or-set_same, get_or-take, get_or-drop, length-drop, length-map, length-set, length-take, length-take-le, map-append, take-append-drop, take-map, drop-map}
 use Rattle.std.specs.List.Sorted.{IsPermutation}
 use Rattle.std.proofs.lemmas.List.Elements.{All-map}
 use Rattle.std.proofs.lemmas.List.Sorted.{All-permutation, IsPermutation-map, length_permutation, sum_by-IsPermutation}
 use Rattle.std.proofs.lemmas.List.Sums.{sum_by-cons, get_or-le-sum_by}
 use Rattle.gl_box.specs.declared.span.Span.{Span}
 use Rattle.gl_box.specs.declared.cell.Cell.{Cell}
-use Rattle.gl_box.specs.Cell.{Covers, Holds, ends, holds, spans_of}
-use Rattle.gl_box.specs.Halves.{AreHalves, IsHalf, IsSingle, span_at}
+use Rattle.gl_box.specs.Cell.{Holds, ends, holds, spans_of}
+use Rattle.gl_box.specs.Halves.{AreHalves, IsHalf, IsSingle, IsWidest, span_at}
 use Rattle.gl_box.specs.Frontier.{IsFrontier, IsNode, mult}
 use Rattle.gl_box.specs.Frontier.IsFrontier.{alone, parted}
 use Rattle.gl_box.specs.Frontier.IsNode.{whole, half}
-use Rattle.gl_box.proofs.Held.{holds_whole}
+use Rattle.gl_box.proofs.Held.{covers_at, holds_at, holds_whole, length-covers}
 use Rattle.gl_box.proofs.Nodes.{covers_lower, covers_node, covers_upper, holds_through, member_node}
 use Rattle.gl_box.proofs.Parts.{halves_parted, mult-append, mult-held}
 use Rattle.gl_box.proofs.Singles.{AreOrdered, ordered-set}
 use Rattle.gl_box.proofs.Spans.{single-narrow}
-use Rattle.gl_walk.proofs.Frontiers.{lower_unique, upper_unique}
-use Rattle.gl_order.specs.Order.{AreParts}
+use Rattle.gl_walk.proofs.Frontiers.{lower_unique, upper_unique, widest_unique}
+use Rattle.gl_order.specs.Order.{AreParts, EndsBy}
 
 -- a half of a cell is a node of its lower or of its upper half
 half_node : (cell lower upper part : List (ℕ × ℕ)) → AreHalves cell lower upper → IsHalf cell part → IsNode lower part ⊎ IsNode upper part
@@ -199,25 +199,45 @@ in_front cells n k below = (omega (arith, length-take n cells), omega (arith, le
 behind : (cells : List (List (ℕ × ℕ))) (n k : ℕ) → k < length (drop n cells) → n + k < length cells
 behind cells n k below = omega (arith, length-drop n cells)
 
--- what the lower half covers lies in it, and what it doesn't cover lies in the upper half
-pub parts_covered : (cell lower upper : List (ℕ × ℕ)) (cells : List (List (ℕ × ℕ))) (n : ℕ) → AreParts cell cells → All HasTuple cells → length cells ≢ 1 → AreHalves cell lower upper
-    → All (Covers lower) (take n cells) → All (λ c. Covers lower c → ⊥) (drop n cells) → AreParts lower (take n cells) × AreParts upper (drop n cells)
-parts_covered cell lower upper cells n parts some more halves covered out =
+-- what lies in the lower half ends with it at the latest, on each axis
+ends_in : (lower part : List (ℕ × ℕ)) (axis : ℕ) → axis < length lower → IsNode lower part → EndsBy axis (span_at lower axis).1 part
+ends_in lower part axis inside node =
+    let covers = covers_node lower part node in
+    (omega (arith, length-covers lower part covers, inside), (covers_at lower part axis covers inside).1)
+
+-- what lies in the upper half ends behind the lower one, on the axis of the cut
+ends_behind : (cell lower upper part : List (ℕ × ℕ)) (axis : ℕ) → AreHalves cell lower upper → IsWidest cell axis → IsNode upper part → HasTuple part → EndsBy axis (span_at lower axis).1 part → ⊥
+ends_behind cell lower upper part axis halves is_widest node some ends =
+    let same : axis ≡ halves.axis = widest_unique cell axis halves.axis is_widest halves.widest in
+    let span = span_at cell halves.axis in
+    let middle = (span.0 + span.1) / 2 in
+    let low : span_at lower halves.axis ≡ (span.0, middle) = ap (λ (c : List (ℕ × ℕ)). span_at c halves.axis) halves.lower_is ∙ get_or-set_same cell halves.axis (span.0, middle) (0, 0) halves.widest.inside in
+    let high : span_at upper halves.axis ≡ (middle + 1, span.1) = ap (λ (c : List (ℕ × ℕ)). span_at c halves.axis) halves.upper_is
+    ∙ get_or-set_same cell halves.axis (middle + 1, span.1) (0, 0) halves.widest.inside in
+    let covers = covers_node upper part node in
+    let ended : EndsBy halves.axis (span_at lower halves.axis).1 part = subst (λ (a : ℕ). EndsBy a (span_at lower a).1 part) same ends in
+    let within = covers_at upper part halves.axis covers (omega (arith, length-covers upper part covers, ended.0)) in
+    let held = holds_at part some.0 halves.axis some.1 ended.0 in
+    omega (arith, within.0, held.0, held.1, ended.1, ap (λ (s : ℕ × ℕ). s.1) low, ap (λ (s : ℕ × ℕ). s.0) high)
+
+-- what ends with the lower half lies in it, and what ends behind it lies in the upper half
+pub parts_ended : (cell lower upper : List (ℕ × ℕ)) (cells : List (List (ℕ × ℕ))) (n axis : ℕ) → AreParts cell cells → All HasTuple cells → length cells ≢ 1 → AreHalves cell lower upper
+    → IsWidest cell axis → All (EndsBy axis (span_at lower axis).1) (take n cells) → All (λ c. EndsBy axis (span_at lower axis).1 c → ⊥) (drop n cells)
+    → AreParts lower (take n cells) × AreParts upper (drop n cells)
+parts_ended cell lower upper cells n axis parts some more halves is_widest ended behind_it =
     parts_halved cell lower upper cells n parts halves
     (λ k d below.
     let at = in_front cells n k below in
     let same = get_or-take n cells k d at.0 in
     subst (IsNode lower) (sym same) (elim (each_in_half cell lower upper cells k d parts some more halves at.1) [
       | inl low ↦ low
-      | inr high ↦
-          let other = some k d at.1 in
-          let held = holds_through lower (get_or cells k d) other.0 (subst (Covers lower) same (covered k d below)) other.1 in
-          absurd (never_both cell lower upper other.0 halves held (held_by_node upper _ other.0 high other.1))
+      | inr high ↦ absurd (ends_behind cell lower upper (get_or cells k d) axis halves is_widest high (some k d at.1) (subst (EndsBy axis (span_at lower axis).1) same (ended k d below)))
     ]))
     (λ k d below.
     let same = get_or-drop n cells k d in
+    let inside : axis < length lower = omega (arith, is_widest.inside, ap length halves.lower_is, length-set {A = ℕ × ℕ}) in
     subst (IsNode upper) (sym same) (elim (each_in_half cell lower upper cells (n + k) d parts some more halves (behind cells n k below)) [
-      | inl low ↦ absurd (out k d below (subst (Covers lower) (sym same) (covers_node lower _ low)))
+      | inl low ↦ absurd (behind_it k d below (subst (EndsBy axis (span_at lower axis).1) (sym same) (ends_in lower _ axis inside low)))
       | inr high ↦ high
     ]))
 
@@ -278,59 +298,72 @@ parts-one cell lower upper (part ∷ []) parts halves low high one = elim (node_
 ]
 parts-one cell lower upper (part ∷ (other ∷ cells)) parts halves low high one = absurd (omega arith)
 
--- of the boxes at some places, those with P come first and the others have none of it
-pub record PartedAt {B : Type 0} (P : B → Type 0) (boxes : List B) (count place : ℕ) : Type 0 where
-  pub front : (k : ℕ) (d : B) → k < count → P (get_or boxes k d)
-  pub back : (k : ℕ) (d : B) → count ≤ k → k < place → P (get_or boxes k d) → ⊥
+-- of some boxes those at the front have P, and those at the back have none of it
+pub record PartedAt {B : Type 0} (P : B → Type 0) (boxes : List B) (front back : ℕ) : Type 0 where
+  pub lower : (k : ℕ) (d : B) → k < front → P (get_or boxes k d)
+  pub upper : (k : ℕ) (d : B) → back ≤ k → k < length boxes → P (get_or boxes k d) → ⊥
 
--- one more box with P changes places with the first that has none of it
-pub parted_swap : {B : Type 0} (P : B → Type 0) (boxes after : List B) (count place : ℕ) → SwappedAt boxes after count place → count ≤ place → ((d : B) → P (get_or boxes place d))
-    → PartedAt P boxes count place → PartedAt P after (count + 1) (place + 1)
-parted_swap P boxes after count place swapped order here parted_ = record {
-  front = λ k d below. elim (cases_order k count) [
-    | inl same ↦ subst (λ (j : ℕ). P (get_or after j d)) (sym same) (subst P (sym (swapped.0 d)) (here d))
+-- one more box with P is at the front
+pub parted_front : {B : Type 0} (P : B → Type 0) (boxes : List B) (front back : ℕ) → ((d : B) → P (get_or boxes front d)) → PartedAt P boxes front back → PartedAt P boxes (front + 1) back
+parted_front P boxes front back here parted_ = record {
+  lower = λ k d below. elim (cases_order k front) [
+    | inl same ↦ subst (λ (j : ℕ). P (get_or boxes j d)) (sym same) (here d)
     | inr other ↦ elim other [
-      | inl before ↦
-          let not_count : k ≢ count = omega arith in
-          let not_place : k ≢ place = omega arith in
-          subst P (sym (swapped.2 k d not_count not_place)) (parted_.front k d before)
+      | inl before ↦ parted_.lower k d before
       | inr behind ↦ absurd (omega arith)
     ]
   ];
-  back = λ k d from below has. elim (cases_order k place) [
-    | inl same ↦ parted_.back count d (omega arith) (omega arith) (subst P (swapped.1 d) (subst (λ (j : ℕ). P (get_or after j d)) same has))
-    | inr other ↦ elim other [
-      | inl before ↦
-          let not_count : k ≢ count = omega arith in
-          let not_place : k ≢ place = omega arith in
-          parted_.back k d (omega arith) before (subst P (swapped.2 k d not_count not_place) has)
-      | inr behind ↦ absurd (omega arith)
-    ]
-  ];
+  upper = parted_.upper;
 }
 
--- one more box without P stays where it is
-pub parted_stay : {B : Type 0} (P : B → Type 0) (boxes : List B) (count place : ℕ) → ((d : B) → P (get_or boxes place d) → ⊥) → PartedAt P boxes count place → PartedAt P boxes count (place + 1)
-parted_stay P boxes count place here parted_ = record {
-  front = parted_.front;
-  back = λ k d from below has. elim (cases_order k place) [
+-- one more box without P is at the back
+pub parted_back : {B : Type 0} (P : B → Type 0) (boxes : List B) (front last : ℕ) → ((d : B) → P (get_or boxes last d) → ⊥) → PartedAt P boxes front (last + 1) → PartedAt P boxes front last
+parted_back P boxes front last here parted_ = record {
+  lower = parted_.lower;
+  upper = λ k d from inside has. elim (cases_order k last) [
     | inl same ↦ here d (subst (λ (j : ℕ). P (get_or boxes j d)) same has)
     | inr other ↦ elim other [
-      | inl before ↦ parted_.back k d from before has
-      | inr behind ↦ absurd (omega arith)
+      | inl before ↦ absurd (omega arith)
+      | inr behind ↦ parted_.upper k d (omega arith) inside has
     ]
   ];
 }
 
--- once all boxes were looked at
-pub parted_front : {B : Type 0} (P : B → Type 0) (boxes : List B) (count place : ℕ) → PartedAt P boxes count place → All P (take count boxes)
-parted_front P boxes count place parted_ k d below =
-    let inside : k < count = omega (arith, length-take count boxes) in
-    subst P (sym (get_or-take count boxes k d inside)) (parted_.front k d inside)
+-- a box without P changes places with one that has it
+pub parted_swap : {B : Type 0} (P : B → Type 0) (boxes after : List B) (front last : ℕ) → SwappedAt boxes after front last → length after ≡ length boxes → front < last
+    → ((d : B) → P (get_or boxes front d) → ⊥) → ((d : B) → P (get_or boxes last d)) → PartedAt P boxes front (last + 1) → PartedAt P after (front + 1) last
+parted_swap P boxes after front last swapped long order wrong right parted_ = record {
+  lower = λ k d below. elim (cases_order k front) [
+    | inl same ↦ subst (λ (j : ℕ). P (get_or after j d)) (sym same) (subst P (sym (swapped.0 d)) (right d))
+    | inr other ↦ elim other [
+      | inl before ↦
+          let not_front : k ≢ front = omega arith in
+          let not_last : k ≢ last = omega arith in
+          subst P (sym (swapped.2 k d not_front not_last)) (parted_.lower k d before)
+      | inr behind ↦ absurd (omega arith)
+    ]
+  ];
+  upper = λ k d from inside has. elim (cases_order k last) [
+    | inl same ↦ wrong d (subst P (swapped.1 d) (subst (λ (j : ℕ). P (get_or after j d)) same has))
+    | inr other ↦ elim other [
+      | inl before ↦ absurd (omega arith)
+      | inr behind ↦
+          let not_front : k ≢ front = omega arith in
+          let not_last : k ≢ last = omega arith in
+          parted_.upper k d (omega arith) (omega arith) (subst P (swapped.2 k d not_front not_last) has)
+    ]
+  ];
+}
 
-pub parted_back : {B : Type 0} (P : B → Type 0) (boxes : List B) (count place : ℕ) → length boxes ≤ place → PartedAt P boxes count place → All (λ box. P box → ⊥) (drop count boxes)
-parted_back P boxes count place all parted_ k d below has =
-    parted_.back (count + k) d (omega arith) (omega (arith, length-drop count boxes)) (subst P (get_or-drop count boxes k d) has)
+-- once all boxes are parted
+pub front_parted : {B : Type 0} (P : B → Type 0) (boxes : List B) (front back : ℕ) → PartedAt P boxes front back → All P (take front boxes)
+front_parted P boxes front back parted_ k d below =
+    let inside : k < front = omega (arith, length-take front boxes) in
+    subst P (sym (get_or-take front boxes k d inside)) (parted_.lower k d inside)
+
+pub back_parted : {B : Type 0} (P : B → Type 0) (boxes : List B) (front back : ℕ) → back ≤ front → PartedAt P boxes front back → All (λ box. P box → ⊥) (drop front boxes)
+back_parted P boxes front back all parted_ k d below has =
+    parted_.upper (front + k) d (omega arith) (omega (arith, length-drop front boxes)) (subst P (get_or-drop front boxes k d) has)
 
 -- boxes that part a whole do so in any order
 pub parts-permutation : {B : Type 0} (cell : B → List (ℕ × ℕ)) (all : List (ℕ × ℕ)) (boxes after : List B) → IsPermutation boxes after → AreParts all (map cell boxes) → AreParts all (map cell after)
@@ -360,19 +393,21 @@ module _ {B : Type 0} (of : B → List (ℕ × ℕ)) where
       let rest = parts_passed (spans_of cell) (spans_of lower) (spans_of upper) (map of boxes) count parts (parts_held cell (map of boxes) parts) (length-cells boxes more) halves frontier in
       subst (AreParts (spans_of upper)) (drop-map of count boxes ∙ ap (map of) (sym is)) rest
 
-  -- boxes of which those that the lower half covers come first
-  pub boxes_covered : (cell lower upper : Cell) (boxes after front back : List B) (count : ℕ) → AreParts (spans_of cell) (map of boxes) → length boxes ≢ 1
-      → AreHalves (spans_of cell) (spans_of lower) (spans_of upper) → IsPermutation boxes after → All (λ box. Covers (spans_of lower) (of box)) (take count after)
-      → All (λ box. Covers (spans_of lower) (of box) → ⊥) (drop count after) → front ≡ take count after → back ≡ drop count after
+  -- boxes of which those that end with the lower half come first
+  pub boxes_ended : (cell lower upper : Cell) (boxes after front back : List B) (count axis last : ℕ) → AreParts (spans_of cell) (map of boxes) → length boxes ≢ 1
+      → AreHalves (spans_of cell) (spans_of lower) (spans_of upper) → IsWidest (spans_of cell) axis → last ≡ (span_at (spans_of lower) axis).1 → IsPermutation boxes after
+      → All (λ box. EndsBy axis last (of box)) (take count after) → All (λ box. EndsBy axis last (of box) → ⊥) (drop count after) → front ≡ take count after → back ≡ drop count after
       → AreParts (spans_of lower) (map of front) × AreParts (spans_of upper) (map of back)
-  boxes_covered cell lower upper boxes after front back count parts more halves same covered out front_is back_is =
+  boxes_ended cell lower upper boxes after front back count axis last parts more halves is_widest at same ended behind_it front_is back_is =
+      let end = (span_at (spans_of lower) axis).1 in
       let long : length after ≢ 1 = λ one. more (sym (length_permutation boxes after same) ∙ one) in
-      let low = subst (All (Covers (spans_of lower))) (sym (take-map of count after)) (All-map (Covers (spans_of lower)) of (take count after) covered) in
-      let high = subst (All (λ (c : List (ℕ × ℕ)). Covers (spans_of lower) c → ⊥)) (sym (drop-map of count after))
-      (All-map (λ (c : List (ℕ × ℕ)). Covers (spans_of lower) c → ⊥) of (drop count after) out) in
+      let low = subst (λ (e : ℕ). All (EndsBy axis e) (take count (map of after))) at
+      (subst (All (EndsBy axis last)) (sym (take-map of count after)) (All-map (EndsBy axis last) of (take count after) ended)) in
+      let high = subst (λ (e : ℕ). All (λ (c : List (ℕ × ℕ)). EndsBy axis e c → ⊥) (drop count (map of after))) at
+      (subst (All (λ (c : List (ℕ × ℕ)). EndsBy axis last c → ⊥)) (sym (drop-map of count after)) (All-map (λ (c : List (ℕ × ℕ)). EndsBy axis last c → ⊥) of (drop count after) behind_it)) in
       let moved = parts-permutation of (spans_of cell) boxes after same parts in
-      let both = parts_covered (spans_of cell) (spans_of lower) (spans_of upper) (map of after) count moved (parts_held cell (map of after) moved)
-      (length-cells after long) halves low high in (
+      let both = parts_ended (spans_of cell) (spans_of lower) (spans_of upper) (map of after) count axis moved (parts_held cell (map of after) moved)
+      (length-cells after long) halves is_widest low high in (
         subst (AreParts (spans_of lower)) (take-map of count after ∙ ap (map of) (sym front_is)) both.0,
         subst (AreParts (spans_of upper)) (drop-map of count after ∙ ap (map of) (sym back_is)) both.1,
       )

@@ -1,10 +1,10 @@
-ghost use Rattle.std.specs.Prelude.{◌≤◌, ℕ, List, drop, length, map, take, All, IfOk, IfSome, IsPermutation, OnOk};
-ghost use Rattle.gl_box.specs.Cell.{Covers, spans_of};
+ghost use Rattle.std.specs.Prelude.{◌↔◌, ◌≤◌, ℕ, List, drop, length, map, take, All, IfOk, IfSome, IsPermutation, IsTrue, OnOk};
+ghost use Rattle.gl_box.specs.Cell.{spans_of};
 ghost use Rattle.gl_box.specs.Frontier.{IsFrontier};
-ghost use Rattle.gl_order.specs.Order.{AreParts, cells_of};
+ghost use Rattle.gl_order.specs.Order.{AreParts, EndsBy};
 
 use crate::stretches::bring_stretches;
-use gl_box::{Cell, covers, halve};
+use gl_box::{Cell, halve, widest};
 use gl_walk::{Boxed, go_down};
 use std::alloc::{AllocError, Global};
 
@@ -35,23 +35,36 @@ fn frontier_len<B: Boxed>(
     Ok(None)
 }
 
-/// Brings the boxes that a cell covers to the front, and answers how many they are.
-fn part<B: Boxed>(cell: &Cell, boxes: &mut [B]) -> usize
+/// Whether a cell has an axis and ends there at a place or before it.
+#[inline]
+fn ends_by(cell: &Cell, axis: usize, last: u32) -> bool
+    ensures { IsTrue result ↔ EndsBy axis last (spans_of cell.now) }
+{
+    axis < cell.axes as usize && cell.spans[axis].hi <= last
+}
+
+/// Brings the boxes that end on an axis at a place or before it to the front, and answers how many
+/// they are. A box changes places only with one that is wrong there as well.
+fn part<B: Boxed>(axis: usize, last: u32, boxes: &mut [B]) -> usize
     ensures within { result ≤ length boxes.new }
     ensures permutation { IsPermutation boxes.old boxes.new }
-    ensures front { All (λ box. Covers (spans_of cell.now) (B.spans box))
-        (take result boxes.new) }
-    ensures back { All (λ box. Covers (spans_of cell.now) (B.spans box) → ⊥)
-        (drop result boxes.new) }
+    ensures front { All (λ box. EndsBy axis last (B.spans box)) (take result boxes.new) }
+    ensures back { All (λ box. EndsBy axis last (B.spans box) → ⊥) (drop result boxes.new) }
 {
-    let mut count = 0;
-    for place in 0..boxes.len() {
-        if covers(cell, boxes[place].cell()) {
-            boxes.swap(count, place);
-            count += 1;
+    let mut front = 0;
+    let mut back = boxes.len();
+    'boxes: while front < back {
+        if ends_by(boxes[front].cell(), axis, last) {
+            front += 1;
+        } else if !ends_by(boxes[back - 1].cell(), axis, last) {
+            back -= 1;
+        } else {
+            back -= 1;
+            boxes.swap(front, back);
+            front += 1;
         }
     }
-    count
+    front
 }
 
 /// Puts boxes that part a cell into the order of the split tree. Where those of the lower half come
@@ -66,6 +79,7 @@ fn put_in_order<B: Boxed>(
     ensures permutation { OnOk result (IsPermutation boxes.old boxes.new) }
     ensures frontier { OnOk result (IsFrontier (spans_of cell) (map B.spans boxes.new)) }
 {
+    let axis = widest(&cell);
     let Some(lower) = halve(&mut cell) else {
         return Ok(());
     };
@@ -76,7 +90,8 @@ fn put_in_order<B: Boxed>(
         let (_, back) = boxes.split_at_mut(count);
         return put_in_order(cell, back, opened);
     }
-    let count = part(&lower, boxes);
+    // The lower half ends before the upper one on this axis, and each box lies in one of them.
+    let count = part(axis, lower.spans[axis].hi, boxes);
     let (front, back) = boxes.split_at_mut(count);
     put_in_order(lower, front, opened)?;
     put_in_order(cell, back, opened)

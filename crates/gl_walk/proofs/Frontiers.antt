@@ -25,7 +25,7 @@ covers_both (x ∷ xs) (y ∷ ys) ab ba =
     λ i. first i ∷ rest i
 
 -- a cell has one widest axis, and so one pair of halves
-widest_unique : (cell : List (ℕ × ℕ)) (a b : ℕ) → IsWidest cell a → IsWidest cell b → a ≡ b
+pub widest_unique : (cell : List (ℕ × ℕ)) (a b : ℕ) → IsWidest cell a → IsWidest cell b → a ≡ b
 widest_unique cell a b is_a is_b = elim (cases_order a b) [
   | inl same ↦ same
   | inr other ↦ elim other [

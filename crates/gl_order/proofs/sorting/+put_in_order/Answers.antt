@@ -1,14 +1,24 @@
-use Rattle.std.proofs.Common.{◌≡◌, ◌∙◌, sym, ap, refl, subst, ℕ, ◌++◌, take, map, List, Option, arith}
+use Rattle.std.proofs.Common.{◌≡◌, ◌∙◌, sym, ap, refl, subst, ℕ, ◌<◌, ◌++◌, get_or, length, take, map, List, Option, arith}
 use Rattle.std.specs.Prelude.{IfSome}
 use Rattle.std.specs.List.Sorted.{IsPermutation}
 use Rattle.std.proofs.lemmas.List.Sorted.{IsPermutation-append, IsPermutation-append_right, IsPermutation-trans}
-use Rattle.std.proofs.lemmas.List.{take-map}
+use Rattle.std.proofs.lemmas.List.{length-set, take-map}
 use Rattle.std.proofs.lemmas.Result.{on_ok_weaker}
+use Rattle.gl_box.specs.declared.cell.Cell.{Cell}
+use Rattle.gl_box.specs.declared.span.Span.{Span}
 use Rattle.gl_box.specs.Cell.{spans_of}
+use Rattle.gl_box.specs.Halves.{AreHalves, IsWidest, span_at}
 use Rattle.gl_box.specs.Frontier.{IsFrontier}
 use Rattle.gl_box.proofs.Nodes.{spread-lower, spread-upper}
-use Rattle.gl_order.proofs.Partings.{boxes_covered, boxes_joined, boxes_one, boxes_passed, boxes_single}
+use Rattle.gl_box.proofs.Spans.{length-spans_of, span_at-spans_of}
+use Rattle.gl_order.proofs.Partings.{boxes_ended, boxes_joined, boxes_one, boxes_passed, boxes_single}
 use Rattle.gl_order.proofs.sorting.+put_in_order.Goals as goal
+
+-- the last place of the lower half on the axis of the cut
+end_of : (cell lower upper : Cell) (axis : ℕ) (some : Span) → IsWidest (spans_of cell) axis → AreHalves (spans_of cell) (spans_of lower) (spans_of upper) → (get_or lower.spans axis some).hi ≡ (span_at (spans_of lower) axis).1
+end_of cell lower upper axis some is_widest halves =
+    let inside : axis < lower.axes = omega (arith, is_widest.inside, ap length halves.lower_is, length-set {A = ℕ × ℕ}, length-spans_of lower) in
+    sym (ap (λ (s : ℕ × ℕ). s.1) (span_at-spans_of lower axis some inside))
 
 pub put_in_order-requires : goal.put_in_order-requires
 put_in_order-requires g t c κs within =
@@ -25,8 +35,9 @@ put_in_order-requires-2 g t c κs within = (
   omega (arith, spread-lower _ _ _ c.in-Some.ensures.halves, c.decreases),
   (
     within,
-    (boxes_covered g.B.Boxed.spans c.args.cell c.in-Some.lower c.halve.new.cell c.args.boxes.now c.part-count.new.boxes c.split_at_mut-front.result.0.now c.split_at_mut-front.result.1.now c.part-count.result c.requires
-        c.if-boxes-eq1.false c.in-Some.ensures.halves c.part-count.ensures.permutation c.part-count.ensures.front c.part-count.ensures.back c.split_at_mut-front.ensures.front
+    (boxes_ended g.B.Boxed.spans c.args.cell c.in-Some.lower c.halve.new.cell c.args.boxes.now c.part-count.new.boxes c.split_at_mut-front.result.0.now c.split_at_mut-front.result.1.now c.part-count.result
+        c.widest-axis.result _ c.requires c.if-boxes-eq1.false c.in-Some.ensures.halves c.widest-axis.ensures (end_of c.args.cell c.in-Some.lower c.halve.new.cell c.widest-axis.result c.index-lower-axis.result c.widest-axis.ensures c.in-Some.ensures.halves)
+        c.part-count.ensures.permutation c.part-count.ensures.front c.part-count.ensures.back c.split_at_mut-front.ensures.front
         c.split_at_mut-front.ensures.back).0,
   ),
 )
@@ -36,8 +47,9 @@ put_in_order-requires-3 g t c κs within = (
   omega (arith, spread-upper _ _ _ c.in-Some.ensures.halves, c.decreases),
   (
     within,
-    (boxes_covered g.B.Boxed.spans c.args.cell c.in-Some.lower c.halve.new.cell c.args.boxes.now c.part-count.new.boxes c.split_at_mut-front.result.0.now c.split_at_mut-front.result.1.now c.part-count.result c.requires
-        c.if-boxes-eq1.false c.in-Some.ensures.halves c.part-count.ensures.permutation c.part-count.ensures.front c.part-count.ensures.back c.split_at_mut-front.ensures.front
+    (boxes_ended g.B.Boxed.spans c.args.cell c.in-Some.lower c.halve.new.cell c.args.boxes.now c.part-count.new.boxes c.split_at_mut-front.result.0.now c.split_at_mut-front.result.1.now c.part-count.result
+        c.widest-axis.result _ c.requires c.if-boxes-eq1.false c.in-Some.ensures.halves c.widest-axis.ensures (end_of c.args.cell c.in-Some.lower c.halve.new.cell c.widest-axis.result c.index-lower-axis.result c.widest-axis.ensures c.in-Some.ensures.halves)
+        c.part-count.ensures.permutation c.part-count.ensures.front c.part-count.ensures.back c.split_at_mut-front.ensures.front
         c.split_at_mut-front.ensures.back).1,
   ),
 )

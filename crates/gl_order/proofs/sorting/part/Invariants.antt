@@ -1,13 +1,17 @@
-use Rattle.std.proofs.Common.{◌≤◌}
+use Rattle.std.proofs.Common.{◌-◌, ◌≤◌, length}
 use Rattle.std.specs.List.Sorted.{IsPermutation}
-use Rattle.gl_box.specs.Cell.{Covers, spans_of}
+use Rattle.gl_order.specs.Order.{EndsBy}
 use Rattle.gl_order.proofs.Partings.{PartedAt}
 use Rattle.gl_order.proofs.sorting.part.Given as goal
 
--- of the boxes so far, those that the cell covers come first
-abbrev pub invariant-loop-place : goal.invariant-loop-place
-invariant-loop-place g l = record {
-  within : l.count ≤ l.place;
+-- the boxes at the front end soon enough, and those at the back don't
+abbrev pub invariant-boxes : goal.invariant-boxes
+invariant-boxes g l = record {
+  order : l.front ≤ l.back;
+  within : l.back ≤ length l.boxes;
   permutation : IsPermutation l.fn.boxes l.boxes;
-  parted : PartedAt (λ box. Covers (spans_of l.cell) (g.B.Boxed.spans box)) l.boxes l.count l.place;
+  parted : PartedAt (λ box. EndsBy l.axis l.last (g.B.Boxed.spans box)) l.boxes l.front l.back;
 }
+
+abbrev pub decreases-boxes : goal.decreases-boxes
+decreases-boxes g l = l.back - l.front
