@@ -21,7 +21,8 @@ use Rattle.gl_box.proofs.Parts.{halves_parted, mult-append, mult-held}
 use Rattle.gl_box.proofs.Singles.{AreOrdered, ordered-set}
 use Rattle.gl_box.proofs.Spans.{single-narrow}
 use Rattle.gl_walk.proofs.Frontiers.{lower_unique, upper_unique, widest_unique}
-use Rattle.gl_order.specs.Order.{AreParts, EndsBy}
+use Rattle.gl_order.specs.Code.Ends.{EndsBy}
+use Rattle.gl_order.specs.Order.{AreParts}
 
 -- a half of a cell is a node of its lower or of its upper half
 half_node : (cell lower upper part : List (ℕ × ℕ)) → AreHalves cell lower upper → IsHalf cell part → IsNode lower part ⊎ IsNode upper part

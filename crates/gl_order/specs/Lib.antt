@@ -1,3 +1,4 @@
+pub mod Code
 pub mod InRuns
 pub mod Order
 pub mod Runs

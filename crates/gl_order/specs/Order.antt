@@ -1,9 +1,8 @@
 -- Boxes that part a cell, in any order.
-use Rattle.std.specs.Prelude.{◌≡◌, ◌<◌, ◌≤◌, ℕ, List, length, map, All}
+use Rattle.std.specs.Prelude.{◌≡◌, ℕ, List, map, All}
 use Rattle.gl_box.specs.declared.closed.Closed.{Closed}
 use Rattle.gl_box.specs.Cell.{Holds, spans_of}
 use Rattle.gl_box.specs.Frontier.{IsNode, mult}
-use Rattle.gl_box.specs.Halves.{span_at}
 
 -- the cells of boxes
 abbrev pub cells_of : List Closed → List (List (ℕ × ℕ))
@@ -13,7 +12,3 @@ cells_of boxes = map (λ box. spans_of box.cell) boxes
 pub record AreParts (whole : List (ℕ × ℕ)) (cells : List (List (ℕ × ℕ))) : Type 0 where
   pub nodes : All (IsNode whole) cells
   pub once : (tuple : List ℕ) → Holds whole tuple → mult cells tuple ≡ 1
-
--- a cell has an axis, and its span there ends at a place or before it
-abbrev pub EndsBy : ℕ → ℕ → List (ℕ × ℕ) → Type 0
-EndsBy axis last cell = (axis < length cell) × ((span_at cell axis).1 ≤ last)

@@ -1,7 +1,8 @@
 ghost use Rattle.std.specs.Prelude.{◌↔◌, ◌≤◌, ℕ, List, drop, length, map, take, All, IfOk, IfSome, IsPermutation, IsTrue, OnOk};
 ghost use Rattle.gl_box.specs.Cell.{spans_of};
 ghost use Rattle.gl_box.specs.Frontier.{IsFrontier};
-ghost use Rattle.gl_order.specs.Order.{AreParts, EndsBy};
+ghost use Rattle.gl_order.specs.Code.Ends.{EndsBy};
+ghost use Rattle.gl_order.specs.Order.{AreParts};
 
 use crate::stretches::bring_stretches;
 use gl_box::{Cell, halve, widest};

@@ -2,7 +2,7 @@ use Rattle.std.proofs.Common.{◌≡◌, ◌∙◌, sym, subst, ℕ, ◌+◌, �
 use Rattle.std.proofs.lemmas.Bool.{cases_order, false≢true}
 use Rattle.std.proofs.lemmas.List.{get_or_read}
 use Rattle.std.proofs.lemmas.List.Sorted.{IsPermutation-trans}
-use Rattle.gl_order.specs.Order.{EndsBy}
+use Rattle.gl_order.specs.Code.Ends.{EndsBy}
 use Rattle.gl_order.proofs.Partings.{PartedAt, parted_swap}
 use Rattle.gl_order.proofs.sorting.part.Goals as goal
 

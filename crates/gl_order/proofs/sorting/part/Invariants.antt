@@ -1,6 +1,6 @@
 use Rattle.std.proofs.Common.{◌-◌, ◌≤◌, length}
 use Rattle.std.specs.List.Sorted.{IsPermutation}
-use Rattle.gl_order.specs.Order.{EndsBy}
+use Rattle.gl_order.specs.Code.Ends.{EndsBy}
 use Rattle.gl_order.proofs.Partings.{PartedAt}
 use Rattle.gl_order.proofs.sorting.part.Given as goal
 
