@@ -304,32 +304,6 @@ pub record PartedAt {B : Type 0} (P : B → Type 0) (boxes : List B) (front back
   pub lower : (k : ℕ) (d : B) → k < front → P (get_or boxes k d)
   pub upper : (k : ℕ) (d : B) → back ≤ k → k < length boxes → P (get_or boxes k d) → ⊥
 
--- one more box with P is at the front
-pub parted_front : {B : Type 0} (P : B → Type 0) (boxes : List B) (front back : ℕ) → ((d : B) → P (get_or boxes front d)) → PartedAt P boxes front back → PartedAt P boxes (front + 1) back
-parted_front P boxes front back here parted_ = record {
-  lower = λ k d below. elim (cases_order k front) [
-    | inl same ↦ subst (λ (j : ℕ). P (get_or boxes j d)) (sym same) (here d)
-    | inr other ↦ elim other [
-      | inl before ↦ parted_.lower k d before
-      | inr behind ↦ absurd (omega arith)
-    ]
-  ];
-  upper = parted_.upper;
-}
-
--- one more box without P is at the back
-pub parted_back : {B : Type 0} (P : B → Type 0) (boxes : List B) (front last : ℕ) → ((d : B) → P (get_or boxes last d) → ⊥) → PartedAt P boxes front (last + 1) → PartedAt P boxes front last
-parted_back P boxes front last here parted_ = record {
-  lower = parted_.lower;
-  upper = λ k d from inside has. elim (cases_order k last) [
-    | inl same ↦ here d (subst (λ (j : ℕ). P (get_or boxes j d)) same has)
-    | inr other ↦ elim other [
-      | inl before ↦ absurd (omega arith)
-      | inr behind ↦ parted_.upper k d (omega arith) inside has
-    ]
-  ];
-}
-
 -- a box without P changes places with one that has it
 pub parted_swap : {B : Type 0} (P : B → Type 0) (boxes after : List B) (front last : ℕ) → SwappedAt boxes after front last → length after ≡ length boxes → front < last
     → ((d : B) → P (get_or boxes front d) → ⊥) → ((d : B) → P (get_or boxes last d)) → PartedAt P boxes front (last + 1) → PartedAt P after (front + 1) last
@@ -355,16 +329,6 @@ parted_swap P boxes after front last swapped long order wrong right parted_ = re
     ]
   ];
 }
-
--- once all boxes are parted
-pub front_parted : {B : Type 0} (P : B → Type 0) (boxes : List B) (front back : ℕ) → PartedAt P boxes front back → All P (take front boxes)
-front_parted P boxes front back parted_ k d below =
-    let inside : k < front = omega (arith, length-take front boxes) in
-    subst P (sym (get_or-take front boxes k d inside)) (parted_.lower k d inside)
-
-pub back_parted : {B : Type 0} (P : B → Type 0) (boxes : List B) (front back : ℕ) → back ≤ front → PartedAt P boxes front back → All (λ box. P box → ⊥) (drop front boxes)
-back_parted P boxes front back all parted_ k d below has =
-    parted_.upper (front + k) d (omega arith) (omega (arith, length-drop front boxes)) (subst P (get_or-drop front boxes k d) has)
 
 -- boxes that part a whole do so in any order
 pub parts-permutation : {B : Type 0} (cell : B → List (ℕ × ℕ)) (all : List (ℕ × ℕ)) (boxes after : List B) → IsPermutation boxes after → AreParts all (map cell boxes) → AreParts all (map cell after)
