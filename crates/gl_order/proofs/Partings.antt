@@ -2,8 +2,8 @@
 use Rattle.std.proofs.Common.{◌≡◌, ◌≢◌, ◌∙◌, sym, ap, refl, subst, ℕ, zero, suc, ◌+◌, ◌/◌, ◌<◌, ◌≤◌, Bool, true, false, cond, ◌⊎◌, inl, inr, List, [], ◌∷◌, ◌++◌, length, get_or, take, drop, map, arith}
 use Rattle.std.specs.Prelude.{All}
 use Rattle.std.specs.List.{SwappedAt}
-use Rattle.std.proofs.lemmas.Bool.{cases_order}
-use Rattle.std.proofs.lemmas.List.{get_or_default, get_or-set_same, get_or-take, get_or-drop, length-drop, length-map, length-set, length-take, length-take-le, map-append, take-append-drop, take-map, drop-map}
+use Rattle.std.proofs.lemmas.Bool.{cases_lt, cases_order}
+use Rattle.std.proofs.lemmas.List.{get_or_default, get_or-set_same, get_or-take, get_or-drop, get_or-map, length-drop, length-map, length-set, length-take, length-take-le, map-append, take-append-drop, take-map, drop-map}
 use Rattle.std.specs.List.Sorted.{IsPermutation}
 use Rattle.std.proofs.lemmas.List.Elements.{All-map}
 use Rattle.std.proofs.lemmas.List.Sorted.{All-permutation, IsPermutation-map, length_permutation, sum_by-IsPermutation}
@@ -21,7 +21,7 @@ use Rattle.gl_box.proofs.Parts.{halves_parted, mult-append, mult-held}
 use Rattle.gl_box.proofs.Singles.{AreOrdered, ordered-set}
 use Rattle.gl_box.proofs.Spans.{single-narrow}
 use Rattle.gl_walk.proofs.Frontiers.{lower_unique, upper_unique, widest_unique}
-use Rattle.gl_order.specs.Code.Ends.{EndsBy}
+use Rattle.gl_order.specs.Code.Ends.{EachBetween, EndsBy}
 use Rattle.gl_order.specs.Order.{AreParts}
 
 -- a half of a cell is a node of its lower or of its upper half
@@ -276,33 +276,76 @@ parts-single cell (one ∷ (other ∷ cells)) parts single some =
     absurd (never_twice cell (one ∷ (other ∷ cells)) 0 1 one some.0 parts (omega arith) (omega arith) (subst (λ (c : List (ℕ × ℕ)). Holds c some.0) (sym same) some.1)
     (subst (λ (c : List (ℕ × ℕ)). Holds c some.0) (sym too) some.1))
 
-only : (part : List (ℕ × ℕ)) (k : ℕ) (d : List (ℕ × ℕ)) (tuple : List ℕ) → k < 1 → Holds (get_or (part ∷ []) k d) tuple → Holds part tuple
-only part zero d tuple below held = held
-only part (suc k) d tuple below held = absurd (omega arith)
+-- the other half of a node has a tuple, which doesn't lie in the half
+other_half : (cell node part : List (ℕ × ℕ)) → AreOrdered cell → IsNode cell node → IsHalf node part → (tuple : List ℕ) × (Holds cell tuple × (Holds part tuple → ⊥))
+other_half cell node part ordered below is_half =
+    let halves = is_half.halves in
+    let half_ordered = λ (other : List (ℕ × ℕ)) (either : (other ≡ is_half.lower) ⊎ (other ≡ is_half.upper)).
+    ordered_half node other (record { lower = is_half.lower; upper = is_half.upper; halves = halves; either = either }) (ordered_node cell node below ordered) in
+    elim is_half.either [
+      | inl low ↦
+          let some = ordered_held is_half.upper (half_ordered is_half.upper (inr refl)) in (
+            some.0,
+            (
+              held_by_node cell node some.0 below (holds_through node is_half.upper some.0 (covers_upper node is_half.lower is_half.upper halves) some.1),
+              λ held. never_both node is_half.lower is_half.upper some.0 halves (subst (λ (c : List (ℕ × ℕ)). Holds c some.0) low held) some.1,
+            ),
+          )
+      | inr high ↦
+          let some = ordered_held is_half.lower (half_ordered is_half.lower (inl refl)) in (
+            some.0,
+            (
+              held_by_node cell node some.0 below (holds_through node is_half.lower some.0 (covers_lower node is_half.lower is_half.upper halves) some.1),
+              λ held. never_both node is_half.lower is_half.upper some.0 halves some.1 (subst (λ (c : List (ℕ × ℕ)). Holds c some.0) high held),
+            ),
+          )
+    ]
+
+-- a node that holds all tuples of a cell is the cell
+node-all : (cell node : List (ℕ × ℕ)) → AreOrdered cell → ((tuple : List ℕ) → Holds cell tuple → Holds node tuple) → IsNode cell node → node ≡ cell
+node-all _ _ ordered held_all (whole cell) = refl
+node-all _ _ ordered held_all (half cell node part below is_half) =
+    let other = other_half cell node part ordered below is_half in
+    absurd (other.1.1 (held_all other.0 other.1.0))
+
+counted_once : (b : Bool) → counted b ≡ 1 → b ≡ true
+counted_once true once = refl
+counted_once false once = absurd (omega (arith, once))
 
 -- a single part is the whole
-pub parts-one : (cell lower upper : List (ℕ × ℕ)) (cells : List (List (ℕ × ℕ))) → AreParts cell cells → AreHalves cell lower upper → HasTuple lower → HasTuple upper → length cells ≡ 1
-    → IsFrontier cell cells
-parts-one cell lower upper [] parts halves low high one = absurd (omega arith)
-parts-one cell lower upper (part ∷ []) parts halves low high one = elim (node_cases cell lower upper part halves (parts.nodes 0 part (omega arith))) [
-  | inl same ↦ alone cell (part ∷ []) (ap (λ (c : List (ℕ × ℕ)). c ∷ []) same)
-  | inr within ↦ elim within [
-    | inl inside ↦
-        let once = parts.once high.0 (holds_through cell upper high.0 (covers_upper cell lower upper halves) high.1) in
-        let none = mult-none (part ∷ []) high.0 (λ k d below held. never_both cell lower upper high.0 halves (held_by_node lower part high.0 inside (only part k d high.0 below held)) high.1) in
-        absurd (omega arith)
-    | inr inside ↦
-        let once = parts.once low.0 (holds_through cell lower low.0 (covers_lower cell lower upper halves) low.1) in
-        let none = mult-none (part ∷ []) low.0 (λ k d below held. never_both cell lower upper low.0 halves low.1 (held_by_node upper part low.0 inside (only part k d low.0 below held))) in
-        absurd (omega arith)
-  ]
-]
-parts-one cell lower upper (part ∷ (other ∷ cells)) parts halves low high one = absurd (omega arith)
+pub parts-one : (cell : List (ℕ × ℕ)) (cells : List (List (ℕ × ℕ))) → AreOrdered cell → AreParts cell cells → length cells ≡ 1 → IsFrontier cell cells
+parts-one cell [] ordered parts one = absurd (omega (arith, one))
+parts-one cell (part ∷ []) ordered parts one =
+    let held_all = λ (tuple : List ℕ) (held : Holds cell tuple).
+    let sum = sum_by-cons (λ (c : List (ℕ × ℕ)). cond (holds c tuple) 1 0) part [] in
+    let once = parts.once tuple held in
+    counted_once (holds part tuple) (omega (arith, sum, once)) in
+    alone cell (part ∷ []) (ap (λ (c : List (ℕ × ℕ)). c ∷ []) (node-all cell part ordered held_all (parts.nodes 0 part (omega arith))))
+parts-one cell (part ∷ (other ∷ cells)) ordered parts one = absurd (omega (arith, one))
 
 -- of some boxes those at the front have P, and those at the back have none of it
 pub record PartedAt {B : Type 0} (P : B → Type 0) (boxes : List B) (front back : ℕ) : Type 0 where
   pub lower : (k : ℕ) (d : B) → k < front → P (get_or boxes k d)
   pub upper : (k : ℕ) (d : B) → back ≤ k → k < length boxes → P (get_or boxes k d) → ⊥
+
+-- more of them at the front have P, and more at the back have none of it
+pub parted_narrow : {B : Type 0} (P : B → Type 0) (boxes : List B) (front back start end : ℕ) → PartedAt P boxes front back → EachBetween P boxes front start
+    → EachBetween (λ box. P box → ⊥) boxes end back → PartedAt P boxes start end
+parted_narrow P boxes front back start end parted_ passed missed = record {
+  lower = λ k d below. elim (cases_lt k front) [
+    | inl before ↦ parted_.lower k d before
+    | inr from ↦ passed k d from below
+  ];
+  upper = λ k d from inside. elim (cases_lt k back) [
+    | inl before ↦ missed k d from before
+    | inr behind ↦ parted_.upper k d behind inside
+  ];
+}
+
+-- a box without P isn't one that has it
+pub wrong_right : {B : Type 0} (P : B → Type 0) (boxes : List B) (front last : ℕ) → last < length boxes → ((d : B) → P (get_or boxes front d) → ⊥) → ((d : B) → P (get_or boxes last d)) → front ≢ last
+wrong_right P [] front last inside wrong right same = absurd (omega (arith, inside))
+wrong_right P (box ∷ boxes) front last inside wrong right same = wrong box (subst (λ (k : ℕ). P (get_or (box ∷ boxes) k box)) (sym same) (right box))
 
 -- a box without P changes places with one that has it
 pub parted_swap : {B : Type 0} (P : B → Type 0) (boxes after : List B) (front last : ℕ) → SwappedAt boxes after front last → length after ≡ length boxes → front < last
@@ -351,6 +394,13 @@ module _ {B : Type 0} (of : B → List (ℕ × ℕ)) where
   length-cells : (boxes : List B) → length boxes ≢ 1 → length (map of boxes) ≢ 1
   length-cells boxes more one = more (sym (length-map boxes of) ∙ one)
 
+  -- boxes that part a cell have its axes
+  pub boxes_axis : (cell : List (ℕ × ℕ)) (boxes : List B) (axis : ℕ) → AreParts cell (map of boxes) → axis < length cell → All (λ box. axis < length (of box)) boxes
+  boxes_axis cell boxes axis parts inside = λ k d below.
+      let same : get_or (map of boxes) k (of d) ≡ of (get_or boxes k d) = get_or-map of boxes k d (of d) below in
+      let node = subst (IsNode cell) same (parts.nodes k (of d) (omega (arith, below, length-map boxes of))) in
+      omega (arith, inside, length-covers cell (of (get_or boxes k d)) (covers_node cell (of (get_or boxes k d)) node))
+
   -- where the first boxes are a frontier of the lower half, the others part the upper one
   pub boxes_passed : (cell lower upper : Cell) (boxes back : List B) (count : ℕ) → AreParts (spans_of cell) (map of boxes) → length boxes ≢ 1
       → AreHalves (spans_of cell) (spans_of lower) (spans_of upper) → IsFrontier (spans_of lower) (take count (map of boxes)) → back ≡ drop count boxes → AreParts (spans_of upper) (map of back)
@@ -386,7 +436,5 @@ module _ {B : Type 0} (of : B → List (ℕ × ℕ)) where
   pub boxes_single : (cell : Cell) (boxes : List B) → AreParts (spans_of cell) (map of boxes) → IsSingle (spans_of cell) → IsFrontier (spans_of cell) (map of boxes)
   boxes_single cell boxes parts single = parts-single (spans_of cell) (map of boxes) parts single (cell_held cell)
 
-  pub boxes_one : (cell lower upper : Cell) (boxes : List B) → AreParts (spans_of cell) (map of boxes) → AreHalves (spans_of cell) (spans_of lower) (spans_of upper) → length boxes ≡ 1
-      → IsFrontier (spans_of cell) (map of boxes)
-  boxes_one cell lower upper boxes parts halves one = parts-one (spans_of cell) (spans_of lower) (spans_of upper) (map of boxes) parts halves (cell_held lower) (cell_held upper)
-      (length-map boxes of ∙ one)
+  pub boxes_one : (cell : Cell) (boxes : List B) → AreParts (spans_of cell) (map of boxes) → length boxes ≡ 1 → IsFrontier (spans_of cell) (map of boxes)
+  boxes_one cell boxes parts one = parts-one (spans_of cell) (map of boxes) (spans_ordered (take cell.axes cell.spans)) parts (length-map boxes of ∙ one)

@@ -1,7 +1,7 @@
-ghost use Rattle.std.specs.Prelude.{◌↔◌, ◌≤◌, ℕ, List, drop, length, map, take, All, IfOk, IfSome, IsPermutation, IsTrue, OnOk};
+ghost use Rattle.std.specs.Prelude.{◌+◌, ◌-◌, ◌↔◌, ◌<◌, ◌≤◌, ℕ, List, drop, length, map, take, All, IfOk, IfSome, IsPermutation, IsTrue, OnOk};
 ghost use Rattle.gl_box.specs.Cell.{spans_of};
 ghost use Rattle.gl_box.specs.Frontier.{IsFrontier};
-ghost use Rattle.gl_order.specs.Code.Ends.{EndsBy};
+ghost use Rattle.gl_order.specs.Code.Ends.{EachBetween, EndsBy};
 ghost use Rattle.gl_order.specs.Order.{AreParts};
 
 use crate::stretches::bring_stretches;
@@ -11,6 +11,9 @@ use std::alloc::{AllocError, Global};
 
 /// Room for open cells: each cut adds one, and a cell can be cut at most 32 times on each axis.
 const OPEN_ROOM: usize = 512;
+
+/// How many boxes there are at least where it is tried whether the first ones are in order.
+const MANY: usize = 32;
 
 /// How many of the first boxes are a frontier of the cell. `None` where they don't begin with one.
 /// `opened` is room to work in. The only error is want of memory.
@@ -36,17 +39,82 @@ fn frontier_len<B: Boxed>(
     Ok(None)
 }
 
-/// Whether a cell has an axis and ends there at a place or before it.
+/// As `frontier_len`, where there are many boxes. Few of them are sorted out sooner than looked
+/// through.
+fn passed_len<B: Boxed>(
+    cell: Cell,
+    boxes: &[B],
+    opened: &mut Vec<Cell>,
+) -> Result<Option<usize>, AllocError>
+    ensures within { IfOk result (λ count. IfSome count (λ count. count ≤ length boxes.now)) }
+    ensures frontier { IfOk result (λ count. IfSome count
+        (λ count. IsFrontier (spans_of cell) (take count (map B.spans boxes.now)))) }
+{
+    if boxes.len() < MANY {
+        return Ok(None);
+    }
+    frontier_len(cell, boxes, opened)
+}
+
+/// Whether a cell ends on an axis at a place or before it.
 #[inline]
 fn ends_by(cell: &Cell, axis: usize, last: u32) -> bool
+    requires { axis < length (spans_of cell.now) }
     ensures { IsTrue result ↔ EndsBy axis last (spans_of cell.now) }
 {
-    axis < cell.axes as usize && cell.spans[axis].hi <= last
+    cell.spans[axis].hi <= last
+}
+
+/// The place of the first box, from a start on and before an end, that ends on an axis later than
+/// at a place; the end where there is none.
+fn first_later<B: Boxed>(axis: usize, last: u32, boxes: &[B], start: usize, end: usize) -> usize
+    requires order { start ≤ end }
+    requires within { end ≤ length boxes.now }
+    requires axis { All (λ box. axis < length (B.spans box)) boxes.now }
+    ensures from { start ≤ result }
+    ensures to { result ≤ end }
+    ensures passed { EachBetween (λ box. EndsBy axis last (B.spans box)) boxes.now start result }
+    ensures found { result < end
+        → EachBetween (λ box. EndsBy axis last (B.spans box) → ⊥) boxes.now result (result + 1) }
+{
+    for place in start..end {
+        if !ends_by(boxes[place].cell(), axis, last) {
+            return place;
+        }
+    }
+    end
+}
+
+/// The place behind the last box, from a start on and before an end, that ends on an axis at a
+/// place or before it; the start where there is none.
+fn after_last_ended<B: Boxed>(
+    axis: usize,
+    last: u32,
+    boxes: &[B],
+    start: usize,
+    end: usize,
+) -> usize
+    requires order { start ≤ end }
+    requires within { end ≤ length boxes.now }
+    requires axis { All (λ box. axis < length (B.spans box)) boxes.now }
+    ensures from { start ≤ result }
+    ensures to { result ≤ end }
+    ensures passed { EachBetween (λ box. EndsBy axis last (B.spans box) → ⊥) boxes.now result end }
+    ensures found { start < result
+        → EachBetween (λ box. EndsBy axis last (B.spans box)) boxes.now (result - 1) result }
+{
+    for place in (start..end).rev() {
+        if ends_by(boxes[place].cell(), axis, last) {
+            return place + 1;
+        }
+    }
+    start
 }
 
 /// Brings the boxes that end on an axis at a place or before it to the front, and answers how many
 /// they are. A box changes places only with one that is wrong there as well.
 fn part<B: Boxed>(axis: usize, last: u32, boxes: &mut [B]) -> usize
+    requires { All (λ box. axis < length (B.spans box)) boxes.old }
     ensures within { result ≤ length boxes.new }
     ensures permutation { IsPermutation boxes.old boxes.new }
     ensures front { All (λ box. EndsBy axis last (B.spans box)) (take result boxes.new) }
@@ -55,11 +123,9 @@ fn part<B: Boxed>(axis: usize, last: u32, boxes: &mut [B]) -> usize
     let mut front = 0;
     let mut back = boxes.len();
     'boxes: while front < back {
-        if ends_by(boxes[front].cell(), axis, last) {
-            front += 1;
-        } else if !ends_by(boxes[back - 1].cell(), axis, last) {
-            back -= 1;
-        } else {
+        front = first_later(axis, last, boxes, front, back);
+        back = after_last_ended(axis, last, boxes, front, back);
+        if front < back {
             back -= 1;
             boxes.swap(front, back);
             front += 1;
@@ -80,14 +146,14 @@ fn put_in_order<B: Boxed>(
     ensures permutation { OnOk result (IsPermutation boxes.old boxes.new) }
     ensures frontier { OnOk result (IsFrontier (spans_of cell) (map B.spans boxes.new)) }
 {
+    if boxes.len() == 1 {
+        return Ok(());
+    }
     let axis = widest(&cell);
     let Some(lower) = halve(&mut cell) else {
         return Ok(());
     };
-    if boxes.len() == 1 {
-        return Ok(());
-    }
-    if let Some(count) = frontier_len(lower, boxes, opened)? {
+    if let Some(count) = passed_len(lower, boxes, opened)? {
         let (_, back) = boxes.split_at_mut(count);
         return put_in_order(cell, back, opened);
     }

@@ -10,12 +10,11 @@ const MOST_STRETCHES: usize = 4_096;
 /// How many turns of a way down the split tree are told.
 const MOST_TURNS: u32 = 128;
 
-/// Boxes that follow one another, and the way to the first one.
+/// Boxes that follow one another.
 #[derive(Clone, Copy)]
 struct Stretch {
     start: usize,
     len: usize,
-    way: u128,
 }
 
 /// The way from a cell down to one of its nodes: its turns, from the highest bit on, 1 where the
@@ -87,11 +86,7 @@ fn stretches_of<B: Boxed>(
             return Ok(Vec::new(alloc));
         }
         let len = stretch_len(*whole, &boxes[start..], opened)?.max(1);
-        stretches.push(Stretch {
-            start,
-            len,
-            way: way_to(whole, boxes[start].cell()),
-        })?;
+        stretches.push(Stretch { start, len })?;
         start += len;
     }
     Ok(stretches)
@@ -123,14 +118,13 @@ fn move_stretches(
 {
     let mut index = first;
     'stretches: while index < stretches.len() {
-        let Stretch { start, len, way } = stretches[index];
+        let Stretch { start, len } = stretches[index];
         index += 1;
         if front <= start && start < front + count {
             let inside = len.min(front + count - start);
             stretches[index - 1] = Stretch {
                 start: start + (back - front),
                 len: inside,
-                way,
             };
             if inside < len {
                 stretches.insert(
@@ -138,7 +132,6 @@ fn move_stretches(
                     Stretch {
                         start: front + count,
                         len: len - inside,
-                        way,
                     },
                 )?;
                 index += 1;
@@ -158,7 +151,7 @@ fn place<B>(boxes: &mut [B], stretches: &mut Vec<Stretch>) -> Result<(), AllocEr
         if index >= stretches.len() {
             return Ok(());
         }
-        let Stretch { start, len, way } = stretches[index];
+        let Stretch { start, len } = stretches[index];
         if start < placed || boxes.len() < start || boxes.len() - start < len {
             return Ok(());
         }
@@ -168,7 +161,6 @@ fn place<B>(boxes: &mut [B], stretches: &mut Vec<Stretch>) -> Result<(), AllocEr
         stretches[index] = Stretch {
             start: start + count,
             len: len - count,
-            way,
         };
         trade(boxes, placed, start, moved);
         move_stretches(stretches, index + 1, placed, start, moved)?;
@@ -191,6 +183,9 @@ pub(crate) fn bring_stretches<B: Boxed>(
     ensures { OnOk result (IsPermutation boxes.old boxes.new) }
 {
     let mut stretches = stretches_of(alloc, whole, boxes, opened)?;
-    stretches.sort_by_key(|stretch| stretch.way)?;
+    stretches.sort_by_cached_key(|stretch| match boxes.get(stretch.start) {
+        Some(first) => way_to(whole, first.cell()),
+        None => 0,
+    })?;
     place(boxes, &mut stretches)
 }

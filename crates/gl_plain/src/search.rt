@@ -20,7 +20,7 @@ use std::alloc::{AllocError, Global};
 /// Room for open cells: each cut adds one, and a cell can be cut at most 32 times on each axis.
 const OPEN_ROOM: usize = 512;
 
-/// Room for closed boxes at the start.
+/// Room for closed boxes at the start, where few cells are searched.
 const CLOSED_ROOM: usize = 65_536;
 
 /// What a search came to: the best of what was known and found, and the boxes to which the cells
@@ -130,7 +130,7 @@ fn go_over<G: Goal>(
 {
     let mut best = better(known, warm);
     let mut cells = Vec::with_capacity(alloc, OPEN_ROOM)?;
-    let mut closed = Vec::with_capacity(alloc, CLOSED_ROOM)?;
+    let mut closed = Vec::with_capacity(alloc, CLOSED_ROOM.max(parts.len().saturating_mul(2)))?;
     for part in parts {
         match part {
             Part::Open(cell) => {

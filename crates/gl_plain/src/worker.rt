@@ -6,7 +6,7 @@ ghost use Rattle.gl_goal.specs.Goal.{whole_cell};
 ghost use Rattle.gl_plain.specs.Machine.{Closes, IsFirstReason, Keeps, Looks, Splits, Takes, Tries, greater, idle};
 ghost use Rattle.gl_plain.specs.Code.Workers.{Raises, worker_of};
 
-use gl_box::{Cell, Closed, Why, split};
+use gl_box::{Cell, Closed, Why, halve, split};
 use gl_goal::{Best, Goal, beats};
 use std::alloc::{AllocError, Global};
 use std::collections::VecDeque;
@@ -91,12 +91,12 @@ impl Worker {
     pub(crate) fn split(&mut self) -> Result<(), AllocError>
         ensures { OnOk result (Tries Splits (worker_of self.old) (worker_of self.new)) }
     {
-        let Some(cell) = self.hand else {
+        let Some(cell) = &mut self.hand else {
             return Ok(());
         };
-        if let Some((lower, upper)) = split(&cell) {
-            self.deque.push_back(upper)?;
-            self.hand = Some(lower);
+        if let Some(lower) = halve(cell) {
+            self.deque.push_back(*cell)?;
+            *cell = lower;
         }
         Ok(())
     }

@@ -11,7 +11,7 @@ use Rattle.gl_box.specs.Halves.{AreHalves, IsWidest, span_at}
 use Rattle.gl_box.specs.Frontier.{IsFrontier}
 use Rattle.gl_box.proofs.Nodes.{spread-lower, spread-upper}
 use Rattle.gl_box.proofs.Spans.{length-spans_of, span_at-spans_of}
-use Rattle.gl_order.proofs.Partings.{boxes_ended, boxes_joined, boxes_one, boxes_passed, boxes_single}
+use Rattle.gl_order.proofs.Partings.{boxes_axis, boxes_ended, boxes_joined, boxes_one, boxes_passed, boxes_single}
 use Rattle.gl_order.proofs.sorting.+put_in_order.Goals as goal
 
 -- the last place of the lower half on the axis of the cut
@@ -19,6 +19,9 @@ end_of : (cell lower upper : Cell) (axis : ℕ) (some : Span) → IsWidest (span
 end_of cell lower upper axis some is_widest halves =
     let inside : axis < lower.axes = omega (arith, is_widest.inside, ap length halves.lower_is, length-set {A = ℕ × ℕ}, length-spans_of lower) in
     sym (ap (λ (s : ℕ × ℕ). s.1) (span_at-spans_of lower axis some inside))
+
+pub part-count-requires : goal.part-count-requires
+part-count-requires g t c = boxes_axis g.B.Boxed.spans (spans_of c.args.cell) c.args.boxes.now c.widest-axis.result c.requires c.widest-axis.ensures.inside
 
 pub put_in_order-requires : goal.put_in_order-requires
 put_in_order-requires g t c κs within =
@@ -89,4 +92,4 @@ pub returns-in_default-clause-frontier : goal.returns-in_default-clause-frontier
 returns-in_default-clause-frontier g t c = boxes_single g.B.Boxed.spans c.args.cell c.args.boxes.now c.requires (c.in_default.ensures.single.0 refl)
 
 pub returns-then-boxes-eq1-clause-frontier : goal.returns-then-boxes-eq1-clause-frontier
-returns-then-boxes-eq1-clause-frontier g t c = boxes_one g.B.Boxed.spans c.args.cell c.in-Some.lower c.halve.new.cell c.args.boxes.now c.requires c.in-Some.ensures.halves c.if-boxes-eq1.true
+returns-then-boxes-eq1-clause-frontier g t c = boxes_one g.B.Boxed.spans c.args.cell c.args.boxes.now c.requires c.if-boxes-eq1.true
