@@ -13,7 +13,7 @@ use std::alloc::{AllocError, Global};
 const OPEN_ROOM: usize = 512;
 
 /// How many boxes there are at least where it is tried whether the first ones are in order.
-const MANY: usize = 32;
+const MANY: usize = 1_024;
 
 /// How many of the first boxes are a frontier of the cell. `None` where they don't begin with one.
 /// `opened` is room to work in. The only error is want of memory.

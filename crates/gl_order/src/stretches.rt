@@ -7,6 +7,10 @@ use std::alloc::{AllocError, Global};
 /// How many stretches are put into order at most. Where there are more, they stay as they are.
 const MOST_STRETCHES: usize = 4_096;
 
+/// After how many stretches it is judged whether they will be too many: all boxes in stretches as
+/// short as these would be more than the most.
+const FIRST_STRETCHES: usize = 64;
+
 /// How many turns of a way down the split tree are told.
 const MOST_TURNS: u32 = 128;
 
@@ -72,7 +76,16 @@ fn stretch_len<B: Boxed>(
     Ok(count)
 }
 
-/// The stretches of some boxes. The only error is want of memory.
+/// Whether there are too many stretches, or will be, where so many first boxes of all are so many
+/// stretches.
+fn are_many(stretches: usize, first: usize, boxes: usize) -> bool {
+    if stretches == MOST_STRETCHES {
+        return true;
+    }
+    stretches == FIRST_STRETCHES && first < boxes / (MOST_STRETCHES / FIRST_STRETCHES)
+}
+
+/// The stretches of some boxes; none where there are too many. The only error is want of memory.
 fn stretches_of<B: Boxed>(
     alloc: Global,
     whole: &Cell,
@@ -82,7 +95,7 @@ fn stretches_of<B: Boxed>(
     let mut stretches = Vec::new(alloc);
     let mut start = 0;
     'stretches: while start < boxes.len() {
-        if stretches.len() == MOST_STRETCHES {
+        if are_many(stretches.len(), start, boxes.len()) {
             return Ok(Vec::new(alloc));
         }
         let len = stretch_len(*whole, &boxes[start..], opened)?.max(1);

@@ -36,6 +36,9 @@ struct Left {
     known: Option<Best>,
     /// Their open cells, and those that they closed.
     parts: Vec<Part>,
+    /// The workers themselves. They are kept until the boxes are found: memory that they gave back
+    /// would be used for these, and each time their list grows it would be copied there.
+    machine: Machine,
 }
 
 /// The best of the tuples that workers kept.
@@ -86,11 +89,21 @@ fn push_parts(parts: &mut Vec<Part>, worker: &Worker) -> Result<(), AllocError>
     Ok(())
 }
 
+/// How many cells workers have.
+fn parts_count(workers: &[Worker]) -> usize {
+    let mut count: usize = 0;
+    for worker in workers {
+        let own = worker.closed.len().saturating_add(worker.deque.len());
+        count = count.saturating_add(own).saturating_add(1);
+    }
+    count
+}
+
 /// The cells of workers, open and closed. The only error is want of memory.
 fn parts_of(alloc: Global, workers: &[Worker]) -> Result<Vec<Part>, AllocError>
     ensures { IfOk result (λ parts. parts.items ≡ flat_map parts_left workers.now) }
 {
-    let mut parts = Vec::new(alloc);
+    let mut parts = Vec::with_capacity(alloc, parts_count(workers))?;
     for worker in workers {
         push_parts(&mut parts, worker)?;
     }
@@ -115,12 +128,15 @@ fn work<G: Goal>(alloc: Global, goal: &G, workers: u32, steps: &[Step]) -> Resul
     requires { 1 ≤ workers }
     ensures { IfOk result (IsLeft (G.rule goal.now) workers steps.now) }
 {
-    let mut machine = Machine::new(alloc, goal, workers)?;
+    let mut machine = Machine::new(alloc, goal, workers, steps)?;
     machine.run(goal, steps)?;
     let workers = machine.workers.as_slice();
+    let known = best_kept(workers);
+    let parts = parts_of(alloc, workers)?;
     Ok(Left {
-        known: best_kept(workers),
-        parts: parts_of(alloc, workers)?,
+        known,
+        parts,
+        machine,
     })
 }
 
@@ -149,7 +165,11 @@ pub fn replay<G: Goal>(
         (λ replayed. IsNone replayed.found.best ↔ HasNoLegal (G.rule goal.now)) }
     ensures steps { IfOk result (IsReplay (G.rule goal.now) workers steps.now) }
 {
-    let Left { known, parts } = work(alloc, goal, workers, steps)?;
+    let Left {
+        known,
+        parts,
+        machine: _kept,
+    } = work(alloc, goal, workers, steps)?;
     let by_steps = count_done(&parts) as u32;
     let parts = sorted(alloc, &whole(goal), parts)?;
     let Finished { best, closed } = finish(alloc, goal, known, &parts)?;

@@ -1,4 +1,4 @@
-ghost use Rattle.std.specs.Prelude.{◌≡◌, ◌++◌, [], IfNone, IfSome, MatchOption, OnOk};
+ghost use Rattle.std.specs.Prelude.{◌≡◌, ◌++◌, [], IfNone, IfOk, IfSome, MatchOption, OnOk};
 ghost use Rattle.std.specs.Option.{option_to_list};
 ghost use Rattle.gl_box.specs.declared.closed.Why.{Why};
 ghost use Rattle.gl_box.specs.Cell.{Covers, spans_of};
@@ -24,6 +24,13 @@ pub(crate) struct Worker {
     pub(crate) seen: Option<u64>,
     /// The best legal tuple that it raised.
     pub(crate) kept: Option<Best>,
+}
+
+/// How many cells a worker can get into its deque by some steps, and how many it can close.
+#[derive(Clone, Copy)]
+pub(crate) struct Room {
+    pub(crate) cuts: usize,
+    pub(crate) closings: usize,
 }
 
 /// The greater one of a total that was found, if any, and another.
@@ -56,17 +63,17 @@ fn reason<G: Goal>(goal: &G, cell: &Cell, total: Option<u64>) -> Option<Why>
 }
 
 impl Worker {
-    /// A worker that has nothing.
-    pub(crate) fn new(alloc: Global) -> Worker
-        ensures { worker_of result ≡ idle }
+    /// A worker that has nothing, and room for what it gets. The only error is want of memory.
+    pub(crate) fn new(alloc: Global, room: Room) -> Result<Worker, AllocError>
+        ensures { IfOk result (λ worker. worker_of worker ≡ idle) }
     {
-        Worker {
-            deque: VecDeque::new(alloc),
+        Ok(Worker {
+            deque: VecDeque::with_capacity(alloc, room.cuts)?,
             hand: None,
-            closed: Vec::new(alloc),
+            closed: Vec::with_capacity(alloc, room.closings)?,
             seen: None,
             kept: None,
-        }
+        })
     }
 
     /// Takes the last cell of the deque into the empty hand.

@@ -15,5 +15,5 @@ pub returns : goal.returns
 returns g c =
     let rule = g.G.Goal.rule c.args.goal.now in
     let after = subst (λ (state : State). Runs rule state c.args.steps.now (state_of c.run.new.self)) c.in_ok-machine.ensures c.in_ok-run.ensures in
-    left_by rule c.args.workers c.args.steps.now c.run.new.self _ c.as_slice-workers.result.now after c.as_slice-workers.ensures.value c.in_ok-parts_of.ensures
-    c.best_kept.ensures.kept c.best_kept.ensures.no_less
+    left_by rule c.args.workers c.args.steps.now c.run.new.self _ c.as_slice-workers.result.now after c.as_slice-workers.ensures.value c.in_ok-parts.ensures
+    c.best_kept-known.ensures.kept c.best_kept-known.ensures.no_less

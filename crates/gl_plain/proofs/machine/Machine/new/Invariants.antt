@@ -5,7 +5,7 @@ use Rattle.gl_plain.specs.Code.Workers.{workers_of}
 use Rattle.gl_plain.proofs.machine.Machine.new.Given as goal
 
 -- so many workers so far
-abbrev pub invariant-loop : goal.invariant-loop
-invariant-loop g l =
+abbrev pub invariant-loop-number : goal.invariant-loop-number
+invariant-loop-number g l =
     workers_of l.list.items
-    ≡ record idle { deque = whole_cell (g.G.Goal.rule l.goal).axes ∷ [] } ∷ replicate (l.counter - 1) idle
+    ≡ record idle { deque = whole_cell (g.G.Goal.rule l.goal).axes ∷ [] } ∷ replicate (l.number - 1) idle
