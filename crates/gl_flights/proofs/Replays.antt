@@ -6,9 +6,9 @@ use Rattle.gl_desk.specs.Desk.{FilesByName}
 use Rattle.gl_igc.specs.declared.recording.Recording.{Recording}
 use Rattle.gl_goal.specs.Goal.{HasNoLegal, IsLegal, Goal}
 use Rattle.gl_goal.specs.declared.best.Best.{Best}
-use Rattle.gl_plain.specs.declared.replayed.Replayed.{Replayed}
+use Rattle.gl_replay.specs.declared.replayed.Replayed.{Replayed}
 use Rattle.gl_schedule.specs.declared.schedule.Step.{Step}
-use Rattle.gl_plain.specs.Replayed.{IsReplay}
+use Rattle.gl_replay.specs.Replayed.{IsReplay}
 use Rattle.gl_words.specs.Words.{ReplayWords}
 use Rattle.gl_files.specs.FileTests.{HasTested}
 use Rattle.gl_files.specs.ReplayFiles.{AreReplayRead, IsReplaySeen, replay_tests}

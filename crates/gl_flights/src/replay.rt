@@ -10,7 +10,7 @@ use gl_answer::{Answer, answer_halt, done};
 use gl_desk::{Desk, DeskError};
 use gl_files::test_replay_files;
 use gl_igc::Recording;
-use gl_plain::replay;
+use gl_replay::replay;
 use gl_schedule::Step;
 use gl_text::push_u64;
 use gl_words::{ReplayWords, Workers};

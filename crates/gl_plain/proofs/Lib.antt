@@ -1,11 +1,5 @@
 pub mod Certified
-pub mod Gathered
 pub mod GivenWay
-pub mod Kept
-pub mod Machines
-pub mod Outcome
 pub mod Places
-pub mod Replays
 pub mod Roots
 pub mod Stack
-pub mod Turns

@@ -1,6 +1,2 @@
--- Definitions of the code alone: what its loops keep, and views of its types. No promise to a
--- caller
--- cites them.
-pub mod Parts
+-- Definitions of the code alone: what its loops keep. No promise to a caller cites them.
 pub mod Steps
-pub mod Workers

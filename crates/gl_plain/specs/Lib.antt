@@ -2,8 +2,6 @@ pub mod Answer
 pub mod CellVerdict
 pub mod Code
 pub mod Found
-pub mod Machine
-pub mod Replayed
-pub mod Safe
+pub mod Parts
 pub mod Search
 pub mod Steps

@@ -1,14 +1,14 @@
-ghost use Rattle.gl_plain.specs.Code.Parts.{cell_of};
+ghost use Rattle.gl_plain.specs.Parts.{cell_of};
 
 use gl_box::{Cell, Closed};
 use gl_walk::Boxed;
 
-/// A cell that workers left after their steps.
+/// A cell as it was left.
 #[derive(Clone, Copy)]
-pub(crate) enum Part {
+pub enum Part {
     /// It is still open.
     Open(Cell),
-    /// One of the steps closed it.
+    /// It was closed.
     Done(Closed),
 }
 

@@ -3,7 +3,7 @@ ghost use Rattle.gl_box.specs.Cell.{Covers, spans_of};
 ghost use Rattle.gl_box.specs.Frontier.{IsNode};
 ghost use Rattle.gl_goal.specs.Goal.{HasNoLegal, IsOptimum, whole_cell};
 ghost use Rattle.gl_goal.specs.Best.{IsNoLess, IsSound, total_of};
-ghost use Rattle.gl_plain.specs.Code.Parts.{IsDoneFor, IsFinished, cell_of};
+ghost use Rattle.gl_plain.specs.Parts.{IsDoneFor, IsFinished, cell_of};
 ghost use Rattle.gl_plain.specs.Code.Steps.{Advances, IsSearched};
 ghost use Rattle.gl_plain.specs.Steps.{Closes};
 ghost use Rattle.gl_plain.specs.Found.{AreNeeded, HoldsEachOnce, IsCertified};
@@ -26,9 +26,9 @@ const CLOSED_ROOM: usize = 65_536;
 /// What a search came to: the best of what was known and found, and the boxes to which the cells
 /// gave way.
 #[derive(Drop)]
-pub(crate) struct Finished {
-    pub(crate) best: Option<Best>,
-    pub(crate) closed: Vec<Closed>,
+pub struct Finished {
+    pub best: Option<Best>,
+    pub closed: Vec<Closed>,
 }
 
 /// Closes the last open cell. The only error is want of memory.
@@ -144,7 +144,7 @@ fn go_over<G: Goal>(
 
 /// Searches what is open of cells as they were left, and keeps what is closed. A legal tuple may be
 /// known, and a better one is looked for first. The only error is want of memory.
-pub(crate) fn finish<G: Goal>(
+pub fn finish<G: Goal>(
     alloc: Global,
     goal: &G,
     known: Option<Best>,

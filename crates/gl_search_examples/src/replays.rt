@@ -4,7 +4,7 @@ ghost use Rattle.std.specs.Prelude.{◌≤◌, ◌<◌, length};
 use gl_box::{Cell, Closed, Span, Why};
 use gl_goal::FreeGoal;
 use gl_igc::Fix;
-use gl_plain::{Replayed, replay};
+use gl_replay::{Replayed, replay};
 use gl_schedule::{Step, StepError, read_steps};
 use gl_sphere::{Grid, vector};
 use std::alloc::{AllocError, Global};

@@ -7,7 +7,7 @@ use Rattle.gl_goal.proofs.Totals.{none_exactly}
 use Rattle.gl_walk.specs.InLists.{boxes_in}
 use Rattle.gl_plain.specs.declared.part.Part.TheVariants.{Open}
 use Rattle.gl_plain.proofs.GivenWay.{whole_done, whole_frontier, whole_needed, whole_node}
-use Rattle.gl_plain.proofs.Replays.{certified}
+use Rattle.gl_plain.proofs.Certified.{certified}
 use Rattle.gl_plain.proofs.search.search_one.Goals as goal
 
 pub finish-requires-clause-nodes : goal.finish-requires-clause-nodes

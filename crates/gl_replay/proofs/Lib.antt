@@ -1,0 +1,7 @@
+pub mod Apart
+pub mod Gathered
+pub mod Kept
+pub mod Machines
+pub mod Outcome
+pub mod Replays
+pub mod Turns
