@@ -3,3 +3,4 @@ pub mod Appended
 pub mod ByTests
 pub mod LineTexts
 pub mod Promises
+pub mod Runs

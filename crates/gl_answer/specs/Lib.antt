@@ -1,7 +1,9 @@
 pub mod Answer
 pub mod Appending
 pub mod ByTests
+pub mod Delivered
 pub mod Given
 pub mod Promise
+pub mod Run
 pub mod Statuses
 pub mod Texts

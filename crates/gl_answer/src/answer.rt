@@ -3,7 +3,7 @@ ghost use Rattle.gl_answer.specs.Answer.{AnswersHalt, SaysDone, answer_of, refus
 
 use crate::status::Status;
 use gl_desk::{DeskError, Name};
-use gl_files::{Cause, Halt, refusal_line};
+use gl_refusals::{Cause, Halt, refusal_line};
 use std::alloc::{AllocError, Global};
 
 /// What a run ends with: the status, and the text that it says. Nothing is appended.

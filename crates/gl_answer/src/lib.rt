@@ -4,10 +4,12 @@
 
 mod answer;
 mod appending;
+mod delivering;
 mod status;
 mod texts;
 
 pub use answer::{Answer, answer_halt, done};
 pub use appending::append_piece;
+pub use delivering::deliver;
 pub use status::Status;
 pub use texts::{accepted_line, distance_lines, no_flight, no_pair, usage, wrong_line};

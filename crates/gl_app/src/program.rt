@@ -1,68 +1,22 @@
-ghost use Rattle.std.specs.Prelude.{◌≡◌, IfOk, OnErr, drop, map};
+ghost use Rattle.std.specs.Prelude.{◌≡◌, IfOk, OnErr};
 ghost use Rattle.std.specs.Process.{exit_status};
-ghost use Rattle.std.specs.String.{string_bytes};
-ghost use Rattle.std.specs.Vec.Iter.{into_iter_items};
-ghost use Rattle.gl_app.specs.Endings.{IsEnding, number_of_ending, program_stewards};
+ghost use Rattle.gl_day_app.specs.Endings.{IsEndingOf, number_of_ending, program_stewards};
+ghost use Rattle.gl_day_app.specs.declared.program.Ending.{Ending};
 ghost use Rattle.gl_app.specs.Run.{IsRun};
-ghost use Rattle.gl_app.specs.declared.program.Ending.{Ending};
 
 use crate::running::run;
 use gl_answer::Status;
+use gl_day_app::{Ending, names_given};
 use gl_desk::{Desk, HostDesk, Name};
 use gl_pool::OpenGate;
 use gl_steward::{Ceiling, EngineNoise, Steward};
 use std::alloc::{AllocError, Global};
-use std::env;
 use std::env::Args;
-use std::io::{self, ErrorKind};
 use std::process::ExitCode;
 use std::rt::{Env, Files};
 use std::sync::Wait;
 use std::thread::Threads;
-
-/// How the program ended.
-#[derive(Clone, Copy, Debug, PartialEq, Eq)]
-pub enum Ending {
-    /// A run ended with this status.
-    Ran(Status),
-    /// There was no memory for the words.
-    NoMemory,
-    /// The system didn't give the words, or gave one that isn't text.
-    NoWords,
-}
-
-impl Ending {
-    /// What the program ends with.
-    fn exit_code(self) -> ExitCode
-        ensures { exit_status result ≡ number_of_ending self }
-    {
-        match self {
-            Ending::Ran(status) => ExitCode::from(status.number()),
-            Ending::NoMemory => ExitCode::from(Status::Memory.number()),
-            Ending::NoWords => ExitCode::from(7),
-        }
-    }
-}
-
-/// The words as names. The only error is want of memory.
-fn names_of(alloc: Global, words: Args) -> Result<Vec<Name>, AllocError>
-    ensures { IfOk result (λ names. names.items ≡ map string_bytes (into_iter_items words)) }
-{
-    let mut names = Vec::new(alloc);
-    for word in words {
-        names.push(Name::from_text(alloc, word.as_str())?)?;
-    }
-    Ok(names)
-}
-
-/// The words after the program's own name. The only error is want of memory.
-fn names(alloc: Global, mut words: Args) -> Result<Vec<Name>, AllocError>
-    ensures { IfOk result (λ names.
-        names.items ≡ map string_bytes (drop 1 (into_iter_items words))) }
-{
-    words.next();
-    names_of(alloc, words)
-}
+use std::{env, io};
 
 /// Carries out a command with the program's two stewards, that of the ceiling and that of the
 /// engine. The only error is want of memory for them.
@@ -82,23 +36,19 @@ fn run_with_stewards<Rt: Threads + Wait + Sync, D: Desk>(
     Ok(run(rt, alloc, words, desk, &OpenGate, &mut stewards))
 }
 
-/// Carries out the words that the system gives, of which the first is the program's own name, and
-/// says how the program ends. Where there are no words nothing is read, written or said.
+/// Carries out the words that the system gives, and says how the program ends. Where there are no
+/// words nothing is read, written or said.
 fn ending_of<Rt: Threads + Wait + Sync, D: Desk>(
     rt: &Rt,
     alloc: Global,
     words: io::Result<Args>,
     desk: &mut D,
 ) -> Ending
-    ensures { IsEnding words result (D.told desk.old) (D.told desk.new) }
+    ensures { IsEndingOf IsRun words result (D.told desk.old) (D.told desk.new) }
 {
-    let words = match words {
-        Ok(words) => words,
-        Err(error) if error.kind() == ErrorKind::OutOfMemory => return Ending::NoMemory,
-        Err(_) => return Ending::NoWords,
-    };
-    let Ok(names) = names(alloc, words) else {
-        return Ending::NoMemory;
+    let names = match names_given(alloc, words) {
+        Ok(names) => names,
+        Err(ending) => return ending,
     };
     match run_with_stewards(rt, alloc, &names, desk) {
         Ok(status) => Ending::Ran(status),
@@ -114,7 +64,7 @@ pub fn carry_out_words<Rt: Threads + Wait + Sync, D: Desk>(
     words: io::Result<Args>,
     desk: &mut D,
 ) -> ExitCode
-    ensures { (ending : Ending) × IsEnding words ending (D.told desk.old) (D.told desk.new)
+    ensures { (ending : Ending) × IsEndingOf IsRun words ending (D.told desk.old) (D.told desk.new)
         × (exit_status result ≡ number_of_ending ending) }
 {
     ending_of(rt, alloc, words, desk).exit_code()

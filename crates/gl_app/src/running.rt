@@ -1,38 +1,31 @@
-ghost use Rattle.std.specs.Prelude.{◌≡◌, ◌≢◌, ◌↔◌, ℕ, List, Some, IfErr, IfOk, IfNone, IsNone, map};
-ghost use Rattle.std.specs.Thread.{IsSync};
-ghost use Rattle.gl_desk.specs.Answers.{CountsFaults};
-ghost use Rattle.gl_goal.specs.AnyGoal.{any_rule};
-ghost use Rattle.gl_plain.specs.Answer.{IsAnswer};
+ghost use Rattle.std.specs.Prelude.{◌≡◌, IfErr, IfOk, IsNone, IsSome, Some, map};
 ghost use Rattle.gl_day.specs.Flight.{steward_rules};
+ghost use Rattle.gl_day_words.specs.DayWords.{day_command_of, workers_of};
 ghost use Rattle.gl_words.specs.Command.{seen};
-ghost use Rattle.gl_words.specs.Words.{command_of, workers_of};
-ghost use Rattle.gl_answer.specs.Given.{Ends, HasAnswered, IsStopped, SaidLine};
+ghost use Rattle.gl_words.specs.Words.{command_of};
+ghost use Rattle.gl_answer.specs.Given.{HasAnswered, IsStopped};
 ghost use Rattle.gl_app.specs.Run.{IsRun, promise_of};
-ghost use Rattle.gl_answer.specs.Statuses.{stop_at};
 
-use crate::racing::{Racing, race};
-use gl_answer::{Answer, Status, usage};
+use gl_answer::{Answer, Status, deliver, usage};
 use gl_claims::badge::badge;
 use gl_claims::badge_check::badge_check;
-use gl_claims::check::check;
 use gl_claims::demo::demo;
-use gl_claims::score::score;
 use gl_day::{Alone, Search};
+use gl_day_app::{run_day, run_day_single};
+use gl_day_words::read_day_words;
 use gl_desk::{Desk, DeskError, Name};
 use gl_flights::near::near;
 use gl_flights::near_check::near_check;
 use gl_flights::series::series;
 use gl_flights::{Question, answer_of_file, replay_schedule};
-use gl_goal::AnyGoal;
-use gl_plain::Found;
 use gl_pool::Gate;
 use gl_steward::Steward;
-use gl_words::{Command, read_words, read_workers_of};
-use std::alloc::{AllocError, Global};
+use gl_words::{Command, read_words};
+use std::alloc::Global;
 use std::sync::Wait;
 use std::thread::Threads;
 
-/// The answer to a command. What it appends is appended.
+/// The answer to a command that isn't one of a day. What it appends is appended.
 fn answer_to_command<D: Desk, S: Search>(
     alloc: Global,
     desk: &mut D,
@@ -53,8 +46,6 @@ fn answer_to_command<D: Desk, S: Search>(
     match command {
         Command::Free(file) => answer_of_file(alloc, desk, Question::Free, file),
         Command::Triangle(file) => answer_of_file(alloc, desk, Question::Triangle, file),
-        Command::Score(day) => score(alloc, desk, search, day, stewards),
-        Command::Check(day) => check(alloc, desk, day),
         Command::Replay(words) => replay_schedule(alloc, desk, words),
         Command::Near(words) => near(alloc, desk, words),
         Command::NearCheck(words) => near_check(alloc, desk, words),
@@ -69,11 +60,11 @@ fn answer_to_command<D: Desk, S: Search>(
         Command::Badge(words) => badge(alloc, desk, words),
         Command::BadgeCheck(words) => badge_check(alloc, desk, words),
         Command::Series(words) => series(alloc, desk, words),
-        Command::Demo(day) => demo(alloc, day, stewards),
+        Command::Demo(day) => demo(alloc, search, day, stewards),
     }
 }
 
-/// The answer to the words. What it appends is appended.
+/// The answer to words that aren't those of a command of a day. What it appends is appended.
 fn answer_to_words<D: Desk, S: Search>(
     alloc: Global,
     words: &[Name],
@@ -100,7 +91,7 @@ fn answer_to_words<D: Desk, S: Search>(
     }
 }
 
-/// Carries out a command, whose claims are searched in this way.
+/// Carries out what isn't a command of a day, whose claims are searched in this way.
 fn carry_out<D: Desk, S: Search>(
     alloc: Global,
     words: &[Name],
@@ -108,33 +99,50 @@ fn carry_out<D: Desk, S: Search>(
     search: &S,
     stewards: &mut Vec<Box<dyn Steward>>,
 ) -> Status
-    requires { S.ready search.now }
-    ensures right { Ends (promise_of (D.told desk.old).folder
+    requires ready { S.ready search.now }
+    requires no_day { IsNone (day_command_of words.now) }
+    ensures { IsRun words.now
         (map (λ s. steward_rules (opening s) (fed s) (owed s)) stewards.old.items)
-        (command_of words.now)) result (D.told desk.old) (D.told desk.new) }
-    ensures complete { (promise_of (D.told desk.old).folder
-        (map (λ s. steward_rules (opening s) (fed s) (owed s)) stewards.old.items)
-        (command_of words.now)).Passes → (result ≢ Status.Words) × (result ≢ Status.Refused) }
-    ensures accepted { (promise_of (D.told desk.old).folder
-        (map (λ s. steward_rules (opening s) (fed s) (owed s)) stewards.old.items)
-        (command_of words.now)).ChecksOwn → IfNone (stop_at result) (result ≡ Status.Done) }
-    ensures words { IfNone (stop_at result)
-        ((result ≡ Status.Words) ↔ IsNone (command_of words.now)) }
-    ensures line { IfNone (stop_at result)
-        (result ≢ Status.Done → SaidLine (D.told desk.old).said (D.told desk.new).said) }
-    ensures faults { CountsFaults (stop_at result)
-        (D.told desk.old).faults (D.told desk.new).faults }
-    ensures kept { map (λ s. steward_rules (opening s) (fed s) (owed s)) stewards.new.items
-        ≡ map (λ s. steward_rules (opening s) (fed s) (owed s)) stewards.old.items }
+        (map (λ s. steward_rules (opening s) (fed s) (owed s)) stewards.new.items)
+        result (D.told desk.old) (D.told desk.new) }
 {
-    let answer = match answer_to_words(alloc, words, desk, search, stewards) {
-        Ok(answer) => answer,
-        Err(stop) => return Status::from(stop),
-    };
-    match desk.say(alloc, &answer.text) {
-        Ok(()) => answer.status,
-        Err(stop) => Status::from(stop),
-    }
+    let answered = answer_to_words(alloc, words, desk, search, stewards);
+    deliver(alloc, desk, answered)
+}
+
+/// Carries out a command of a day on one thread.
+fn carry_out_day_alone<D: Desk>(
+    alloc: Global,
+    words: &[Name],
+    desk: &mut D,
+    stewards: &mut Vec<Box<dyn Steward>>,
+) -> Status
+    requires day { IsSome (day_command_of words.now) }
+    requires alone { workers_of words.now ≡ 1 }
+    ensures { IsRun words.now
+        (map (λ s. steward_rules (opening s) (fed s) (owed s)) stewards.old.items)
+        (map (λ s. steward_rules (opening s) (fed s) (owed s)) stewards.new.items)
+        result (D.told desk.old) (D.told desk.new) }
+{
+    run_day_single(alloc, words, desk, stewards)
+}
+
+/// Carries out a command of a day by as many workers as its words name.
+fn carry_out_day<Rt: Threads + Wait + Sync, D: Desk, K: Gate + Sync>(
+    rt: &Rt,
+    alloc: Global,
+    words: &[Name],
+    desk: &mut D,
+    gate: &K,
+    stewards: &mut Vec<Box<dyn Steward>>,
+) -> Status
+    requires { IsSome (day_command_of words.now) }
+    ensures { IsRun words.now
+        (map (λ s. steward_rules (opening s) (fed s) (owed s)) stewards.old.items)
+        (map (λ s. steward_rules (opening s) (fed s) (owed s)) stewards.new.items)
+        result (D.told desk.old) (D.told desk.new) }
+{
+    run_day(rt, alloc, words, desk, gate, stewards)
 }
 
 /// Carries out a command on one thread, and always returns. A `score` by several workers isn't one
@@ -156,6 +164,9 @@ pub fn run_single<D: Desk>(
         (map (λ s. steward_rules (opening s) (fed s) (owed s)) stewards.new.items)
         result (D.told desk.old) (D.told desk.new) }
 {
+    if read_day_words(words).is_some() {
+        return carry_out_day_alone(alloc, words, desk, stewards);
+    }
     carry_out(alloc, words, desk, &Alone, stewards)
 }
 
@@ -175,13 +186,8 @@ pub fn run<Rt: Threads + Wait + Sync, D: Desk, K: Gate + Sync>(
         (map (λ s. steward_rules (opening s) (fed s) (owed s)) stewards.new.items)
         result (D.told desk.old) (D.told desk.new) }
 {
-    let workers = read_workers_of(words);
-    if workers.count == 1 {
-        return run_single(alloc, words, desk, stewards);
+    if read_day_words(words).is_some() {
+        return carry_out_day(rt, alloc, words, desk, gate, stewards);
     }
-    let race = |alloc: Global, goal: &AnyGoal| -> Result<Found, AllocError>
-        requires { IsSync Rt.row × IsSync K.row }
-        ensures { IfOk result (IsAnswer (any_rule goal.now)) }
-    { race(rt, alloc, goal, workers, gate) };
-    carry_out(alloc, words, desk, &Racing { race: &race }, stewards)
+    carry_out(alloc, words, desk, &Alone, stewards)
 }

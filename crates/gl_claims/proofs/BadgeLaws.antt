@@ -10,20 +10,21 @@ use Rattle.gl_proof.specs.Claim.{Statement}
 use Rattle.gl_proof.specs.Text.{IsTextOf, statements_of}
 use Rattle.gl_words.specs.Words.{BadgeWords}
 use Rattle.gl_words.proofs.Unbroken.{HasUnbrokenBadge}
-use Rattle.gl_files.specs.declared.refusal.Refusal.{Refusal}
+use Rattle.gl_refusals.specs.declared.refusal.Refusal.{Refusal}
 use Rattle.gl_files.specs.BadgeFiles.{BadgeSeen, IsBadgeRead, IsBadgeSeen, badge_check_tests, badge_tests}
-use Rattle.gl_files.specs.FileTests.{AllPass, FirstFails, most_proof_bytes}
-use Rattle.gl_files.proofs.FileTests.{AreNamed, none_fails}
+use Rattle.gl_refusals.specs.FileTests.{AllPass, FirstFails, most_proof_bytes}
+use Rattle.gl_refusals.proofs.FileTests.{AreNamed, none_fails}
+use Rattle.gl_files.proofs.BadgeTests.{badge_check_decided, badge_decided}
 use Rattle.gl_answer.specs.declared.status.Status.{Status}
 use Rattle.gl_answer.specs.declared.status.Status.TheVariants as status
 use Rattle.gl_answer.specs.Answer.{Answer, refused}
 use Rattle.gl_claims.specs.Badge.{IsBadge, IsBadgeBegun, IsBadgeCheck, IsBadgeFolder, IsBadgeJudged, IsBadgeSaid, IsBadgeTold, badge_check_promise, badge_promise}
-use Rattle.gl_claims.specs.Check.{checked_answer}
+use Rattle.gl_day_claims.specs.Check.{checked_answer}
 use Rattle.gl_answer.specs.Texts.{IsLine}
-use Rattle.gl_claims.proofs.CheckLaws.{checked_result}
-use Rattle.gl_claims.proofs.DayLines.{checked_line}
+use Rattle.gl_day_claims.proofs.CheckLaws.{checked_result}
+use Rattle.gl_day_claims.proofs.DayLines.{checked_line}
 use Rattle.gl_answer.proofs.ByTests.{by_tests_line, by_tests_passes, by_tests_result}
-use Rattle.gl_files.proofs.SameFiles.{one_recording, still}
+use Rattle.gl_refusals.proofs.SameFiles.{one_recording, still}
 use Rattle.gl_answer.proofs.Promises.{IsLawful, IsPart, done_no_refusal, some_result}
 
 badge_named : (words : BadgeWords) → HasUnbrokenBadge words → (seen : BadgeSeen) → AreNamed (badge_tests words seen)
@@ -42,7 +43,7 @@ begun_part folder words text (answer, right, count, is) = record { answer = answ
 pub badge_lawful : (folder : Option FilesByName) (words : BadgeWords) → HasUnbrokenBadge words → IsLawful (badge_promise folder words)
 badge_lawful folder words named = record {
   result = by_tests_result (IsBadgeSeen words folder) (badge_tests words) (IsBadgeTold words) (λ seen answer is. inl (badge_done words seen answer is));
-  passes = by_tests_passes folder (IsBadgeSeen words) (badge_tests words) (IsBadgeTold words) (λ seen answer is. done_no_refusal answer.status (inl (badge_done words seen answer is)));
+  passes = by_tests_passes folder (IsBadgeSeen words) (badge_tests words) (IsBadgeTold words) (badge_decided words) (λ seen answer is. done_no_refusal answer.status (inl (badge_done words seen answer is)));
   line = by_tests_line (IsBadgeSeen words folder) (badge_tests words) (IsBadgeTold words) (badge_named words named) (λ seen answer is unless. absurd (unless (badge_done words seen answer is)));
   own = λ none. absurd none;
   begun = begun_part folder words;
@@ -109,6 +110,7 @@ own_seen files words folder told seen answer same (inl (passes, judged)) =
     own_judged words told.seen folder.answer told.recording told.read told.said answer (subst (λ (s : BadgeSeen). IsBadgeJudged words s answer) same judged)
 own_seen files words folder told seen answer same (inr (refusal, fails, is)) =
     absurd (none_fails (badge_check_tests words (seen_with told.seen folder.answer.appended)) refusal
+    (badge_check_decided words (seen_with told.seen folder.answer.appended))
     (all_pass words told.seen folder.answer.appended told.said.statements told.passes folder.small told.said.appended)
     (subst (λ (s : BadgeSeen). FirstFails (badge_check_tests words s) refusal) same fails))
 
@@ -121,7 +123,7 @@ own_accepted (Some files) words own answer (seen, is, either) =
 pub badge_check_lawful : (folder : Option FilesByName) (words : BadgeWords) → HasUnbrokenBadge words → IsLawful (badge_check_promise folder words)
 badge_check_lawful folder words named = record {
   result = by_tests_result (IsBadgeSeen words folder) (badge_check_tests words) (IsBadgeJudged words) (λ seen answer is. some_result answer.status (judged_result words seen answer is));
-  passes = by_tests_passes folder (IsBadgeSeen words) (badge_check_tests words) (IsBadgeJudged words) (λ seen answer is. done_no_refusal answer.status (judged_result words seen answer is));
+  passes = by_tests_passes folder (IsBadgeSeen words) (badge_check_tests words) (IsBadgeJudged words) (badge_check_decided words) (λ seen answer is. done_no_refusal answer.status (judged_result words seen answer is));
   line = by_tests_line (IsBadgeSeen words folder) (badge_check_tests words) (IsBadgeJudged words) (badge_check_named words named) (judged_line words);
   own = own_accepted folder words;
   begun = λ text none. absurd none;

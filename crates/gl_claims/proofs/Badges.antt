@@ -17,19 +17,20 @@ use Rattle.gl_proof.specs.Claim.{Statement, claim_text, statement_of}
 use Rattle.gl_proof.specs.Line.{EndLine, HeadingLine, ended}
 use Rattle.gl_proof.specs.Text.{proof_text}
 use Rattle.gl_words.specs.Words.{BadgeWords}
-use Rattle.gl_files.specs.declared.halt.Halt.{Halt}
-use Rattle.gl_files.specs.declared.halt.Halt.TheVariants.{Refused, Stopped}
+use Rattle.gl_refusals.specs.declared.halt.Halt.{Halt}
+use Rattle.gl_refusals.specs.declared.halt.Halt.TheVariants.{Refused, Stopped}
 use Rattle.gl_files.specs.BadgeFiles.{AreBadgeCheckRead, IsBadgeRead, IsBadgeSeen, badge_check_tests, badge_tests}
-use Rattle.gl_files.specs.FileTests.{HasTested}
-use Rattle.gl_files.specs.Halts.{halt_stop}
-use Rattle.gl_files.proofs.ReadsTwice.{reads_twice}
+use Rattle.gl_refusals.specs.FileTests.{HasTested}
+use Rattle.gl_refusals.specs.Halts.{halt_stop}
+use Rattle.gl_refusals.proofs.ReadsTwice.{reads_twice}
+use Rattle.gl_day_claims.proofs.Commanded.{some_text}
 use Rattle.gl_answer.specs.Appending.{HasAppended, HasAppendedPart, HasGiven}
 use Rattle.gl_answer.proofs.Appended.{HasAppended-none, HasAppended-reads, HasAppended-then, HasAppendedPart-longer, HasAppendedPart-then, part_after}
 use Rattle.gl_answer.specs.declared.answer.Answer as code
 use Rattle.gl_answer.specs.declared.status.Status.TheVariants.{Done}
 use Rattle.gl_answer.specs.Answer.{Answer, answer_of, AnswersHalt}
 use Rattle.gl_claims.specs.Badge.{IsBadge, IsBadgeCheck, badge_check_promise, badge_promise}
-use Rattle.gl_claims.specs.Check.{checked_answer}
+use Rattle.gl_day_claims.specs.Check.{checked_answer}
 use Rattle.gl_answer.specs.Given.{HasAnswered, IsStopped}
 
 -- the texts of claims
@@ -118,10 +119,6 @@ badge_is : (words : BadgeWords) (x m : Told) (recording : Recording) (said : Lis
 badge_is words x m recording said statements lists tested found =
     let seen = subst (λ (f : Option FilesByName). HasTested (IsBadgeSeen words f) (badge_tests words) IsBadgeRead (Ok recording)) lists.folder tested in
     (seen.0, seen.1, inl (seen.2, (recording, seen.3, record { statements = statements; found = found; ended = refl; appended = record { each = found.written; is = refl } })))
-
--- a proof has a text
-pub some_text : (statements : List Statement) → proof_text Two statements ≡ [] → ⊥
-some_text statements none = cc
 
 -- `badge` has its answer
 pub badge_right : (words : BadgeWords) (x m y z : Told) (recording : Recording) (said : List ℕ) (claims cells : List Claim) → OnlyReads None x m

@@ -30,11 +30,12 @@ use Rattle.gl_task_file.specs.Tests.{course_tests, day_tests, entrant_tests, ent
 use Rattle.gl_task_file.specs.Values.{day_of, file_name, kind_of, list_word_of, recent_day}
 use Rattle.gl_text.specs.Digits.{number_of}
 use Rattle.gl_text.specs.Forms.{is_file_name}
-use Rattle.gl_files.specs.declared.refusal.Refusal.{Refusal}
-use Rattle.gl_files.specs.declared.refusal.Cause.{Cause}
-use Rattle.gl_files.specs.DayFiles.{IsScoreSeen, ScoreSeen, airspace_tests, named_airspace, score_tests, task_tests}
-use Rattle.gl_files.specs.FileTests.{FirstFails, IsNoText, TaskText, task_cause}
-use Rattle.gl_files.proofs.Readings.{table_refused}
+use Rattle.gl_refusals.specs.declared.refusal.Refusal.{Refusal}
+use Rattle.gl_refusals.specs.declared.refusal.Cause.{Cause}
+use Rattle.gl_day_files.specs.DayFiles.{IsScoreSeen, ScoreSeen, airspace_tests, named_airspace, score_tests, task_tests}
+use Rattle.gl_refusals.specs.FileTests.{FirstFails, IsNoText}
+use Rattle.gl_day_files.specs.DayFiles.{TaskText, task_cause}
+use Rattle.gl_day_files.proofs.Readings.{table_refused}
 use Rattle.gl_claims.specs.Demo.{HasJust, demo_names}
 
 -- the table of the task

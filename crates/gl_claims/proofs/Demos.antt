@@ -12,14 +12,14 @@ use Rattle.gl_proof.specs.Claim.{Statement}
 use Rattle.gl_proof.specs.Text.{IsTextOf, proof_text}
 use Rattle.gl_proof.specs.declared.version.Version.TheVariants.{Two}
 use Rattle.gl_day.specs.Flight.{StewardRules}
-use Rattle.gl_words.specs.Words.{DayNames}
+use Rattle.gl_day_words.specs.DayWords.{DayNames}
 use Rattle.gl_answer.specs.Appending.{HasGiven}
 use Rattle.gl_answer.specs.declared.status.Status.TheVariants as status
 use Rattle.gl_answer.specs.Answer.{Answer, saying}
-use Rattle.gl_claims.specs.Check.{IsScoredFolder}
+use Rattle.gl_day_claims.specs.Check.{IsScoredFolder}
 use Rattle.gl_claims.specs.Demo.{HasJust, IsCountOf, IsDemo, claims_line, demo_names}
-use Rattle.gl_claims.specs.Score.{IsScore}
-use Rattle.gl_claims.proofs.Accepting.{proof_new, score_ended}
+use Rattle.gl_day_claims.specs.Score.{IsScore}
+use Rattle.gl_day_claims.proofs.Accepting.{proof_new, score_ended}
 use Rattle.gl_claims.proofs.DemoTask.{demo_not_refused}
 
 -- a file as contracts see it

@@ -1,12 +1,5 @@
-pub mod Accepting
 pub mod BadgeLaws
 pub mod Badges
-pub mod CheckLaws
-pub mod Commanded
-pub mod DayLines
 pub mod DemoLaws
 pub mod DemoTask
 pub mod Demos
-pub mod OneAnswer
-pub mod PartOfDay
-pub mod ScoreLaws

@@ -10,10 +10,10 @@ use Rattle.gl_proof.specs.Claim.{Statement}
 use Rattle.gl_proof.specs.Text.{IsTextOf, statements_of}
 use Rattle.gl_words.specs.Words.{BadgeWords}
 use Rattle.gl_files.specs.BadgeFiles.{AreBadgeCheckRead, BadgeSeen, IsBadgeRead, IsBadgeSeen, badge_check_tests, badge_tests}
-use Rattle.gl_files.specs.FileTests.{most_proof_bytes}
+use Rattle.gl_refusals.specs.FileTests.{most_proof_bytes}
 use Rattle.gl_answer.specs.declared.status.Status.TheVariants as status
 use Rattle.gl_answer.specs.Answer.{Answer}
-use Rattle.gl_claims.specs.Check.{checked_answer}
+use Rattle.gl_day_claims.specs.Check.{checked_answer}
 use Rattle.gl_answer.specs.ByTests.{IsByTests, PassByTests}
 use Rattle.gl_answer.specs.Promise.{IsTold, Promise}
 

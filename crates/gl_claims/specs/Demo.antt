@@ -8,12 +8,12 @@ use Rattle.gl_proof.specs.Claim.{Statement}
 use Rattle.gl_proof.specs.Text.{IsTextOf}
 use Rattle.gl_proof.specs.declared.version.Version.TheVariants.{Two}
 use Rattle.gl_day.specs.Flight.{StewardRules}
-use Rattle.gl_words.specs.Words.{DayNames}
-use Rattle.gl_files.specs.declared.day_files.DayFiles.{DayFiles}
+use Rattle.gl_day_words.specs.DayWords.{DayNames}
+use Rattle.gl_day_files.specs.declared.day_files.DayFiles.{DayFiles}
 use Rattle.gl_answer.specs.declared.status.Status.TheVariants.{Done}
 use Rattle.gl_answer.specs.Answer.{Answer, saying}
 use Rattle.gl_answer.specs.Promise.{IsTold, Promise, reading}
-use Rattle.gl_claims.specs.Score.{IsDayScored, IsScoreDay}
+use Rattle.gl_day_claims.specs.Score.{IsDayScored, IsScoreDay}
 
 -- the folder has these files, and no other
 pub record HasJust (files : List (List ℕ × List ℕ)) (folder : FilesByName) : Type 0 where

@@ -5,9 +5,9 @@ ghost use Rattle.gl_answer.specs.Answer.{answer_of};
 ghost use Rattle.gl_claims.specs.Badge.{IsBadgeCheck};
 ghost use Rattle.gl_claims.specs.Code.Badge.{AreClaimsAnswered};
 
-use crate::check::checked_answer;
 use gl_answer::{Answer, answer_halt};
 use gl_badge::check_badges;
+use gl_day_claims::check::checked_answer;
 use gl_desk::{Desk, DeskError};
 use gl_files::test_badge_check_files;
 use gl_igc::Recording;

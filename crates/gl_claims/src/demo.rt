@@ -1,23 +1,24 @@
 ghost use Rattle.std.specs.Prelude.{◌≡◌, ◌++◌, Err, IfOk, IfSome, OnOk, length, map};
 ghost use Rattle.gl_day.specs.Flight.{steward_rules};
-ghost use Rattle.gl_words.specs.DayNames.{names_seen};
+ghost use Rattle.gl_day_words.specs.DayNames.{names_seen};
 ghost use Rattle.gl_answer.specs.Answer.{answer_of};
-ghost use Rattle.gl_claims.specs.Check.{IsScoredFolder};
+ghost use Rattle.gl_day_claims.specs.Check.{IsScoredFolder};
 ghost use Rattle.gl_demo.specs.Day.{generated_files};
 ghost use Rattle.gl_claims.specs.Demo.{HasJust, IsCountOf, IsDemo, claims_line, demo_names};
 ghost use Rattle.gl_claims.specs.Code.Shelf.{folder_on};
 
-use crate::check::check_proof;
-use crate::score::score;
 use crate::shelf::Shelf;
 use gl_answer::{Answer, Status};
-use gl_day::{Alone, Checked};
+use gl_day::{Checked, Search};
+use gl_day_claims::check::check_proof;
+use gl_day_claims::score::score;
+use gl_day_words::DayNames;
 use gl_demo::{generated_day, task_name};
 use gl_desk::{DeskError, Name};
-use gl_files::Halt;
+use gl_refusals::Halt;
 use gl_steward::Steward;
 use gl_text::push_u64;
-use gl_words::{DayNames, DayNumber};
+use gl_words::DayNumber;
 use std::alloc::{AllocError, Global};
 
 /// What the proof of a generated day is called.
@@ -66,13 +67,15 @@ fn accepted_claims(
 }
 
 /// The answer of `demo NUMBER`, where a shelf has the files of that day and no others.
-fn announce(
+fn announce<S: Search>(
     alloc: Global,
     shelf: &mut Shelf,
+    search: &S,
     day: DayNumber,
     names: DayNames<'_>,
     stewards: &mut Vec<Box<dyn Steward>>,
 ) -> Result<Answer, DeskError>
+    requires ready { S.ready search.now }
     requires files { HasJust (generated_files day.number) (folder_on shelf.old) }
     requires names { names_seen names ≡ demo_names }
     ensures right { IfOk result (λ answer. IsDemo
@@ -82,7 +85,7 @@ fn announce(
     ensures kept { map (λ s. steward_rules (opening s) (fed s) (owed s)) stewards.new.items
         ≡ map (λ s. steward_rules (opening s) (fed s) (owed s)) stewards.old.items }
 {
-    let scored = score(alloc, shelf, &Alone, names, stewards)?;
+    let scored = score(alloc, shelf, search, names, stewards)?;
     let Status::Done = scored.status else {
         unreachable!()
     };
@@ -98,12 +101,14 @@ fn announce(
 
 /// The answer of `demo NUMBER`: the sheet of the generated day of that number, and how many claims
 /// its proof has, which the checker reads again, however large it is. Nothing outside is read, and
-/// nothing appended.
-pub fn demo(
+/// nothing appended. The claims are searched in this way.
+pub fn demo<S: Search>(
     alloc: Global,
+    search: &S,
     day: DayNumber,
     stewards: &mut Vec<Box<dyn Steward>>,
 ) -> Result<Answer, DeskError>
+    requires { S.ready search.now }
     ensures right { IfOk result (λ answer. IsDemo
         (map (λ s. steward_rules (opening s) (fed s) (owed s)) stewards.old.items)
         day.number (answer_of answer)) }
@@ -118,5 +123,5 @@ pub fn demo(
         task: &task,
         proof: &proof,
     };
-    announce(alloc, &mut shelf, day, names, stewards)
+    announce(alloc, &mut shelf, search, day, names, stewards)
 }

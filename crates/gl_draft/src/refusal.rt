@@ -4,7 +4,8 @@ ghost use Rattle.gl_draft.specs.Causes.{cause_of_cup, cause_of_task};
 
 use gl_cup::CupError;
 use gl_desk::DeskError;
-use gl_task_file::{Key, TaskError};
+use gl_task::Key;
+use gl_task_file::TaskError;
 use std::alloc::{AllocError, AllocFailed};
 
 /// Why no task file is made.

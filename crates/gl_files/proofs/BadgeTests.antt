@@ -6,14 +6,14 @@ use Rattle.gl_igc.specs.declared.recording.Recording.{Recording}
 use Rattle.gl_proof.specs.declared.proof.Proof.{Proof}
 use Rattle.gl_desk.specs.Limits.{most_bytes}
 use Rattle.gl_words.specs.Words.{BadgeWords}
-use Rattle.gl_files.specs.declared.halt.Halt.{Halt}
-use Rattle.gl_files.specs.declared.halt.Halt.TheVariants.{Refused, Stopped}
-use Rattle.gl_files.specs.declared.refusal.Refusal.{Refusal}
-use Rattle.gl_files.specs.BadgeFiles.{AreBadgeCheckRead, IsBadgeRead, IsBadgeSeen, badge_check_tests, badge_tests}
-use Rattle.gl_files.specs.Code.FileTests.{HasReadFile, IsNeeded, IsUnused}
-use Rattle.gl_files.specs.FileTests.{HasTested, IsProofOfText, IsRecordingOf, ProofText, RecordingText, most_proof_bytes, text_tests}
-use Rattle.gl_files.proofs.DayTests.{is_listed, not_listed, seen_some}
-use Rattle.gl_files.proofs.FileTests.{all_pass, fails_behind, fails_in_front, some_text_fails, some_text_passes}
+use Rattle.gl_refusals.specs.declared.halt.Halt.{Halt}
+use Rattle.gl_refusals.specs.declared.halt.Halt.TheVariants.{Refused, Stopped}
+use Rattle.gl_refusals.specs.declared.refusal.Refusal.{Refusal}
+use Rattle.gl_files.specs.BadgeFiles.{AreBadgeCheckRead, BadgeSeen, IsBadgeRead, IsBadgeSeen, badge_check_tests, badge_tests}
+use Rattle.gl_refusals.specs.Code.FileTests.{HasReadFile, IsNeeded, IsUnused}
+use Rattle.gl_refusals.specs.FileTests.{HasTested, IsProofOfText, IsRecordingOf, ProofText, RecordingText, most_proof_bytes, text_tests}
+use Rattle.gl_refusals.proofs.Listing.{is_listed, not_listed, seen_some}
+use Rattle.gl_refusals.proofs.FileTests.{AreDecided, all_pass, fails_behind, fails_in_front, proof_decided, recording_decided, some_text_fails, some_text_passes}
 use Rattle.gl_desk.proofs.DeskLemmas.{HasFile-from_names}
 
 -- `badge`: the recording isn't listed
@@ -119,3 +119,10 @@ both_read folder words recording read (seen, is, passes, reads) (proof, there, p
       (some_text_passes (RecordingText None) most_bytes words.flight seen passes, (some_text_passes ProofText most_proof_bytes words.proof proof pass, all_pass first then passes pass)),
       record { flight = reads; proof = are },
     )
+
+-- no test of `badge` and none of `badgecheck` passes and fails
+pub badge_decided : (words : BadgeWords) (seen : BadgeSeen) → AreDecided (badge_tests words seen)
+badge_decided words seen = (tt, (tt, (tt, (recording_decided None, tt))))
+
+pub badge_check_decided : (words : BadgeWords) (seen : BadgeSeen) → AreDecided (badge_check_tests words seen)
+badge_check_decided words seen = (tt, (tt, (tt, (recording_decided None, (tt, (proof_decided, tt))))))

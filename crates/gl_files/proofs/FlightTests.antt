@@ -3,14 +3,14 @@ use Rattle.std.proofs.Common.{refl, ap, ℕ, inl, inr, List, Option, None, Ok, E
 use Rattle.gl_desk.specs.Desk.{FilesByName, IsSeenIn, ListsNames}
 use Rattle.gl_igc.specs.declared.recording.Recording.{Recording}
 use Rattle.gl_desk.specs.Limits.{most_bytes}
-use Rattle.gl_files.specs.declared.halt.Halt.{Halt}
-use Rattle.gl_files.specs.declared.halt.Halt.TheVariants.{Refused, Stopped}
-use Rattle.gl_files.specs.declared.refusal.Refusal.{Refusal}
-use Rattle.gl_files.specs.Code.FileTests.{HasReadFile, IsNeeded}
-use Rattle.gl_files.specs.FileTests.{HasTested, IsRecordingOf, RecordingText}
+use Rattle.gl_refusals.specs.declared.halt.Halt.{Halt}
+use Rattle.gl_refusals.specs.declared.halt.Halt.TheVariants.{Refused, Stopped}
+use Rattle.gl_refusals.specs.declared.refusal.Refusal.{Refusal}
+use Rattle.gl_refusals.specs.Code.FileTests.{HasReadFile, IsNeeded}
+use Rattle.gl_refusals.specs.FileTests.{HasTested, IsRecordingOf, RecordingText}
 use Rattle.gl_files.specs.FlightFile.{IsFlightRead, flight_tests}
-use Rattle.gl_files.proofs.DayTests.{not_listed}
-use Rattle.gl_files.proofs.FileTests.{some_text_fails, some_text_passes}
+use Rattle.gl_refusals.proofs.Listing.{not_listed}
+use Rattle.gl_refusals.proofs.FileTests.{AreDecided, recording_decided, some_text_fails, some_text_passes}
 
 -- the file isn't listed
 pub file_missing : (folder : Option FilesByName) (names : List (List ℕ)) (file : List ℕ) (halt : Halt) → ListsNames folder names → IsNeeded names file (Err halt)
@@ -25,3 +25,7 @@ pub file_tested : (folder : Option FilesByName) (file : List ℕ) (result : _) �
 file_tested folder file (Ok recording) (seen, is, passes, reads) = (seen, is, (some_text_passes (RecordingText None) most_bytes file seen passes, passes), reads)
 file_tested folder file (Err (Refused refusal)) (seen, is, fails) = (seen, is, inr (some_text_fails (RecordingText None) most_bytes file seen refusal fails, fails))
 file_tested folder file (Err (Stopped stop)) read = tt
+
+-- no test passes and fails
+pub flight_decided : (file : List ℕ) (seen : Option (List ℕ)) → AreDecided (flight_tests file seen)
+flight_decided file seen = (tt, (tt, (recording_decided None, tt)))

@@ -1,14 +1,5 @@
 pub mod BadgeTests
-pub mod DayRefusals
-pub mod DayTests
-pub mod FileTests
 pub mod FlightTests
 pub mod NearTests
-pub mod OneDay
-pub mod Pourings
-pub mod Readings
-pub mod ReadsTwice
 pub mod ReplayTests
-pub mod SameFiles
 pub mod SeriesTests
-pub mod TaskSame

@@ -1,20 +1,22 @@
 -- The tests of the files of `near` and `nearcheck`, one after the other.
-use Rattle.std.proofs.Common.{◌≡◌, refl, sym, ap, subst, ℕ, ℤ, inl, inr, List, ◌∷◌, ◌++◌, Option, None, Some, Result, Ok, Err}
+use Rattle.std.proofs.Common.{◌≡◌, ◌∙◌, refl, sym, ap, subst, ℕ, ℤ, inl, inr, List, ◌∷◌, ◌++◌, Option, None, Some, Result, Ok, Err}
 use Rattle.std.specs.Prelude.{Contains, IsSomeAnd}
 use Rattle.gl_desk.specs.Desk.{FilesByName, HasFile, ListsNames}
 use Rattle.gl_igc.specs.declared.recording.Recording.{Recording}
+use Rattle.gl_near.proofs.Reading as near
 use Rattle.gl_near.specs.declared.claim.NearClaim.{NearClaim}
 use Rattle.gl_desk.specs.Limits.{most_bytes}
 use Rattle.gl_words.specs.Words.{NearWords}
-use Rattle.gl_files.specs.declared.halt.Halt.{Halt}
-use Rattle.gl_files.specs.declared.halt.Halt.TheVariants.{Refused, Stopped}
-use Rattle.gl_files.specs.declared.refusal.Refusal.{Refusal}
-use Rattle.gl_files.specs.FileTests.{AllPass, FileTest, FirstFails, HasTested, IsRecordingOf, Listed, NearProofText, Passes, RecordingText, Unlisted, most_proof_bytes, text_tests}
-use Rattle.gl_files.specs.Code.FileTests.{AreNeeded, HasReadFile, IsNeeded, IsUnused}
+use Rattle.gl_refusals.specs.declared.halt.Halt.{Halt}
+use Rattle.gl_refusals.specs.declared.halt.Halt.TheVariants.{Refused, Stopped}
+use Rattle.gl_refusals.specs.declared.refusal.Cause.{Cause}
+use Rattle.gl_refusals.specs.declared.refusal.Refusal.{Refusal}
+use Rattle.gl_refusals.specs.FileTests.{AllPass, FileTest, FirstFails, HasTested, IsRecordingOf, Listed, Passes, RecordingText, Unlisted, most_proof_bytes, text_tests}
+use Rattle.gl_refusals.specs.Code.FileTests.{AreNeeded, HasReadFile, IsNeeded, IsUnused}
 use Rattle.gl_files.specs.Code.NearFiles.{AreFlightsSeen, flights_tests}
-use Rattle.gl_files.specs.NearFiles.{AreNearCheckRead, AreNearRead, IsClaimOf, IsNearSeen, NearSeen, day_of, day_read, near_check_tests, near_tests, recording_tests}
-use Rattle.gl_files.proofs.DayTests.{is_listed, not_listed, seen_some}
-use Rattle.gl_files.proofs.FileTests.{all_pass, fails_behind, fails_in_front, some_text_fails, some_text_passes}
+use Rattle.gl_files.specs.NearFiles.{AreNearCheckRead, AreNearRead, IsClaimOf, IsNearSeen, NearProofText, NearSeen, day_of, day_read, near_check_tests, near_proof_cause, near_tests, recording_tests}
+use Rattle.gl_refusals.proofs.Listing.{is_listed, not_listed, seen_some}
+use Rattle.gl_refusals.proofs.FileTests.{AreDecided, IsDecided, all_pass, fails_behind, fails_in_front, recording_decided, some_text_fails, some_text_passes}
 use Rattle.gl_desk.proofs.DeskLemmas.{HasFile-from_names}
 
 -- the day of a recording that was read
@@ -202,3 +204,16 @@ near_all_read folder words read claim (seen, is, passes, are) (proof, there, pas
       (passes.0, (passes.1.0, (some_text_passes NearProofText most_proof_bytes words.proof proof pass, all_pass (recording_tests words seen) more passes.1.1 pass))),
       record { flights = with_proof seen proof read are; claim = reads },
     )
+
+-- no text is a proof of a closest approach and is refused
+pub near_proof_decided : IsDecided NearProofText
+near_proof_decided text cause (best, boxes, is) (error, told, why) =
+    let e : ◌≡◌ {A = Option Cause} None (Some cause) = sym (ap near_proof_cause (near.text_refused text best boxes error is told)) ∙ why in cc
+
+-- so no test of `near` and none of `nearcheck` passes and fails
+pub near_decided : (words : NearWords) (seen : NearSeen) → AreDecided (near_tests words seen)
+near_decided words seen = (tt, (tt, (tt, (tt, (recording_decided None, (tt, (recording_decided (day_of seen.flight), tt)))))))
+
+pub near_check_decided : (words : NearWords) (seen : NearSeen) → AreDecided (near_check_tests words seen)
+near_check_decided words seen =
+    (tt, (tt, (tt, (tt, (recording_decided None, (tt, (recording_decided (day_of seen.flight), (tt, (near_proof_decided, tt)))))))))

@@ -1,19 +1,21 @@
 -- The tests of the files of `replay`, one after the other.
-use Rattle.std.proofs.Common.{refl, ap, ℕ, inl, inr, List, Option, None, Some, Ok, Err, Vec}
+use Rattle.std.proofs.Common.{◌≡◌, ◌∙◌, refl, sym, ap, ℕ, inl, inr, List, Option, None, Some, Ok, Err, Vec}
 use Rattle.std.specs.declared.alloc.Global.{Global}
 use Rattle.gl_desk.specs.Desk.{FilesByName, HasFile, ListsNames}
 use Rattle.gl_igc.specs.declared.recording.Recording.{Recording}
+use Rattle.gl_schedule.proofs.StepLines.{schedule_told}
 use Rattle.gl_schedule.specs.declared.schedule.Step.{Step}
 use Rattle.gl_desk.specs.Limits.{most_bytes}
 use Rattle.gl_words.specs.Words.{ReplayWords}
-use Rattle.gl_files.specs.declared.halt.Halt.{Halt}
-use Rattle.gl_files.specs.declared.halt.Halt.TheVariants.{Refused, Stopped}
-use Rattle.gl_files.specs.declared.refusal.Refusal.{Refusal}
-use Rattle.gl_files.specs.Code.FileTests.{AreNeeded, HasReadFile, IsNeeded}
-use Rattle.gl_files.specs.FileTests.{HasTested, IsRecordingOf, RecordingText, ScheduleText, text_tests}
-use Rattle.gl_files.specs.ReplayFiles.{AreReplayRead, AreStepsOf, IsReplaySeen, replay_tests}
-use Rattle.gl_files.proofs.DayTests.{is_listed, not_listed, seen_some}
-use Rattle.gl_files.proofs.FileTests.{all_pass, fails_behind, fails_in_front, some_text_fails, some_text_passes}
+use Rattle.gl_refusals.specs.declared.halt.Halt.{Halt}
+use Rattle.gl_refusals.specs.declared.halt.Halt.TheVariants.{Refused, Stopped}
+use Rattle.gl_refusals.specs.declared.refusal.Cause.{Cause}
+use Rattle.gl_refusals.specs.declared.refusal.Refusal.{Refusal}
+use Rattle.gl_refusals.specs.Code.FileTests.{AreNeeded, HasReadFile, IsNeeded}
+use Rattle.gl_refusals.specs.FileTests.{HasTested, IsRecordingOf, RecordingText, text_tests}
+use Rattle.gl_files.specs.ReplayFiles.{AreReplayRead, AreStepsOf, IsReplaySeen, ReplaySeen, ScheduleText, replay_tests, schedule_cause}
+use Rattle.gl_refusals.proofs.Listing.{is_listed, not_listed, seen_some}
+use Rattle.gl_refusals.proofs.FileTests.{AreDecided, IsDecided, all_pass, fails_behind, fails_in_front, recording_decided, some_text_fails, some_text_passes}
 use Rattle.gl_desk.proofs.DeskLemmas.{HasFile-from_names}
 
 -- the recording isn't listed: the first test
@@ -92,3 +94,12 @@ both_read folder words recording steps (seen, is, passes, reads) (lines, are, pa
       ),
       (reads, read),
     )
+
+-- no text is a schedule and is refused
+pub schedule_decided : IsDecided ScheduleText
+schedule_decided text cause (steps, is) (error, told, why) =
+    let e : ◌≡◌ {A = Option Cause} None (Some cause) = sym (ap schedule_cause (schedule_told text steps error is told)) ∙ why in cc
+
+-- so no test passes and fails
+pub replay_decided : (words : ReplayWords) (seen : ReplaySeen) → AreDecided (replay_tests words seen)
+replay_decided words seen = (tt, (tt, (tt, (recording_decided None, (tt, (schedule_decided, tt))))))

@@ -1,12 +1,13 @@
 -- The tests of the files of `series`, one after the other.
 use Rattle.std.proofs.Common.{◌≡◌, ◌∙◌, refl, sym, ap, subst, ℕ, ◌+◌, ◌<◌, ◌≤◌, inl, inr, List, [], ◌∷◌, ◌++◌, get_or, length, take, drop, Option, None, Some, Result, Ok, Err, Vec, arith}
 use Rattle.std.specs.Prelude.{IsSomeAnd}
-use Rattle.std.specs.List.{AllByRecursion, AllZip, flat_map}
+use Rattle.std.specs.List.{AllByRecursion, AllZip}
 use Rattle.std.specs.declared.alloc.Global.{Global}
 use Rattle.std.proofs.lemmas.List.{take-append-drop, take_all, take_more}
 use Rattle.gl_desk.specs.Desk.{FilesByName, IsSeenIn, ListsNames}
 use Rattle.gl_desk.specs.Limits.{most_bytes}
 use Rattle.gl_series.proofs.Lines.{list_told}
+use Rattle.gl_series.proofs.Sheets.{sheet_told}
 use Rattle.gl_series.specs.SeriesList.{IsList, IsSeries}
 use Rattle.gl_series.specs.SheetText.{IsSheetOf}
 use Rattle.gl_series.specs.declared.day.DaySheet.{DaySheet}
@@ -15,16 +16,34 @@ use Rattle.gl_series.specs.Totals.{AreDays, IsDay}
 use Rattle.std.proofs.lemmas.List.Elements.{All-from_recursion}
 use Rattle.std.proofs.lemmas.Slice.Zip.{AllZip-long}
 use Rattle.gl_words.specs.Words.{SeriesWords}
-use Rattle.gl_files.specs.declared.halt.Halt.{Halt}
-use Rattle.gl_files.specs.declared.halt.Halt.TheVariants.{Refused, Stopped}
-use Rattle.gl_files.specs.declared.refusal.Cause.{Cause}
-use Rattle.gl_files.specs.declared.refusal.Refusal.{Refusal}
-use Rattle.gl_files.specs.FileTests.{AllPass, FileTest, FirstFails, HasTested, SeriesListText, SheetText, list_cause, text_tests}
-use Rattle.gl_files.specs.Code.FileTests.{HasReadFile, IsNeeded}
-use Rattle.gl_files.specs.SeriesFiles.{AreSeriesRead, DaySeen, IsDaySeen, IsListRead, IsSeriesSeen, IsSheetRead, day_tests, series_tests, tests_of}
-use Rattle.gl_files.proofs.DayTests.{not_listed, seen_some}
-use Rattle.gl_files.proofs.FileTests.{all_pass, fails_behind, fails_in_front, some_text_fails, some_text_passes}
+use Rattle.gl_refusals.specs.declared.halt.Halt.{Halt}
+use Rattle.gl_refusals.specs.declared.halt.Halt.TheVariants.{Refused, Stopped}
+use Rattle.gl_refusals.specs.declared.refusal.Cause.{Cause}
+use Rattle.gl_refusals.specs.declared.refusal.Refusal.{Refusal}
+use Rattle.gl_refusals.specs.FileTests.{AllPass, FileTest, FirstFails, HasTested, text_tests}
+use Rattle.gl_refusals.specs.Code.FileTests.{HasReadFile, IsNeeded}
+use Rattle.gl_files.specs.SeriesFiles.{AreSeriesRead, DaySeen, IsDaySeen, IsListRead, IsSeriesSeen, IsSheetRead, SeriesListText, SeriesSeen, SheetText, day_tests, days_tests, list_cause, series_tests, sheet_cause, tests_of}
+use Rattle.gl_refusals.proofs.Listing.{not_listed, seen_some}
+use Rattle.gl_refusals.proofs.FileTests.{AreDecided, IsDecided, all_decided, all_pass, fails_behind, fails_in_front, some_text_fails, some_text_passes}
 use Rattle.gl_text.proofs.Lists.{AllZip-append}
+
+-- no text is a list and is refused
+pub list_decided : IsDecided SeriesListText
+list_decided text cause (series, is) (error, told, why) =
+    let e : ◌≡◌ {A = Option Cause} None (Some cause) = sym (ap list_cause (list_told text series error is told)) ∙ why in cc
+
+-- no text is a sheet and is refused
+pub sheet_decided : IsDecided SheetText
+sheet_decided text cause (day, is) (error, told, why) =
+    let e : ◌≡◌ {A = Option Cause} None (Some cause) = sym (ap sheet_cause (sheet_told text day error is told)) ∙ why in cc
+
+-- so no test passes and fails
+days_decided : (days : List DaySeen) → AreDecided (days_tests days)
+days_decided [] = tt
+days_decided (day ∷ days) = all_decided (day_tests day) (days_tests days) (tt, (tt, (sheet_decided, tt))) (days_decided days)
+
+pub series_decided : (words : SeriesWords) (seen : SeriesSeen) → AreDecided (series_tests words seen)
+series_decided words seen = (tt, (tt, (list_decided, days_decided seen.days)))
 
 -- the list isn't among the names
 pub list_missing : (folder : Option FilesByName) (names : List (List ℕ)) (file : List ℕ) (halt : Halt) → ListsNames folder names → IsNeeded names file (Err halt)
@@ -65,9 +84,9 @@ day_tested folder file (Err (Stopped stop)) read = tt
 -- these days passed, and have these sheets
 abbrev pub AreDaysTested : Option FilesByName → List (List ℕ) → List DaySheet → Type 0
 AreDaysTested folder names sheets =
-    (days : List DaySeen) × AllZip (IsDaySeen folder) names days × AllPass (flat_map day_tests days) × AllZip IsSheetRead days sheets
+    (days : List DaySeen) × AllZip (IsDaySeen folder) names days × AllPass (days_tests days) × AllZip IsSheetRead days sheets
 
-tests_append : (days more : List DaySeen) → flat_map day_tests (days ++ more) ≡ flat_map day_tests days ++ flat_map day_tests more
+tests_append : (days more : List DaySeen) → days_tests (days ++ more) ≡ days_tests days ++ days_tests more
 tests_append [] more = refl
 tests_append (day ∷ days) more = λ i. tests_of SheetText day.file day.sheet ++ tests_append days more i
 
@@ -89,30 +108,30 @@ days_more folder names i name sheets sheet below item (days, are, passes, reads)
   days ++ day ∷ [],
   subst (λ (l : List (List ℕ)). AllZip (IsDaySeen folder) l (days ++ day ∷ [])) (sym (next_name names i name below item))
       (AllZip-append (IsDaySeen folder) (take i names) (name ∷ []) days (day ∷ []) are (is, tt)),
-  subst AllPass (sym (tests_append days (day ∷ []))) (all_pass (flat_map day_tests days) (day_tests day ++ []) passes (all_pass (day_tests day) [] pass tt)),
+  subst AllPass (sym (tests_append days (day ∷ []))) (all_pass (days_tests days) (day_tests day ++ []) passes (all_pass (day_tests day) [] pass tt)),
   AllZip-append IsSheetRead days (day ∷ []) sheets (sheet ∷ []) reads (read, tt),
 )
 
 -- all days passed
 pub days_passed : (folder : Option FilesByName) (names : List (List ℕ)) (i : ℕ) (sheets : Vec DaySheet Global) → length names ≤ i → AreDaysTested folder (take i names) sheets.items
-    → HasTested (AllZip (IsDaySeen folder) names) (flat_map day_tests) (λ days read. AllZip IsSheetRead days read.items) (Ok sheets)
+    → HasTested (AllZip (IsDaySeen folder) names) days_tests (λ days read. AllZip IsSheetRead days read.items) (Ok sheets)
 days_passed folder names i sheets past tested = subst (λ (l : List (List ℕ)). AreDaysTested folder l sheets.items) (take_all i names past) tested
 
 -- a day was refused, and those before it passed
 pub day_refused : (folder : Option FilesByName) (names : List (List ℕ)) (i : ℕ) (name : List ℕ) (sheets : List DaySheet) (halt : Halt) → i < length names → name ≡ get_or names i name
     → AreDaysTested folder (take i names) sheets → HasTested {X = DaySheet} (IsDaySeen folder name) day_tests IsSheetRead (Err halt)
-    → HasTested {X = Vec DaySheet Global} (AllZip (IsDaySeen folder) names) (flat_map day_tests) (λ days read. AllZip IsSheetRead days read.items) (Err halt)
+    → HasTested {X = Vec DaySheet Global} (AllZip (IsDaySeen folder) names) days_tests (λ days read. AllZip IsSheetRead days read.items) (Err halt)
 day_refused folder names i name sheets (Refused refusal) below item (days, are, passes, reads) (day, is, fails) =
     let rest = days_seen folder (drop (i + 1) names) in
     let upto = subst (λ (l : List (List ℕ)). AllZip (IsDaySeen folder) l (days ++ day ∷ [])) (sym (next_name names i name below item))
     (AllZip-append (IsDaySeen folder) (take i names) (name ∷ []) days (day ∷ []) are (is, tt)) in
     let seen = (days ++ day ∷ []) ++ rest.0 in
-    let front = fails_behind (flat_map day_tests days) (day_tests day ++ []) refusal passes (fails_in_front (day_tests day) [] refusal fails) in (
+    let front = fails_behind (days_tests days) (day_tests day ++ []) refusal passes (fails_in_front (day_tests day) [] refusal fails) in (
       seen,
       subst (λ (l : List (List ℕ)). AllZip (IsDaySeen folder) l seen) (take-append-drop (i + 1) names)
           (AllZip-append (IsDaySeen folder) (take (i + 1) names) (drop (i + 1) names) (days ++ day ∷ []) rest.0 upto rest.1),
       subst (λ (tests : List FileTest). FirstFails tests refusal) (sym (tests_append (days ++ day ∷ []) rest.0))
-          (fails_in_front (flat_map day_tests (days ++ day ∷ [])) (flat_map day_tests rest.0) refusal
+          (fails_in_front (days_tests (days ++ day ∷ [])) (days_tests rest.0) refusal
           (subst (λ (tests : List FileTest). FirstFails tests refusal) (sym (tests_append days (day ∷ []))) front)),
     )
 day_refused folder names i name sheets (Stopped stop) below item tested refused = tt
@@ -122,9 +141,7 @@ no_days : (file : List ℕ) (seen : Option (List ℕ)) (refusal : Refusal) → F
 no_days file None refusal fails series read = absurd read
 no_days file (Some text) refusal (inl fails) series read = absurd (cc)
 no_days file (Some text) refusal (inr (listed, inl fails)) series read = omega (arith, read.0, fails.1.0)
-no_days file (Some text) refusal (inr (listed, inr (small, inl fails))) series read =
-    let told = fails.1 in
-    let e : ◌≡◌ {A = Option Cause} None (Some refusal.cause) = sym (ap list_cause (list_told text series told.0 read.1 told.1)) ∙ told.2 in cc
+no_days file (Some text) refusal (inr (listed, inr (small, inl fails))) series read = absurd (list_decided text refusal.cause (series, read.1) fails.1)
 no_days file (Some text) refusal (inr (listed, inr (small, inr (reads, none)))) series read = absurd none
 
 pub series_list_refused : (folder : Option FilesByName) (words : SeriesWords) (halt : Halt)
@@ -137,19 +154,19 @@ series_list_refused folder words (Stopped stop) tested = tt
 -- the list passed, and a day was refused
 pub series_day_refused : (folder : Option FilesByName) (words : SeriesWords) (series : Series) (halt : Halt)
     → HasTested (λ seen. IsSeenIn folder words.list seen) (tests_of SeriesListText words.list) IsListRead (Ok series)
-    → HasTested {X = Vec DaySheet Global} (AllZip (IsDaySeen folder) series.days) (flat_map day_tests) (λ days read. AllZip IsSheetRead days read.items) (Err halt)
+    → HasTested {X = Vec DaySheet Global} (AllZip (IsDaySeen folder) series.days) days_tests (λ days read. AllZip IsSheetRead days read.items) (Err halt)
     → HasTested (IsSeriesSeen words folder) (series_tests words) AreSeriesRead (Err halt)
 series_day_refused folder words series (Refused refusal) (seen, is, passes, read) (days, are, fails) =
-    (record { list = seen; days = days }, (is, inl (series, read, are)), fails_behind (tests_of SeriesListText words.list seen) (flat_map day_tests days) refusal passes fails)
+    (record { list = seen; days = days }, (is, inl (series, read, are)), fails_behind (tests_of SeriesListText words.list seen) (days_tests days) refusal passes fails)
 series_day_refused folder words series (Stopped stop) tested refused = tt
 
 -- all passed
 pub series_read : (folder : Option FilesByName) (words : SeriesWords) (series : Series) (sheets : Vec DaySheet Global)
     → HasTested (λ seen. IsSeenIn folder words.list seen) (tests_of SeriesListText words.list) IsListRead (Ok series)
-    → HasTested (AllZip (IsDaySeen folder) series.days) (flat_map day_tests) (λ days (read : Vec DaySheet Global). AllZip IsSheetRead days read.items) (Ok sheets)
+    → HasTested (AllZip (IsDaySeen folder) series.days) days_tests (λ days (read : Vec DaySheet Global). AllZip IsSheetRead days read.items) (Ok sheets)
     → HasTested (IsSeriesSeen words folder) (series_tests words) AreSeriesRead (Ok (series, sheets))
 series_read folder words series sheets (seen, is, passes, read) (days, are, pass, reads) =
-    (record { list = seen; days = days }, (is, inl (series, read, are)), all_pass (tests_of SeriesListText words.list seen) (flat_map day_tests days) passes pass, (read, reads))
+    (record { list = seen; days = days }, (is, inl (series, read, are)), all_pass (tests_of SeriesListText words.list seen) (days_tests days) passes pass, (read, reads))
 
 -- what was read fits what the totals ask for
 pub list_fits : (seen : Option (List ℕ)) (series : Series) → IsListRead seen series → IsSeries series
@@ -175,7 +192,7 @@ days_fit folder series days sheets is are reads = record {
 
 pub series_fit : (folder : Option FilesByName) (words : SeriesWords) (series : Series) (sheets : Vec DaySheet Global)
     → HasTested (λ seen. IsSeenIn folder words.list seen) (tests_of SeriesListText words.list) IsListRead (Ok series)
-    → HasTested (AllZip (IsDaySeen folder) series.days) (flat_map day_tests) (λ days (read : Vec DaySheet Global). AllZip IsSheetRead days read.items) (Ok sheets)
+    → HasTested (AllZip (IsDaySeen folder) series.days) days_tests (λ days (read : Vec DaySheet Global). AllZip IsSheetRead days read.items) (Ok sheets)
     → IsSeries series × AreDays sheets.items
 series_fit folder words series sheets (seen, is, passes, read) (days, are, pass, reads) =
     let fits = list_fits seen series read in

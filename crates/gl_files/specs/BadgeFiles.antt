@@ -5,7 +5,7 @@ use Rattle.gl_igc.specs.declared.recording.Recording.{Recording}
 use Rattle.gl_proof.specs.declared.proof.Proof.{Proof}
 use Rattle.gl_desk.specs.Limits.{most_bytes}
 use Rattle.gl_words.specs.Words.{BadgeWords}
-use Rattle.gl_files.specs.FileTests.{FileTest, IsProofOfText, Listed, ProofText, RecordingText, Unlisted, most_proof_bytes, text_tests}
+use Rattle.gl_refusals.specs.FileTests.{FileTest, IsProofOfText, Listed, ProofText, RecordingText, Unlisted, most_proof_bytes, text_tests}
 use Rattle.gl_files.specs.FlightFile.{IsFlightRead}
 
 -- what is seen of the two files

@@ -2,7 +2,7 @@
 use Rattle.std.specs.Prelude.{ℕ, List, ◌∷◌, Option, None, IsSomeAnd}
 use Rattle.gl_igc.specs.declared.recording.Recording.{Recording}
 use Rattle.gl_desk.specs.Limits.{most_bytes}
-use Rattle.gl_files.specs.FileTests.{FileTest, IsRecordingOf, Listed, RecordingText, text_tests}
+use Rattle.gl_refusals.specs.FileTests.{FileTest, IsRecordingOf, Listed, RecordingText, text_tests}
 
 -- the file is listed; it isn't too large; it is a recording
 abbrev pub flight_tests : List ℕ → Option (List ℕ) → List FileTest

@@ -1,11 +1,6 @@
 pub mod BadgeFiles
 pub mod Code
-pub mod DayFiles
-pub mod FileTests
 pub mod FlightFile
-pub mod Halts
 pub mod NearFiles
-pub mod Pouring
-pub mod Refusals
 pub mod ReplayFiles
 pub mod SeriesFiles

@@ -1,15 +1,38 @@
 -- The files of `near` and `nearcheck`: their tests in their order, and what they give.
-use Rattle.std.specs.Prelude.{ℕ, ℤ, List, ◌∷◌, ◌++◌, map, Option, None, Some, Result, Ok, Err, IsSomeAnd}
+use Rattle.std.specs.Prelude.{◌≡◌, ℕ, ℤ, List, ◌∷◌, ◌++◌, map, Option, None, Some, Result, Ok, Err, IsSomeAnd}
 use Rattle.gl_desk.specs.Desk.{FilesByName, IsSeenIn}
 use Rattle.gl_igc.specs.Reading.{Reading, recording_of}
 use Rattle.gl_igc.specs.declared.error.IgcError.{IgcError}
 use Rattle.gl_igc.specs.declared.recording.Recording.{Recording}
+use Rattle.gl_lines.specs.Refusal.{IsRefusal}
+use Rattle.gl_lines.specs.declared.error.ProofError.{ProofError}
+use Rattle.gl_lines.specs.declared.error.ProofError.TheVariants as proof
 use Rattle.gl_near.specs.Certificate.{box_of}
-use Rattle.gl_near.specs.Line.{IsTextOf}
+use Rattle.gl_near.specs.Line.{IsTextOf, near_grammar}
 use Rattle.gl_near.specs.declared.claim.NearClaim.{NearClaim}
+use Rattle.gl_near.specs.declared.found.NearBest.{NearBest}
+use Rattle.gl_near.specs.declared.found.NearWhy.{NearWhy}
 use Rattle.gl_desk.specs.Limits.{most_bytes}
 use Rattle.gl_words.specs.Words.{NearWords}
-use Rattle.gl_files.specs.FileTests.{FileTest, IsRecordingOf, Listed, NearProofText, RecordingText, Unlisted, most_proof_bytes, text_tests}
+use Rattle.gl_refusals.specs.FileTests.{FileTest, IsRecordingOf, Kind, Listed, RecordingText, Unlisted, most_proof_bytes, text_tests}
+use Rattle.gl_refusals.specs.declared.refusal.Cause.{Cause}
+use Rattle.gl_refusals.specs.declared.refusal.Cause.TheVariants.{NearProofCut, NoNearHeading, WrongNearProof}
+
+-- why a text is no proof of a closest approach
+abbrev pub near_proof_cause : ProofError → Option Cause
+near_proof_cause proof.Heading = Some NoNearHeading
+near_proof_cause (proof.Line line) = Some (WrongNearProof line)
+near_proof_cause proof.Cut = Some NearProofCut
+near_proof_cause proof.Memory = None
+
+-- a proof of a closest approach
+abbrev pub NearProofText : Kind
+NearProofText = record {
+  IsText = λ text.
+      (best : Option NearBest) × (boxes : List (List (ℕ × ℕ) × NearWhy)) × IsTextOf text best boxes;
+  IsNoText = λ text cause.
+      (error : ProofError) × IsRefusal near_grammar text error × (near_proof_cause error ≡ Some cause);
+}
 
 -- what is seen of the three files
 pub record NearSeen : Type 0 where

@@ -1,13 +1,31 @@
 -- The files of `replay`: their tests in their order, and what they give.
-use Rattle.std.specs.Prelude.{ℕ, List, ◌∷◌, ◌++◌, Option, None, IsSomeAnd, Vec}
+use Rattle.std.specs.Prelude.{◌≡◌, ℕ, List, ◌∷◌, ◌++◌, Option, None, Some, IsSomeAnd, Vec}
 use Rattle.std.specs.declared.alloc.Global.{Global}
 use Rattle.gl_desk.specs.Desk.{FilesByName, IsSeenIn}
 use Rattle.gl_igc.specs.declared.recording.Recording.{Recording}
-use Rattle.gl_schedule.specs.Schedule.{IsSchedule}
+use Rattle.gl_schedule.specs.Schedule.{IsRefused, IsSchedule}
+use Rattle.gl_schedule.specs.declared.error.StepError.{StepError}
+use Rattle.gl_schedule.specs.declared.error.StepError.TheVariants as step
 use Rattle.gl_schedule.specs.declared.schedule.Step.{Step}
 use Rattle.gl_desk.specs.Limits.{most_bytes}
 use Rattle.gl_words.specs.Words.{ReplayWords}
-use Rattle.gl_files.specs.FileTests.{FileTest, IsRecordingOf, Listed, RecordingText, ScheduleText, text_tests}
+use Rattle.gl_refusals.specs.FileTests.{FileTest, IsRecordingOf, Kind, Listed, RecordingText, text_tests}
+use Rattle.gl_refusals.specs.declared.refusal.Cause.{Cause}
+use Rattle.gl_refusals.specs.declared.refusal.Cause.TheVariants.{TooManySteps, WrongStep}
+
+-- why a text is no schedule
+abbrev pub schedule_cause : StepError → Option Cause
+schedule_cause (step.Line line) = Some (WrongStep line)
+schedule_cause step.TooMany = Some TooManySteps
+schedule_cause step.Memory = None
+
+-- a schedule
+abbrev pub ScheduleText : Kind
+ScheduleText = record {
+  IsText = λ text. (steps : List Step) × IsSchedule text steps;
+  IsNoText = λ text cause.
+      (error : StepError) × IsRefused text error × (schedule_cause error ≡ Some cause);
+}
 
 -- what is seen of the two files
 pub record ReplaySeen : Type 0 where

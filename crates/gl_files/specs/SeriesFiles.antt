@@ -1,15 +1,49 @@
 -- The files of `series`: their tests in their order, and what they give.
-use Rattle.std.specs.Prelude.{◌≡◌, ℕ, ◌≤◌, ◌⊎◌, List, [], ◌∷◌, ◌++◌, length, Option, IsSomeAnd, Vec}
-use Rattle.std.specs.List.{AllZip, flat_map}
+use Rattle.std.specs.Prelude.{◌≡◌, ℕ, ◌≤◌, ◌⊎◌, List, [], ◌∷◌, ◌++◌, length, Option, None, Some, IsSomeAnd, Vec}
+use Rattle.std.specs.List.{AllZip}
 use Rattle.std.specs.declared.alloc.Global.{Global}
 use Rattle.gl_desk.specs.Desk.{FilesByName, IsSeenIn}
 use Rattle.gl_desk.specs.Limits.{most_bytes}
-use Rattle.gl_series.specs.SeriesList.{IsList}
-use Rattle.gl_series.specs.SheetText.{IsSheetOf}
+use Rattle.gl_series.specs.SeriesList.{IsList, IsRefused}
+use Rattle.gl_series.specs.SheetText.{IsRefusedSheet, IsSheetOf}
 use Rattle.gl_series.specs.declared.day.DaySheet.{DaySheet}
+use Rattle.gl_series.specs.declared.error.ListError.{ListError}
+use Rattle.gl_series.specs.declared.error.ListError.TheVariants as list
+use Rattle.gl_series.specs.declared.error.SheetError.{SheetError}
+use Rattle.gl_series.specs.declared.error.SheetError.TheVariants as sheet
 use Rattle.gl_series.specs.declared.series.Series.{Series}
 use Rattle.gl_words.specs.Words.{SeriesWords}
-use Rattle.gl_files.specs.FileTests.{FileTest, Kind, Listed, SeriesListText, SheetText, text_tests}
+use Rattle.gl_refusals.specs.FileTests.{FileTest, Kind, Listed, text_tests}
+use Rattle.gl_refusals.specs.declared.refusal.Cause.{Cause}
+use Rattle.gl_refusals.specs.declared.refusal.Cause.TheVariants.{NoListHeading, NoSheetHeading, WrongListLine, WrongRecord}
+
+-- why a text is no list of a championship
+abbrev pub list_cause : ListError → Option Cause
+list_cause list.Heading = Some NoListHeading
+list_cause (list.Line line) = Some (WrongListLine line)
+list_cause list.Memory = None
+
+-- the list of a championship
+abbrev pub SeriesListText : Kind
+SeriesListText = record {
+  IsText = λ text. (series : Series) × IsList text series;
+  IsNoText = λ text cause.
+      (error : ListError) × IsRefused text error × (list_cause error ≡ Some cause);
+}
+
+-- why a text is no sheet of a day
+abbrev pub sheet_cause : SheetError → Option Cause
+sheet_cause sheet.Heading = Some NoSheetHeading
+sheet_cause (sheet.Record number) = Some (WrongRecord number)
+sheet_cause sheet.Memory = None
+
+-- the sheet of a day
+abbrev pub SheetText : Kind
+SheetText = record {
+  IsText = λ text. (day : DaySheet) × IsSheetOf text day;
+  IsNoText = λ text cause.
+      (error : SheetError) × IsRefusedSheet text error × (sheet_cause error ≡ Some cause);
+}
 
 -- what is seen of the sheet of a day: the name of its file, and its bytes or that it isn't listed
 pub record DaySeen : Type 0 where
@@ -47,10 +81,15 @@ tests_of kind file seen = Listed file seen ∷ text_tests kind most_bytes file s
 abbrev pub day_tests : DaySeen → List FileTest
 day_tests day = tests_of SheetText day.file day.sheet
 
+-- those of some days, day after day
+abbrev pub days_tests : List DaySeen → List FileTest
+days_tests [] = []
+days_tests (day ∷ days) = day_tests day ++ days_tests days
+
 -- The list is tested, and then day after day.
 abbrev pub series_tests : SeriesWords → SeriesSeen → List FileTest
 series_tests words seen =
-    tests_of SeriesListText words.list seen.list ++ flat_map day_tests seen.days
+    tests_of SeriesListText words.list seen.list ++ days_tests seen.days
 
 -- this sheet was read
 abbrev pub IsSheetRead : DaySeen → DaySheet → Type 0

@@ -2,14 +2,13 @@ ghost use Rattle.gl_desk.specs.Answers.{OnlyReads};
 ghost use Rattle.gl_desk.specs.Desk.{ListsNames};
 ghost use Rattle.gl_words.specs.BadgeWords.{badge_seen};
 ghost use Rattle.gl_files.specs.BadgeFiles.{AreBadgeCheckRead, IsBadgeRead, IsBadgeSeen, badge_check_tests, badge_tests};
-ghost use Rattle.gl_files.specs.FileTests.{HasTested};
-ghost use Rattle.gl_files.specs.Halts.{halt_stop};
+ghost use Rattle.gl_refusals.specs.FileTests.{HasTested};
+ghost use Rattle.gl_refusals.specs.Halts.{halt_stop};
 
-use crate::file_tests::{MOST_PROOF_BYTES, need, need_unlisted, read_proof_file, read_recording};
-use crate::halt::Halt;
 use gl_desk::{Desk, Name};
 use gl_igc::Recording;
 use gl_proof::Proof;
+use gl_refusals::{Halt, MOST_PROOF_BYTES, need, need_unlisted, read_proof_file, read_recording};
 use gl_words::BadgeWords;
 use std::alloc::Global;
 

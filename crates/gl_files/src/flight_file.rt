@@ -1,13 +1,12 @@
 ghost use Rattle.gl_desk.specs.Answers.{OnlyReads};
 ghost use Rattle.gl_desk.specs.Desk.{HasFile, IsSeenIn, ListsNames};
-ghost use Rattle.gl_files.specs.FileTests.{HasTested};
+ghost use Rattle.gl_refusals.specs.FileTests.{HasTested};
 ghost use Rattle.gl_files.specs.FlightFile.{IsFlightRead, flight_tests};
-ghost use Rattle.gl_files.specs.Halts.{halt_stop};
+ghost use Rattle.gl_refusals.specs.Halts.{halt_stop};
 
-use crate::file_tests::{need, read_recording};
-use crate::halt::Halt;
 use gl_desk::{Desk, Name};
 use gl_igc::Recording;
+use gl_refusals::{Halt, need, read_recording};
 use std::alloc::Global;
 
 /// The recording of a file that passes its tests: FILE is of the folder's names; it has at most

@@ -3,21 +3,20 @@ ghost use Rattle.gl_desk.specs.Desk.{HasFile, ListsNames};
 ghost use Rattle.std.specs.Prelude.{◌≡◌, Some};
 ghost use Rattle.gl_desk.specs.Limits.{most_bytes};
 ghost use Rattle.gl_words.specs.NearWords.{near_seen};
-ghost use Rattle.gl_files.specs.Code.FileTests.{HasRead, HasReadFile};
-ghost use Rattle.gl_files.specs.FileTests.{HasTested, IsRecordingOf, NearProofText, RecordingText, most_proof_bytes, near_proof_cause};
-ghost use Rattle.gl_files.specs.Code.Halts.{IsNoFault};
-ghost use Rattle.gl_files.specs.Halts.{halt_stop};
+ghost use Rattle.gl_refusals.specs.Code.FileTests.{HasRead, HasReadFile};
+ghost use Rattle.gl_refusals.specs.FileTests.{HasTested, IsRecordingOf, RecordingText, most_proof_bytes};
+ghost use Rattle.gl_refusals.specs.Code.Halts.{IsNoFault};
+ghost use Rattle.gl_refusals.specs.Halts.{halt_stop};
 ghost use Rattle.gl_files.specs.Code.NearFiles.{AreFlightsSeen, flights_tests};
-ghost use Rattle.gl_files.specs.NearFiles.{AreNearCheckRead, AreNearRead, IsClaimOf, IsNearSeen, near_check_tests, near_tests};
+ghost use Rattle.gl_files.specs.NearFiles.{AreNearCheckRead, AreNearRead, IsClaimOf, IsNearSeen, NearProofText, near_check_tests, near_proof_cause, near_tests};
 
-use crate::file_tests::{
-    MOST_PROOF_BYTES, need, need_both, need_unlisted, read_bytes, read_recording,
-};
-use crate::halt::{Halt, refusing_for};
-use crate::refusal::Cause;
 use gl_desk::{Desk, Name};
 use gl_igc::Recording;
 use gl_near::{NearClaim, NearError, read_near};
+use gl_refusals::{
+    Cause, Halt, MOST_PROOF_BYTES, need, need_both, need_unlisted, read_bytes, read_recording,
+    refusing_for,
+};
 use gl_words::NearWords;
 use std::alloc::Global;
 

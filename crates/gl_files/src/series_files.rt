@@ -1,5 +1,5 @@
 ghost use Rattle.std.specs.Prelude.{◌≡◌, IfOk};
-ghost use Rattle.std.specs.List.{AllZip, flat_map};
+ghost use Rattle.std.specs.List.{AllZip};
 ghost use Rattle.gl_desk.specs.Answers.{OnlyReads};
 ghost use Rattle.gl_desk.specs.Desk.{HasFile, IsSeenIn, ListsNames};
 ghost use Rattle.gl_desk.specs.Limits.{most_bytes};
@@ -7,16 +7,14 @@ ghost use Rattle.gl_series.specs.SeriesList.{IsList, IsSeries};
 ghost use Rattle.gl_series.specs.SheetText.{IsSheetOf};
 ghost use Rattle.gl_series.specs.Totals.{AreDays};
 ghost use Rattle.gl_words.specs.SeriesWords.{series_seen};
-ghost use Rattle.gl_files.specs.Code.FileTests.{HasRead, HasReadFile};
-ghost use Rattle.gl_files.specs.FileTests.{HasTested, SeriesListText, SheetText, list_cause, sheet_cause};
-ghost use Rattle.gl_files.specs.Code.Halts.{IsNoFault};
-ghost use Rattle.gl_files.specs.Halts.{halt_stop};
-ghost use Rattle.gl_files.specs.SeriesFiles.{AreSeriesRead, IsDaySeen, IsListRead, IsSeriesSeen, IsSheetRead, day_tests, series_tests, tests_of};
+ghost use Rattle.gl_refusals.specs.Code.FileTests.{HasRead, HasReadFile};
+ghost use Rattle.gl_refusals.specs.FileTests.{HasTested};
+ghost use Rattle.gl_refusals.specs.Code.Halts.{IsNoFault};
+ghost use Rattle.gl_refusals.specs.Halts.{halt_stop};
+ghost use Rattle.gl_files.specs.SeriesFiles.{AreSeriesRead, IsDaySeen, IsListRead, IsSeriesSeen, IsSheetRead, SeriesListText, SheetText, day_tests, days_tests, list_cause, series_tests, sheet_cause, tests_of};
 
-use crate::file_tests::{need, read_bytes};
-use crate::halt::{Halt, refusing_for};
-use crate::refusal::Cause;
 use gl_desk::{Desk, MOST_BYTES, Name};
+use gl_refusals::{Cause, Halt, need, read_bytes, refusing_for};
 use gl_series::{DaySheet, ListError, Series, SheetError, read_day, read_list};
 use gl_words::SeriesWords;
 use std::alloc::Global;
@@ -130,7 +128,7 @@ fn test_days<D: Desk>(
 ) -> Result<Vec<DaySheet>, Halt>
     requires { ListsNames (D.told desk.old).folder names.now }
     ensures tested { HasTested (AllZip (IsDaySeen (D.told desk.old).folder) files.now)
-        (flat_map day_tests) (λ days sheets. AllZip IsSheetRead days sheets.items) result }
+        days_tests (λ days sheets. AllZip IsSheetRead days sheets.items) result }
     ensures reads { OnlyReads (halt_stop result) (D.told desk.old) (D.told desk.new) }
 {
     let mut sheets = Vec::new(alloc);

@@ -1,6 +1,6 @@
 -- The laws of `near` and `nearcheck`.
 use Rattle.std.proofs.Common.{◌≡◌, ◌≢◌, ◌∙◌, refl, sym, ap, subst, ℕ, ◌≤◌, ◌⊎◌, inl, inr, true, List, length, map, Option, None, Some}
-use Rattle.std.specs.Prelude.{IsNone, IsSome, IsSomeAnd}
+use Rattle.std.specs.Prelude.{IsSomeAnd}
 use Rattle.gl_desk.specs.Desk.{FilesByName}
 use Rattle.gl_igc.specs.declared.recording.Recording.{Recording}
 use Rattle.gl_near.proofs.Judged.{certificate_yes}
@@ -16,16 +16,17 @@ use Rattle.gl_near.specs.declared.found.NearWhy.{NearWhy}
 use Rattle.gl_words.specs.Words.{NearWords}
 use Rattle.gl_text.proofs.Forms.{is_unbroken}
 use Rattle.gl_words.proofs.Unbroken.{HasUnbrokenNear}
-use Rattle.gl_files.specs.declared.refusal.Refusal.{Refusal}
-use Rattle.gl_files.specs.FileTests.{AllPass, FirstFails, IsRecordingOf, most_proof_bytes}
+use Rattle.gl_refusals.specs.declared.refusal.Refusal.{Refusal}
+use Rattle.gl_refusals.specs.FileTests.{AllPass, FirstFails, IsRecordingOf, most_proof_bytes}
 use Rattle.gl_files.specs.NearFiles.{AreNearRead, IsNearSeen, NearSeen, near_check_tests, near_tests}
-use Rattle.gl_files.proofs.FileTests.{AreNamed, none_fails}
-use Rattle.gl_files.proofs.SameFiles.{one_recording, still}
+use Rattle.gl_refusals.proofs.FileTests.{AreNamed, none_fails}
+use Rattle.gl_refusals.proofs.SameFiles.{one_recording, still}
 use Rattle.gl_answer.specs.declared.status.Status.{Status}
 use Rattle.gl_answer.specs.declared.status.Status.TheVariants as status
 use Rattle.gl_answer.specs.Answer.{Answer, refused}
 use Rattle.gl_flights.specs.Near.{IsNear, IsNearBegun, IsNearCheck, IsNearChecked, IsNearFolder, IsNearFound, IsNearestSaid, box_of_verdict, near_check_promise, near_promise, pairs_of, verdict_answer, word_of_verdict}
 use Rattle.gl_answer.specs.Texts.{IsLine, wrong_line}
+use Rattle.gl_files.proofs.NearTests.{near_check_decided, near_decided}
 use Rattle.gl_answer.proofs.ByTests.{by_tests_line, by_tests_passes, by_tests_result}
 use Rattle.gl_answer.proofs.LineTexts.{wrong_is_line}
 use Rattle.gl_answer.proofs.Promises.{IsLawful, IsPart, done_no_refusal, some_result}
@@ -46,7 +47,7 @@ begun_part folder words text (answer, right, count, is) = record { answer = answ
 pub near_lawful : (folder : Option FilesByName) (words : NearWords) → HasUnbrokenNear words → IsLawful (near_promise folder words)
 near_lawful folder words named = record {
   result = by_tests_result (IsNearSeen words folder) (near_tests words) (IsNearFound words) (λ seen answer is. inl (near_done words seen answer is));
-  passes = by_tests_passes folder (IsNearSeen words) (near_tests words) (IsNearFound words) (λ seen answer is. done_no_refusal answer.status (inl (near_done words seen answer is)));
+  passes = by_tests_passes folder (IsNearSeen words) (near_tests words) (IsNearFound words) (near_decided words) (λ seen answer is. done_no_refusal answer.status (inl (near_done words seen answer is)));
   line = by_tests_line (IsNearSeen words folder) (near_tests words) (IsNearFound words) (near_named words named) (λ seen answer is unless. absurd (unless (near_done words seen answer is)));
   own = λ none. absurd none;
   begun = begun_part folder words;
@@ -158,6 +159,7 @@ own_seen files words folder found seen answer same (inl (passes, checked)) =
     own_verdict words found.seen folder.answer found.read found.are found.nearest answer (subst (λ (s : NearSeen). IsNearChecked words s answer) same checked)
 own_seen files words folder found seen answer same (inr (refusal, fails, is)) =
     absurd (none_fails (near_check_tests words (seen_with found.seen folder.answer.appended)) refusal
+    (near_check_decided words (seen_with found.seen folder.answer.appended))
     (all_pass words found.seen folder.answer.appended found.nearest.best found.nearest.boxes found.passes folder.small found.nearest.appended)
     (subst (λ (s : NearSeen). FirstFails (near_check_tests words s) refusal) same fails))
 
@@ -170,7 +172,7 @@ own_accepted (Some files) words own answer (seen, is, either) =
 pub near_check_lawful : (folder : Option FilesByName) (words : NearWords) → HasUnbrokenNear words → IsLawful (near_check_promise folder words)
 near_check_lawful folder words named = record {
   result = by_tests_result (IsNearSeen words folder) (near_check_tests words) (IsNearChecked words) (λ seen answer is. some_result answer.status (checked_result words seen answer is));
-  passes = by_tests_passes folder (IsNearSeen words) (near_check_tests words) (IsNearChecked words) (λ seen answer is. done_no_refusal answer.status (checked_result words seen answer is));
+  passes = by_tests_passes folder (IsNearSeen words) (near_check_tests words) (IsNearChecked words) (near_check_decided words) (λ seen answer is. done_no_refusal answer.status (checked_result words seen answer is));
   line = by_tests_line (IsNearSeen words folder) (near_check_tests words) (IsNearChecked words) (near_check_named words named) (checked_line words);
   own = own_accepted folder words;
   begun = λ text none. absurd none;

@@ -1,7 +1,7 @@
 -- In a folder two right answers of `series` are one.
 use Rattle.std.proofs.Common.{◌≡◌, ◌∙◌, refl, sym, ap, subst, ℕ, ◌⊎◌, inl, inr, List, [], ◌∷◌, Option, None, Some}
 use Rattle.std.specs.Prelude.{IsSomeAnd}
-use Rattle.std.specs.List.{AllZip, flat_map}
+use Rattle.std.specs.List.{AllZip}
 use Rattle.gl_desk.specs.Desk.{FilesByName}
 use Rattle.gl_series.proofs.Lines as lines
 use Rattle.gl_series.proofs.OneStanding.{standing_once}
@@ -16,12 +16,13 @@ use Rattle.gl_series.specs.declared.error.SheetError.{SheetError}
 use Rattle.gl_series.specs.declared.error.SheetError.TheVariants as sheet
 use Rattle.gl_series.specs.declared.series.Series.{Series}
 use Rattle.gl_words.specs.Words.{SeriesWords}
-use Rattle.gl_files.specs.declared.refusal.Cause.{Cause}
-use Rattle.gl_files.specs.declared.refusal.Refusal.{Refusal}
-use Rattle.gl_files.specs.FileTests.{AllPass, Fails, FileTest, FirstFails, IsNoText, Kind, Reads, SeriesListText, SheetText, list_cause, sheet_cause}
-use Rattle.gl_files.specs.SeriesFiles.{AreDaysSeen, DaySeen, IsDaySeen, IsListRead, IsSeriesSeen, IsSheetRead, SeriesSeen, day_tests, series_tests}
-use Rattle.gl_files.proofs.FileTests.{none_fails}
-use Rattle.gl_files.proofs.SeriesTests.{days_fit, list_fits}
+use Rattle.gl_refusals.specs.declared.refusal.Cause.{Cause}
+use Rattle.gl_refusals.specs.declared.refusal.Refusal.{Refusal}
+use Rattle.gl_refusals.specs.FileTests.{AllPass, Fails, FileTest, FirstFails, IsNoText, Kind, Reads}
+use Rattle.gl_files.specs.SeriesFiles.{SeriesListText, SheetText, list_cause, sheet_cause}
+use Rattle.gl_files.specs.SeriesFiles.{AreDaysSeen, DaySeen, IsDaySeen, IsListRead, IsSeriesSeen, IsSheetRead, SeriesSeen, days_tests, series_tests}
+use Rattle.gl_refusals.proofs.FileTests.{AreDecided, none_fails}
+use Rattle.gl_files.proofs.SeriesTests.{days_fit, list_fits, series_decided}
 use Rattle.gl_answer.specs.declared.status.Status.TheVariants.{Done}
 use Rattle.gl_answer.specs.Answer.{Answer, refused, saying}
 use Rattle.gl_flights.specs.Series.{HasOneSeries, IsAddedUp}
@@ -54,7 +55,7 @@ text_sure : (kind : Kind) → ((text : List ℕ) (a b : Cause) → IsNoText kind
 text_sure kind once file None a b one other = absurd one
 text_sure kind once file (Some text) a b one other = once text a b one other
 
-days_sure : (days : List DaySeen) → AreSure (flat_map day_tests days)
+days_sure : (days : List DaySeen) → AreSure (days_tests days)
 days_sure [] = tt
 days_sure (day ∷ days) =
     (λ a b one other. one.1 ∙ sym other.1, (λ a b one other. one.1 ∙ sym other.1, (text_sure SheetText sheet_once day.file day.sheet, days_sure days)))
@@ -64,12 +65,12 @@ series_sure words seen =
     (λ a b one other. one.1 ∙ sym other.1, (λ a b one other. one.1 ∙ sym other.1, (text_sure SeriesListText list_once words.list seen.list, days_sure seen.days)))
 
 -- one of them is the first that fails
-first_once : (tests : List FileTest) (one other : Refusal) → AreSure tests → FirstFails tests one → FirstFails tests other → (one.file ≡ other.file) × (one.cause ≡ other.cause)
-first_once [] one other sure fails also = absurd fails
-first_once (test ∷ tests) one other sure (inl (file, fails)) (inl (same, too)) = (file ∙ sym same, sure.0 one.cause other.cause fails too)
-first_once (test ∷ tests) one other sure (inl fails) (inr (pass, too)) = absurd (none_fails (test ∷ []) one (pass, tt) (inl fails))
-first_once (test ∷ tests) one other sure (inr (pass, fails)) (inl too) = absurd (none_fails (test ∷ []) other (pass, tt) (inl too))
-first_once (test ∷ tests) one other sure (inr (pass, fails)) (inr (also, too)) = first_once tests one other sure.1 fails too
+first_once : (tests : List FileTest) (one other : Refusal) → AreDecided tests → AreSure tests → FirstFails tests one → FirstFails tests other → (one.file ≡ other.file) × (one.cause ≡ other.cause)
+first_once [] one other decided sure fails also = absurd fails
+first_once (test ∷ tests) one other decided sure (inl (file, fails)) (inl (same, too)) = (file ∙ sym same, sure.0 one.cause other.cause fails too)
+first_once (test ∷ tests) one other decided sure (inl fails) (inr (pass, too)) = absurd (none_fails (test ∷ []) one (decided.0, tt) (pass, tt) (inl fails))
+first_once (test ∷ tests) one other decided sure (inr (pass, fails)) (inl too) = absurd (none_fails (test ∷ []) other (decided.0, tt) (pass, tt) (inl too))
+first_once (test ∷ tests) one other decided sure (inr (pass, fails)) (inr (also, too)) = first_once tests one other decided.1 sure.1 fails too
 
 -- a list reads in one way, and so do sheets
 list_one : (seen : Option (List ℕ)) (a b : Series) → IsListRead seen a → IsListRead seen b → a ≡ b
@@ -143,10 +144,10 @@ tested_one : (folder : Option FilesByName) (words : SeriesWords) (seen : SeriesS
     → (AllPass (series_tests words seen) × IsAddedUp words seen other) ⊎ ((refusal : Refusal) × FirstFails (series_tests words seen) refusal × (other ≡ refused refusal.file refusal.cause))
     → one ≡ other
 tested_one folder words seen one other days (inl (passes, gives)) (inl (pass, also)) = given_one folder words seen one other days gives also
-tested_one folder words seen one other days (inl (passes, gives)) (inr (refusal, fails, same)) = absurd (none_fails (series_tests words seen) refusal passes fails)
-tested_one folder words seen one other days (inr (refusal, fails, same)) (inl (passes, gives)) = absurd (none_fails (series_tests words seen) refusal passes fails)
+tested_one folder words seen one other days (inl (passes, gives)) (inr (refusal, fails, same)) = absurd (none_fails (series_tests words seen) refusal (series_decided words seen) passes fails)
+tested_one folder words seen one other days (inr (refusal, fails, same)) (inl (passes, gives)) = absurd (none_fails (series_tests words seen) refusal (series_decided words seen) passes fails)
 tested_one folder words seen one other days (inr (refusal, fails, same)) (inr (then, too, so)) =
-    let first = first_once (series_tests words seen) refusal then (series_sure words seen) fails too in
+    let first = first_once (series_tests words seen) refusal then (series_decided words seen) (series_sure words seen) fails too in
     let line : refused refusal.file refusal.cause ≡ refused then.file then.cause = λ i. refused (first.0 i) (first.1 i) in
     same ∙ line ∙ sym so
 

@@ -10,7 +10,7 @@ use Rattle.gl_replay.specs.declared.replayed.Replayed.{Replayed}
 use Rattle.gl_schedule.specs.declared.schedule.Step.{Step}
 use Rattle.gl_replay.specs.Replayed.{IsReplay}
 use Rattle.gl_words.specs.Words.{ReplayWords}
-use Rattle.gl_files.specs.FileTests.{HasTested}
+use Rattle.gl_refusals.specs.FileTests.{HasTested}
 use Rattle.gl_files.specs.ReplayFiles.{AreReplayRead, IsReplaySeen, replay_tests}
 use Rattle.gl_answer.specs.declared.status.Status.TheVariants.{Done}
 use Rattle.gl_answer.specs.Answer.{saying}

@@ -10,13 +10,14 @@ use Rattle.gl_series.specs.declared.day.DaySheet.{DaySheet}
 use Rattle.gl_series.specs.declared.series.Series.{Series}
 use Rattle.gl_words.specs.Words.{SeriesWords}
 use Rattle.gl_text.proofs.Forms.{is_unbroken, is_unbroken-file}
-use Rattle.gl_files.specs.FileTests.{HasTested}
-use Rattle.gl_files.specs.SeriesFiles.{AreDaysSeen, AreSeriesRead, DaySeen, IsDaySeen, IsListRead, IsSeriesSeen, SeriesSeen, day_tests, series_tests}
-use Rattle.gl_files.proofs.FileTests.{AreNamed, refusal_named}
+use Rattle.gl_refusals.specs.FileTests.{HasTested}
+use Rattle.gl_files.specs.SeriesFiles.{AreDaysSeen, AreSeriesRead, DaySeen, IsDaySeen, IsListRead, IsSeriesSeen, SeriesSeen, days_tests, series_tests}
+use Rattle.gl_refusals.proofs.FileTests.{AreNamed, refusal_named}
 use Rattle.gl_answer.specs.declared.status.Status.TheVariants.{Done}
 use Rattle.gl_answer.specs.Answer.{Answer, saying}
 use Rattle.gl_flights.specs.Series.{IsAddedUp, IsSeries, IsStandingText, series_promise}
 use Rattle.gl_answer.specs.Texts.{IsLine}
+use Rattle.gl_files.proofs.SeriesTests.{series_decided}
 use Rattle.gl_answer.proofs.ByTests.{by_tests_passes, by_tests_result}
 use Rattle.gl_answer.proofs.LineTexts.{said_by}
 use Rattle.gl_answer.proofs.Promises.{IsLawful, done_no_refusal, reading_lawful}
@@ -39,7 +40,7 @@ read_unbroken : (seen : Option (List ℕ)) (series : Series) → IsListRead seen
 read_unbroken None series read = absurd read
 read_unbroken (Some text) series read = list_unbroken text series read.1
 
-days_named : (folder : Option FilesByName) (names : List (List ℕ)) (days : List DaySeen) → AreUnbrokenDays names → AllZip (IsDaySeen folder) names days → AreNamed (flat_map day_tests days)
+days_named : (folder : Option FilesByName) (names : List (List ℕ)) (days : List DaySeen) → AreUnbrokenDays names → AllZip (IsDaySeen folder) names days → AreNamed (days_tests days)
 days_named folder [] [] named are = tt
 days_named folder [] (day ∷ days) named are = absurd are
 days_named folder (name ∷ names) [] named are = absurd are
@@ -47,9 +48,9 @@ days_named folder (name ∷ names) (day ∷ days) named are =
     let one = ap is_unbroken are.0.0 ∙ named.0 in
     (one, (one, (one, days_named folder names days named.1 are.1)))
 
-all_days_named : (folder : Option FilesByName) (seen : SeriesSeen) → AreDaysSeen folder seen → AreNamed (flat_map day_tests seen.days)
+all_days_named : (folder : Option FilesByName) (seen : SeriesSeen) → AreDaysSeen folder seen → AreNamed (days_tests seen.days)
 all_days_named folder seen (inl (series, read, are)) = days_named folder series.days seen.days (read_unbroken seen.list series read) are
-all_days_named folder seen (inr (none, no_days)) = subst (λ (l : List DaySeen). AreNamed (flat_map day_tests l)) (sym no_days) tt
+all_days_named folder seen (inr (none, no_days)) = subst (λ (l : List DaySeen). AreNamed (days_tests l)) (sym no_days) tt
 
 series_named : (folder : Option FilesByName) (words : SeriesWords) (seen : SeriesSeen) → is_unbroken words.list ≡ true → IsSeriesSeen words folder seen → AreNamed (series_tests words seen)
 series_named folder words seen named is = (named, (named, (named, all_days_named folder seen is.1)))
@@ -66,7 +67,7 @@ pub series_lawful : (folder : Option FilesByName) (words : SeriesWords) → is_u
 series_lawful folder words named =
     reading_lawful (IsSeries folder words) (series_promise folder words).Passes
     (by_tests_result (IsSeriesSeen words folder) (series_tests words) (IsAddedUp words) (λ seen answer is. inl (added_done words seen answer is)))
-    (by_tests_passes folder (IsSeriesSeen words) (series_tests words) (IsAddedUp words) (λ seen answer is. done_no_refusal answer.status (inl (added_done words seen answer is))))
+    (by_tests_passes folder (IsSeriesSeen words) (series_tests words) (IsAddedUp words) (series_decided words) (λ seen answer is. done_no_refusal answer.status (inl (added_done words seen answer is))))
     (series_line folder words named)
 
 -- the text of the standing is the answer

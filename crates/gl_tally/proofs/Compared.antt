@@ -13,7 +13,7 @@ use Rattle.gl_day.specs.Checked.{AreProved, Ends, GoesOn, IsNotProved}
 use Rattle.gl_day.specs.Expected.{Expected, expected_of}
 use Rattle.gl_judge.specs.Claimed.{rules_of_claims}
 use Rattle.gl_day.proofs.Walked.{length-claims_for}
-use Rattle.gl_files.specs.declared.day_files.DayFiles.{DayFiles}
+use Rattle.gl_day_files.specs.declared.day_files.DayFiles.{DayFiles}
 use Rattle.gl_tally.specs.Asked.{AreAsked, AreAskedIn}
 use Rattle.gl_tally.specs.DayChecked.{IsDayChecked, IsSaidBehind}
 use Rattle.gl_tally.proofs.Flights.{asked-push}

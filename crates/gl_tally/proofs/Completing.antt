@@ -17,8 +17,8 @@ use Rattle.gl_day.specs.Flight.{StewardRules}
 use Rattle.gl_day.proofs.Entrants.{AreGoals, asked_flight, asked_goals, some_flight}
 use Rattle.gl_day.proofs.Flights.{completed}
 use Rattle.gl_day.proofs.Texts.{claim_texts-append, proof_text-parts}
-use Rattle.gl_files.specs.declared.day_files.DayFiles.{DayFiles}
-use Rattle.gl_files.proofs.DayTests.{seen_some}
+use Rattle.gl_day_files.specs.declared.day_files.DayFiles.{DayFiles}
+use Rattle.gl_refusals.proofs.Listing.{seen_some}
 use Rattle.gl_tally.specs.Asked.{AreAsked}
 use Rattle.gl_tally.specs.Scored.{IsBegun, IsScored, Scored, statements_of_all, text_so_far}
 use Rattle.gl_text.proofs.Lists.{AllZip-append}

@@ -20,7 +20,7 @@ use Rattle.gl_day.proofs.Checks.{none_wrong, not_proved_more, proof_accepted}
 use Rattle.gl_judge.proofs.OneList.{expected_alone}
 use Rattle.gl_igc.proofs.SameRecording.{recording_same}
 use Rattle.gl_day.specs.Asked.{AreAskedOf, AreAskedOfReading}
-use Rattle.gl_files.specs.declared.day_files.DayFiles.{DayFiles}
+use Rattle.gl_day_files.specs.declared.day_files.DayFiles.{DayFiles}
 use Rattle.gl_tally.specs.Asked.{AreAsked, AreAskedIn}
 use Rattle.gl_tally.specs.DayChecked.{IsDayChecked, IsSaidBehind}
 use Rattle.gl_text.proofs.Lists.{AllZip-length}

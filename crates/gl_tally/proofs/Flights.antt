@@ -32,8 +32,8 @@ use Rattle.gl_desk.specs.Limits.{most_bytes}
 use Rattle.gl_day.proofs.Written.{expected_statements}
 use Rattle.gl_day.proofs.Texts.{claim_texts-append, proof_text-parts}
 use Rattle.gl_day.specs.Asked.{AreAskedOf, AreAskedOfReading}
-use Rattle.gl_files.specs.declared.day_files.DayFiles.{DayFiles}
-use Rattle.gl_files.proofs.DayTests.{not_listed}
+use Rattle.gl_day_files.specs.declared.day_files.DayFiles.{DayFiles}
+use Rattle.gl_refusals.proofs.Listing.{not_listed}
 use Rattle.gl_answer.specs.Appending.{HasAppended, HasAppendedPart}
 use Rattle.gl_tally.specs.Asked.{AreAsked, AreAskedIn}
 use Rattle.gl_tally.specs.Code.Asked.{IsEntrantSeen, IsSeenAmong}

@@ -16,7 +16,7 @@ use Rattle.gl_day.specs.declared.flight.Seen.{Seen}
 use Rattle.gl_day.specs.declared.totals.Totals.{Totals}
 use Rattle.gl_day.specs.Expected.{Proves, expected_of}
 use Rattle.gl_day.specs.Flight.{StewardRules}
-use Rattle.gl_files.specs.declared.day_files.DayFiles.{DayFiles}
+use Rattle.gl_day_files.specs.declared.day_files.DayFiles.{DayFiles}
 use Rattle.gl_tally.specs.Code.Asked.{IsEntrantSeen, IsSeenAmong}
 use Rattle.gl_tally.specs.Code.Scoring.{AreClaimed, AreEntrantsScored}
 

@@ -5,7 +5,7 @@ use Rattle.gl_desk.specs.Desk.{FilesByName}
 use Rattle.gl_task.specs.declared.task.Entrant.{Entrant}
 use Rattle.gl_task.specs.declared.task.Task.{Task}
 use Rattle.gl_day.specs.Asked.{AreAskedOf}
-use Rattle.gl_files.specs.DayFiles.{Sees}
+use Rattle.gl_day_files.specs.DayFiles.{Sees}
 use Rattle.gl_day.specs.Expected.{Expected}
 
 -- those of an entrant, by the file in a folder

@@ -10,8 +10,8 @@ use Rattle.gl_task.specs.declared.task.Entrant.{Entrant}
 use Rattle.gl_day.specs.declared.flight.Flight.{Flight}
 use Rattle.gl_day.specs.Expected.{Expected, Proves}
 use Rattle.gl_day.specs.Flight.{IsFlight, StewardRules}
-use Rattle.gl_files.specs.declared.day_files.DayFiles.{DayFiles}
-use Rattle.gl_files.specs.DayFiles.{Sees}
+use Rattle.gl_day_files.specs.declared.day_files.DayFiles.{DayFiles}
+use Rattle.gl_day_files.specs.DayFiles.{Sees}
 use Rattle.gl_tally.specs.Asked.{AreAsked}
 
 -- what `score` makes of an entrant: the claims that it proved, and the flight

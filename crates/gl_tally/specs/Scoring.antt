@@ -7,7 +7,7 @@ use Rattle.gl_proof.specs.Text.{proof_text}
 use Rattle.gl_proof.specs.declared.version.Version.TheVariants.{Two}
 use Rattle.gl_day.specs.Day.{IsSheetOf}
 use Rattle.gl_day.specs.Flight.{StewardRules}
-use Rattle.gl_files.specs.declared.day_files.DayFiles.{DayFiles}
+use Rattle.gl_day_files.specs.declared.day_files.DayFiles.{DayFiles}
 use Rattle.gl_answer.specs.Appending.{HasAppended, HasAppendedPart}
 use Rattle.gl_tally.specs.Scored.{IsBegun, IsScored, Scored, flights_of_all, statements_of_all}
 

@@ -10,8 +10,8 @@ ghost use Rattle.gl_tally.specs.DayChecked.{IsDayChecked};
 
 use crate::seeing::see_entrant;
 use gl_day::{Checked, Seen, check_end, check_flight};
+use gl_day_files::DayFiles;
 use gl_desk::{Desk, DeskError, Name};
-use gl_files::DayFiles;
 use gl_goal::AnyGoal;
 use gl_igc::Recording;
 use gl_judge::claims;

@@ -21,8 +21,8 @@ use gl_box::Closed;
 use gl_day::{
     Flight, Search, Seen, Totals, claim_of, end_line, finish_flight, heading_line, sheet_of,
 };
+use gl_day_files::DayFiles;
 use gl_desk::{Desk, DeskError, Name};
-use gl_files::DayFiles;
 use gl_goal::AnyGoal;
 use gl_igc::Recording;
 use gl_judge::{JudgedFlight, judge_flight};

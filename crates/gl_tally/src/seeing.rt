@@ -8,8 +8,8 @@ ghost use Rattle.gl_tally.specs.Code.Asked.{IsEntrantSeen, IsSeenAmong};
 
 use gl_day::{Seen, absent_flight, large_flight, read_flight};
 use gl_desk::{Desk, DeskError, Name, ReadError};
-use gl_files::read_recording_file;
 use gl_igc::{IgcError, Recording};
+use gl_refusals::read_recording_file;
 use gl_task::{Entrant, Task};
 use std::alloc::Global;
 

@@ -2,7 +2,7 @@
 use Rattle.std.proofs.Common.{ℕ, ◌+◌, Bool, true, false, List, [], ◌∷◌, ◌++◌, Option, None, Some, cond}
 use Rattle.std.specs.Prelude.{nat_lt, length}
 use Rattle.toml.specs.Data.{Data, Members}
-use Rattle.gl_task_file.specs.declared.error.Key.{Key}
+use Rattle.gl_task.specs.declared.key.Key.{Key}
 use Rattle.gl_task_file.specs.declared.error.TaskError.TheVariants.{Toml, Missing, Value, Twice, TooMany, Memory}
 use Rattle.gl_task_file.specs.Keys.{Test, at_most, each_item, first_failed, needed_value, optional_value, right_value, some_item, table_of}
 use Rattle.gl_task_file.specs.Tests.{day_tests, lists_tests, pilot_tests, start_tests, zones_tests, finish_tests, rules_tests, entrants_tests, time_tests, head_tests, way_tests, course_tests, plan_tests, numbered_tests, people_tests, tests, word_tests, zone_tests, part_tests, sector_tests, gate_tests, entrant_tests, minimum_test}

@@ -3,7 +3,7 @@ use Rattle.std.proofs.Common.{◌≡◌, ◌∙◌, sym, ap, rules, arith, refl,
 use Rattle.std.specs.Prelude.{if◌then◌else◌}
 use Rattle.toml.specs.Data.{Data, Members}
 use Rattle.gl_task_file.specs.Keys.{Test, first_failed, at_most, needed, optional, right_value, some_item}
-use Rattle.gl_task_file.specs.declared.error.Key.{Key}
+use Rattle.gl_task.specs.declared.key.Key.{Key}
 use Rattle.gl_task_file.specs.declared.error.TaskError.{TaskError}
 
 -- behind a test that passes the others decide

@@ -1,7 +1,7 @@
 -- What a table of the task file has under a key, and whether that is what the key wants.
 use Rattle.std.specs.Prelude.{ℕ, ◌+◌, nat_lt, List, [], ◌∷◌, ◌++◌, length, Option, None, Some, option_and_then, unwrap_or, if◌then◌else◌}
 use Rattle.toml.specs.Data.{Data, Items, no_items, item, Members, no_members, get_member, as_array, as_table}
-use Rattle.gl_task_file.specs.declared.error.Key.{Key}
+use Rattle.gl_task.specs.declared.key.Key.{Key}
 use Rattle.gl_task_file.specs.declared.error.TaskError.{TaskError}
 use Rattle.gl_task_file.specs.declared.error.TaskError.TheVariants.{Missing, Value, TooMany}
 

@@ -1,26 +1,9 @@
 ghost use Rattle.std.specs.Prelude.{◌≡◌};
 ghost use Rattle.gl_task_file.specs.declared.error.TaskError.TheVariants.{Memory};
 
+use gl_task::Key;
 use std::alloc::{AllocError, AllocFailed};
-use std::fmt;
 use thiserror::Error;
-
-/// A key of the task file: its row in the table of keys (docs/task-file.md), the item of its list,
-/// and
-/// the part. Items and parts count from 1; where there is none the number is 0.
-#[derive(Clone, Copy, Debug, PartialEq, Eq)]
-pub struct Key {
-    pub row: u32,
-    pub item: u32,
-    pub part: u32,
-}
-
-/// A key is printed as its row, item and part, with points between them.
-impl fmt::Display for Key {
-    fn fmt<W: fmt::Write>(&self, f: &mut fmt::Formatter<W>) -> fmt::Result {
-        write!(f, "{}.{}.{}", self.row, self.item, self.part)
-    }
-}
 
 /// Why a text gave no task. The keys are tested in the order of their rows, and the first test that
 /// fails is the answer.

@@ -11,10 +11,11 @@ ghost use Rattle.gl_task_file.specs.Values.{day as date, file_name, kind, name a
 ghost use Rattle.gl_task_file.specs.Code.Sections.{kind_word};
 
 use crate::day::day;
-use crate::error::{Key, TaskError};
+use crate::error::TaskError;
 use crate::value;
 use crate::word::{KindWord, kind};
 use gl_sphere::Grid;
+use gl_task::Key;
 use toml::{Table, Value};
 
 /// The key of a row that is in no list.

@@ -24,5 +24,5 @@ mod value;
 mod word;
 mod zones;
 
-pub use error::{Key, TaskError};
+pub use error::TaskError;
 pub use reader::read_task;

@@ -5,10 +5,11 @@ ghost use Rattle.gl_task_file.specs.Keys.{first_failed, key_of};
 ghost use Rattle.gl_task_file.specs.Meaning.{IsPart, IsSector};
 ghost use Rattle.gl_task_file.specs.Tests.{part_tests, sector_tests};
 
-use crate::error::{Key, TaskError};
+use crate::error::TaskError;
 use crate::key::{item_table, needed_whole, optional_whole};
 use crate::limit::{GREATEST_LENGTH, GREATEST_RADIAL, METRE};
 use gl_sphere::{Grid, east, north, vector};
+use gl_task::Key;
 use gl_zone::{Cylinder, Part, Sector};
 use toml::{Table, Value};
 

@@ -6,17 +6,16 @@ use Rattle.std.specs.Str.Parse.{digits_value}
 use Rattle.std.specs.Option.{option_or}
 use Rattle.gl_sphere.specs.PlaceText.{place_of_text}
 use Rattle.gl_text.specs.Forms.{is_file_name, is_text}
-use Rattle.gl_words.specs.Words.{Badge, BadgeCheck, BadgeWords, Check, Command, DayNames, Demo, Free, Near, NearCheck, NearWords, Point, Replay, ReplayWords, Score, Series, SeriesWords, Triangle, badge_form, check_form, command_of, day_names, demo_form, file_form, is_worker_count, near_form, near_words, number_within, point_form, replay_form, replay_words, score_form, series_form, series_words}
+use Rattle.gl_words.specs.Words.{Badge, BadgeCheck, BadgeWords, Command, Demo, Free, Near, NearCheck, NearWords, Point, Replay, ReplayWords, Series, SeriesWords, Triangle, badge_form, command_of, demo_form, file_form, near_form, near_words, number_within, point_form, replay_form, replay_words, series_form, series_words}
+use Rattle.gl_day_words.specs.DayWords.{is_worker_count}
 use Rattle.gl_text.proofs.Forms.{is_unbroken, is_unbroken-file}
-use Rattle.gl_words.proofs.Unbroken.{HasUnbrokenBadge, AreUnbroken, HasUnbrokenNear, HasUnbrokenFiles}
+use Rattle.gl_words.proofs.Unbroken.{HasUnbrokenBadge, HasUnbrokenNear, HasUnbrokenFiles}
 
 -- the files of a command have such names
 abbrev pub HasUnbrokenNames : Option Command → Type 0
 HasUnbrokenNames None = Unit {0}
 HasUnbrokenNames (Some (Free file)) = is_unbroken file ≡ true
 HasUnbrokenNames (Some (Triangle file)) = is_unbroken file ≡ true
-HasUnbrokenNames (Some (Score names)) = AreUnbroken names
-HasUnbrokenNames (Some (Check names)) = AreUnbroken names
 HasUnbrokenNames (Some (Replay words)) = HasUnbrokenFiles words
 HasUnbrokenNames (Some (Near words)) = HasUnbrokenNear words
 HasUnbrokenNames (Some (NearCheck words)) = HasUnbrokenNear words
@@ -48,40 +47,6 @@ as_free (Some file) named = named
 as_triangle : (file : Option (List ℕ)) → HasUnbroken file → HasUnbrokenNames (option_map Triangle file)
 as_triangle None named = tt
 as_triangle (Some file) named = named
-
--- so have the two files of a day
-abbrev HaveUnbroken : Option DayNames → Type 0
-HaveUnbroken None = Unit {0}
-HaveUnbroken (Some names) = AreUnbroken names
-
-pair_names : (are : Bool) (task proof : List ℕ) → (are ≡ true → AreUnbroken (record { task = task; proof = proof })) → HaveUnbroken (if are then Some (record { task = task; proof = proof }) else None)
-pair_names true task proof named = named refl
-pair_names false task proof named = tt
-
-day_names_unbroken : (task proof : List ℕ) → HaveUnbroken (day_names task proof)
-day_names_unbroken task proof = pair_names (is_file_name task && is_file_name proof) task proof (λ are. record {
-  task = is_unbroken-file task (first_so (is_file_name task) (is_file_name proof) are);
-  proof = is_unbroken-file proof (second_so (is_file_name task) (is_file_name proof) are);
-})
-
-if_names : (is : Bool) (names : Option DayNames) → HaveUnbroken names → HaveUnbroken (if is then names else None)
-if_names true names named = named
-if_names false names named = tt
-
-score_names : (words : List (List ℕ)) → HaveUnbroken (score_form words)
-score_names [] = tt
-score_names (word ∷ []) = tt
-score_names (word ∷ task ∷ []) = tt
-score_names (word ∷ task ∷ proof ∷ []) = tt
-score_names (word ∷ task ∷ proof ∷ workers ∷ []) = if_names (is_text word (codes "score") && is_worker_count workers) (day_names task proof) (day_names_unbroken task proof)
-score_names (word ∷ task ∷ proof ∷ workers ∷ more ∷ words) = tt
-
-check_names : (words : List (List ℕ)) → HaveUnbroken (check_form words)
-check_names [] = tt
-check_names (word ∷ []) = tt
-check_names (word ∷ task ∷ []) = tt
-check_names (word ∷ task ∷ proof ∷ []) = if_names (is_text word (codes "check")) (day_names task proof) (day_names_unbroken task proof)
-check_names (word ∷ task ∷ proof ∷ more ∷ words) = tt
 
 -- so have the two files of `replay`
 abbrev HaveUnbrokenFiles : Option ReplayWords → Type 0
@@ -217,14 +182,6 @@ series_names (word ∷ list ∷ []) = tt
 series_names (word ∷ list ∷ days ∷ []) = if_series (is_text word (codes "series")) (series_words list (number_within 0 30 days)) (series_list list (number_within 0 30 days))
 series_names (word ∷ list ∷ days ∷ more ∷ words) = tt
 
-as_score : (names : Option DayNames) → HaveUnbroken names → HasUnbrokenNames (option_map Score names)
-as_score None named = tt
-as_score (Some names) named = named
-
-as_check : (names : Option DayNames) → HaveUnbroken names → HasUnbrokenNames (option_map Check names)
-as_check None named = tt
-as_check (Some names) named = named
-
 as_demo : (number : Option ℕ) → HasUnbrokenNames (option_map Demo number)
 as_demo None = tt
 as_demo (Some number) = tt
@@ -239,14 +196,11 @@ unfolding command_of
 command_names words =
     let free = file_form (codes "free") words in
     let triangle = file_form (codes "triangle") words in
-    let score = option_map Score (score_form words) in
-    let check = option_map Check (check_form words) in
     let replay = option_map Replay (replay_form words) in
     let demo = option_map Demo (demo_form words) in
     let near = option_map Near (near_form (codes "near") words) in
     let near_check = option_map NearCheck (near_form (codes "nearcheck") words) in
     let point = option_map Point (point_form words) in
-    let pair = option_or score (option_or check replay) in
     let nearest = option_or near (option_or near_check point) in
     let series = option_map Series (series_form words) in
     let numbered = option_or series demo in
@@ -255,11 +209,9 @@ command_names words =
     let badges = option_or badge badge_check in
     let flights = option_or nearest badges in
     let last = option_or flights numbered in
-    or_names (option_or (option_map Free free) (option_map Triangle triangle)) (option_or pair last)
+    or_names (option_or (option_map Free free) (option_map Triangle triangle)) (option_or replay last)
     (or_names (option_map Free free) (option_map Triangle triangle) (as_free free (file_names (codes "free") words)) (as_triangle triangle (file_names (codes "triangle") words)))
-    (or_names pair last
-    (or_names score (option_or check replay) (as_score (score_form words) (score_names words))
-    (or_names check replay (as_check (check_form words) (check_names words)) (as_replay (replay_form words) (replay_names words))))
+    (or_names replay last (as_replay (replay_form words) (replay_names words))
     (or_names flights numbered
     (or_names nearest badges
     (or_names near (option_or near_check point) (as_near (near_form (codes "near") words) (near_names (codes "near") words))

@@ -1,17 +1,12 @@
 -- The number that a word writes.
-use Rattle.std.proofs.Common.{◌≡◌, ◌∙◌, sym, ap, ℕ, ◌<◌, ◌≤◌, Bool, true, false, ◌&&◌, List, None, Some, ⊎_elim, arith}
+use Rattle.std.proofs.Common.{◌≡◌, ◌∙◌, sym, ap, ℕ, ◌<◌, ◌≤◌, Bool, true, false, ◌&&◌, List, None, Some, arith}
 use Rattle.std.specs.Prelude.{◌^◌, if◌then◌else◌}
 use Rattle.std.specs.Fmt.{decimal}
-use Rattle.std.specs.Str.Parse.{AllDigits, digits_value}
-use Rattle.std.specs.Cmp.Lexicographic.{other_text}
-use Rattle.std.proofs.lemmas.Bool.{cases_Bool, le-leb}
+use Rattle.std.specs.Str.Parse.{digits_value}
+use Rattle.std.proofs.lemmas.Bool.{le-leb}
 use Rattle.std.proofs.lemmas.Fmt.{digits_value-decimal}
-use Rattle.std.proofs.lemmas.Str.Parse.{IsNumeralModel, numerals_by_value, tells_digits}
-use Rattle.gl_text.specs.Forms.{is_text}
-use Rattle.gl_words.specs.Words.{is_worker_count, number_within}
-
-own : IsNumeralModel (AllDigits 10) (digits_value 10)
-own = numerals_by_value (AllDigits 10) tells_digits
+use Rattle.gl_day_words.proofs.WorkerCounts.{digits_numerals, text_is}
+use Rattle.gl_words.specs.Words.{number_within}
 
 all_three : (a b c : Bool) (n m : ℕ) → a ≡ true → b ≡ true → c ≡ true → n ≡ m → (if a && b && c then Some n else None) ≡ Some m
 all_three true true true n m one other third same = ap Some same
@@ -19,28 +14,9 @@ all_three true true false n m one other third same = absurd (cc)
 all_three true false c n m one other third same = absurd (cc)
 all_three false b c n m one other third same = absurd (cc)
 
-text_is : (word text : List ℕ) → word ≡ text → is_text word text ≡ true
-text_is word text same =
-    ⊎_elim
-    (λ (is : is_text word text ≡ true). is)
-    (λ (other : is_text word text ≡ false). absurd (other_text word text (sym other) same))
-    (cases_Bool (is_text word text))
-
--- and one that writes a number within them
+-- a word that writes a number within limits
 pub some_within : (least most : ℕ) (word : List ℕ) (n : ℕ) → n < 2 ^ 64 → word ≡ decimal n → least ≤ n → n ≤ most → number_within least most word ≡ Some n
 some_within least most word n small is low high =
     let number = digits_value 10 word in
-    let value : number ≡ n = ap (digits_value 10) is ∙ digits_value-decimal own n small in
+    let value : number ≡ n = ap (digits_value 10) is ∙ digits_value-decimal digits_numerals n small in
     all_three _ _ _ number n (text_is word (decimal number) (is ∙ ap decimal (sym value))) (le-leb least number (omega (arith, value, low))) (le-leb number most (omega (arith, value, high))) value
-
-both_so : (a b c : Bool) → a ≡ true → b ≡ true → c ≡ true → (a && b && c) ≡ true
-both_so true true c one other third = third
-both_so true false c one other third = absurd (cc)
-both_so false b c one other third = absurd (cc)
-
--- a word that writes a number of workers
-pub some_workers : (word : List ℕ) (n : ℕ) → n < 2 ^ 64 → word ≡ decimal n → 1 ≤ n → n ≤ 16 → (is_worker_count word ≡ true) × (n ≡ digits_value 10 word)
-some_workers word n small is least most =
-    let number = digits_value 10 word in
-    let value : number ≡ n = ap (digits_value 10) is ∙ digits_value-decimal own n small in
-    (both_so _ _ _ (text_is word (decimal number) (is ∙ ap decimal (sym value))) (le-leb 1 number (omega (arith, value))) (le-leb number 16 (omega (arith, value))), sym value)

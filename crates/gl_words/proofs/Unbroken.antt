@@ -1,14 +1,9 @@
 -- Names of files have no LF.
 use Rattle.std.proofs.Common.{◌≡◌, true}
-use Rattle.gl_words.specs.Words.{DayNames, ReplayWords, NearWords, BadgeWords}
+use Rattle.gl_words.specs.Words.{ReplayWords, NearWords, BadgeWords}
 use Rattle.gl_text.proofs.Forms.{is_unbroken}
 
--- the names of the files of a day have no LF
-pub record AreUnbroken (names : DayNames) : Type 0 where
-  pub task : is_unbroken names.task ≡ true
-  pub proof : is_unbroken names.proof ≡ true
-
--- nor have those of `replay`
+-- the names of the files of `replay` have no LF
 pub record HasUnbrokenFiles (words : ReplayWords) : Type 0 where
   pub flight : is_unbroken words.flight ≡ true
   pub schedule : is_unbroken words.schedule ≡ true

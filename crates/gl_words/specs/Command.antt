@@ -1,7 +1,6 @@
 use Rattle.gl_words.specs.declared.command.Command.{Command}
 use Rattle.gl_words.specs.declared.command.Command.TheVariants as code
 use Rattle.gl_words.specs.BadgeWords.{badge_seen}
-use Rattle.gl_words.specs.DayNames.{names_seen}
 use Rattle.gl_words.specs.NearWords.{near_seen, point_seen}
 use Rattle.gl_words.specs.ReplayWords.{replay_seen}
 use Rattle.gl_words.specs.SeriesWords.{series_seen}
@@ -11,8 +10,6 @@ use Rattle.gl_words.specs.Words as words
 abbrev pub seen : Command → words.Command
 seen (code.Free file) = words.Free file.now
 seen (code.Triangle file) = words.Triangle file.now
-seen (code.Score names) = words.Score (names_seen names)
-seen (code.Check names) = words.Check (names_seen names)
 seen (code.Replay given) = words.Replay (replay_seen given)
 seen (code.Near given) = words.Near (near_seen given)
 seen (code.NearCheck given) = words.NearCheck (near_seen given)

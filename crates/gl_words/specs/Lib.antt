@@ -1,6 +1,5 @@
 pub mod BadgeWords
 pub mod Command
-pub mod DayNames
 pub mod NearWords
 pub mod ReplayWords
 pub mod SeriesWords

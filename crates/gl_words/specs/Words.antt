@@ -1,15 +1,11 @@
--- The words of a command.
-use Rattle.std.specs.Prelude.{ℕ, Bool, ◌&&◌, nat_le, if◌then◌else◌, List, [], ◌∷◌, slice_index_or, Option, None, Some, codes, is_some, option_map}
+-- The words of the commands that aren't those of a day.
+use Rattle.std.specs.Prelude.{ℕ, ◌&&◌, nat_le, if◌then◌else◌, List, [], ◌∷◌, Option, None, Some, codes, is_some, option_map}
 use Rattle.std.specs.Fmt.{decimal}
 use Rattle.std.specs.Option.{option_or}
 use Rattle.std.specs.Str.Parse.{digits_value}
 use Rattle.gl_sphere.specs.PlaceText.{place_of_text}
+use Rattle.gl_day_words.specs.DayWords.{is_worker_count}
 use Rattle.gl_text.specs.Forms.{is_text, is_file_name}
-
--- the names of the two files of a day
-pub record DayNames : Type 0 where
-  pub task : List ℕ
-  pub proof : List ℕ
 
 -- the names of a recording and of a schedule, and how many workers follow it
 pub record ReplayWords : Type 0 where
@@ -39,12 +35,10 @@ pub record SeriesWords : Type 0 where
   pub list : List ℕ
   pub left_out : ℕ
 
--- a command and what it is given
+-- a command that isn't one of a day, and what it is given
 pub data Command : Type 0 where
   Free : List ℕ → Command
   Triangle : List ℕ → Command
-  Score : DayNames → Command
-  Check : DayNames → Command
   Replay : ReplayWords → Command
   Near : NearWords → Command
   NearCheck : NearWords → Command
@@ -61,38 +55,6 @@ file_form first (word ∷ []) = None
 file_form first (word ∷ file ∷ []) =
     if is_text word first && is_file_name file then Some file else None
 file_form first (word ∷ file ∷ more ∷ words) = None
-
--- the names of a day, where both are those of files
-abbrev pub day_names : List ℕ → List ℕ → Option DayNames
-day_names task proof =
-    if is_file_name task && is_file_name proof
-    then Some (record { task = task; proof = proof }) else None
-
--- a word that writes a number from 1 to 16, without a sign and a leading zero
-abbrev pub is_worker_count : List ℕ → Bool
-is_worker_count word =
-    let number = digits_value 10 word in
-    is_text word (decimal number) && nat_le 1 number && nat_le number 16
-
--- `score TASK PROOF WORKERS`, where the number of workers is 1 to 16
-abbrev pub score_form : List (List ℕ) → Option DayNames
-score_form [] = None
-score_form (word ∷ []) = None
-score_form (word ∷ task ∷ []) = None
-score_form (word ∷ task ∷ proof ∷ []) = None
-score_form (word ∷ task ∷ proof ∷ workers ∷ []) =
-    if is_text word (codes "score") && is_worker_count workers
-    then day_names task proof else None
-score_form (word ∷ task ∷ proof ∷ workers ∷ more ∷ words) = None
-
--- `check TASK PROOF`
-abbrev pub check_form : List (List ℕ) → Option DayNames
-check_form [] = None
-check_form (word ∷ []) = None
-check_form (word ∷ task ∷ []) = None
-check_form (word ∷ task ∷ proof ∷ []) =
-    if is_text word (codes "check") then day_names task proof else None
-check_form (word ∷ task ∷ proof ∷ more ∷ words) = None
 
 -- what `replay` is given, where both names are those of files
 abbrev pub replay_words : List ℕ → List ℕ → ℕ → Option ReplayWords
@@ -191,12 +153,6 @@ file_command words =
     option_or (option_map Free (file_form (codes "free") words))
     (option_map Triangle (file_form (codes "triangle") words))
 
--- the command that is given the names of two files, if the words are a form of one
-abbrev pub pair_command : List (List ℕ) → Option Command
-pair_command words =
-    option_or (option_map Score (score_form words))
-    (option_or (option_map Check (check_form words)) (option_map Replay (replay_form words)))
-
 -- the command that is about how near flights came, if the words are a form of one
 abbrev pub near_command : List (List ℕ) → Option Command
 near_command words =
@@ -219,19 +175,10 @@ abbrev pub numbered_command : List (List ℕ) → Option Command
 numbered_command words =
     option_or (option_map Series (series_form words)) (option_map Demo (demo_form words))
 
--- The command that the words are a form of, if they are one. A further form is tried where none
--- before it reads.
+-- The command, not one of a day, that the words are a form of, if they are one. A further form is
+-- tried where none before it reads.
 unfoldable pub command_of : List (List ℕ) → Option Command
 command_of words =
     option_or (file_command words)
-    (option_or (pair_command words)
+    (option_or (option_map Replay (replay_form words))
     (option_or (flights_command words) (numbered_command words)))
-
--- how many workers the words of `score` name
-abbrev pub named_workers : Option DayNames → List (List ℕ) → ℕ
-named_workers None words = 1
-named_workers (Some names) words = digits_value 10 (slice_index_or words 3 [])
-
--- how many workers the words let work side by side: 1, unless they are of `score`
-abbrev pub workers_of : List (List ℕ) → ℕ
-workers_of words = named_workers (score_form words) words

@@ -1,10 +1,9 @@
 ghost use Rattle.std.specs.Prelude.{◌≡◌, codes, option_map};
 ghost use Rattle.gl_text.specs.Forms.{is_file_name, is_in_file_name};
-ghost use Rattle.gl_words.specs.Words.{Badge, BadgeCheck, Check, Demo, Free, Near, NearCheck, Point, Replay, Score, Series, Triangle, badge_command, badge_form, check_form, command_of, demo_form, file_command, file_form, flights_command, near_command, near_form, numbered_command, pair_command, point_form, replay_form, score_form, series_form};
+ghost use Rattle.gl_words.specs.Words.{Badge, BadgeCheck, Demo, Free, Near, NearCheck, Point, Replay, Series, Triangle, badge_command, badge_form, command_of, demo_form, file_command, file_form, flights_command, near_command, near_form, numbered_command, point_form, replay_form, series_form};
 ghost use Rattle.gl_words.specs.Command.{seen};
 
 use crate::badge_words::{BadgeWords, read_badge_words};
-use crate::day_names::{DayNames, read_check, read_score};
 use crate::day_number::{DayNumber, read_demo};
 use crate::near_words::{NearWords, PointWords, read_near_words, read_point};
 use crate::replay_words::{ReplayWords, read_replay};
@@ -12,17 +11,13 @@ use crate::series_words::{SeriesWords, read_series};
 use gl_desk::Name;
 use gl_text::is_file_name;
 
-/// A command and what it is given.
+/// A command that isn't one of a day, and what it is given.
 #[derive(Clone, Copy)]
 pub enum Command<'a> {
     /// `free FILE`: the best free distance of a recording.
     Free(&'a Name),
     /// `triangle FILE`: the best triangle of a recording.
     Triangle(&'a Name),
-    /// `score TASK PROOF WORKERS`: the sheet of a day, and its proof.
-    Score(DayNames<'a>),
-    /// `check TASK PROOF`: whether a proof is that of a day.
-    Check(DayNames<'a>),
     /// `replay FILE SCHEDULE WORKERS`: the best free distance of a recording by a schedule.
     Replay(ReplayWords<'a>),
     /// `near FILE OTHER SECONDS PROOF`: how near two flights came, and its proof.
@@ -75,37 +70,12 @@ fn read_course(words: &[Name]) -> Option<Command<'_>>
     read_free_command(words).or_else(|| read_triangle_command(words))
 }
 
-/// `score TASK PROOF WORKERS`.
-fn read_score_command(words: &[Name]) -> Option<Command<'_>>
-    ensures { option_map seen result ≡ option_map Score (score_form words.now) }
-{
-    let day = read_score(words)?;
-    Some(Command::Score(day))
-}
-
-/// `check TASK PROOF`.
-fn read_check_command(words: &[Name]) -> Option<Command<'_>>
-    ensures { option_map seen result ≡ option_map Check (check_form words.now) }
-{
-    let day = read_check(words)?;
-    Some(Command::Check(day))
-}
-
 /// `replay FILE SCHEDULE WORKERS`.
 fn read_replay_command(words: &[Name]) -> Option<Command<'_>>
     ensures { option_map seen result ≡ option_map Replay (replay_form words.now) }
 {
     let replay = read_replay(words)?;
     Some(Command::Replay(replay))
-}
-
-/// A command that is given the names of two files.
-fn read_pair(words: &[Name]) -> Option<Command<'_>>
-    ensures { option_map seen result ≡ pair_command words.now }
-{
-    read_score_command(words)
-        .or_else(|| read_check_command(words))
-        .or_else(|| read_replay_command(words))
 }
 
 /// `near FILE OTHER SECONDS PROOF`.
@@ -196,14 +166,14 @@ fn read_numbered(words: &[Name]) -> Option<Command<'_>>
     read_championship(words).or_else(|| read_generated(words))
 }
 
-/// The command that the words are a form of; `None` where they are of no form. The form of a
-/// further command is tried where none before it reads.
+/// The command, not one of a day, that the words are a form of; `None` where they are of no form.
+/// The form of a further command is tried where none before it reads.
 #[tactic(auto, unfolding(crate::specs::Words::command_of))]
 pub fn read_words(words: &[Name]) -> Option<Command<'_>>
     ensures { option_map seen result ≡ command_of words.now }
 {
     read_course(words)
-        .or_else(|| read_pair(words))
+        .or_else(|| read_replay_command(words))
         .or_else(|| read_flights(words))
         .or_else(|| read_numbered(words))
 }

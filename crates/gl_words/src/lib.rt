@@ -1,11 +1,10 @@
-//! The words of a command, and how they are read: which command they are a form of, and what it is
-//! given.
+//! The words of the commands that aren't those of a day, and how they are read: which command they
+//! are a form of, and what it is given.
 #![tactic(auto)]
 
 mod apart;
 mod badge_words;
 mod command;
-mod day_names;
 mod day_number;
 mod near_words;
 mod place_word;
@@ -15,7 +14,6 @@ mod series_words;
 pub use apart::Apart;
 pub use badge_words::BadgeWords;
 pub use command::{Command, read_words};
-pub use day_names::{DayNames, Workers, read_workers_of, worker_count};
 pub use day_number::DayNumber;
 pub use near_words::{NearWords, PointWords};
 pub use place_word::PlaceWord;

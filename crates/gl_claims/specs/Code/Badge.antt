@@ -7,7 +7,7 @@ use Rattle.gl_proof.specs.declared.proof.Proof.{Proof}
 use Rattle.gl_badge.specs.Proved.{IsBadgeChecked}
 use Rattle.gl_answer.specs.declared.answer.Answer as code
 use Rattle.gl_answer.specs.Answer.{answer_of}
-use Rattle.gl_claims.specs.Check.{checked_answer}
+use Rattle.gl_day_claims.specs.Check.{checked_answer}
 
 -- the answer says what is to be said of the claims of a proof by a recording
 abbrev pub AreClaimsAnswered : Recording → Proof → code.Answer → Type 0

@@ -2,7 +2,7 @@
 use Rattle.std.specs.Prelude.{List, ◌∷◌, Option}
 use Rattle.gl_desk.specs.Desk.{FilesByName, IsSeenIn}
 use Rattle.gl_words.specs.Words.{NearWords}
-use Rattle.gl_files.specs.FileTests.{FileTest, Listed}
+use Rattle.gl_refusals.specs.FileTests.{FileTest, Listed}
 use Rattle.gl_files.specs.NearFiles.{NearSeen, recording_tests}
 
 -- both are listed; then the recordings

@@ -11,7 +11,7 @@ use Rattle.gl_day.specs.Expected.{Expected, Proves}
 use Rattle.gl_day.specs.Flight.{IsFlight, StewardRules}
 use Rattle.gl_day.specs.Totals.{AreTotals}
 use Rattle.gl_day.specs.Asked.{AreAskedOf}
-use Rattle.gl_files.specs.declared.day_files.DayFiles.{DayFiles}
+use Rattle.gl_day_files.specs.declared.day_files.DayFiles.{DayFiles}
 use Rattle.gl_answer.specs.Appending.{HasAppended, HasAppendedPart}
 use Rattle.gl_tally.specs.Scored.{ArePartlyProved, IsScored, Scored, flights_of_all, statements_of_all, text_so_far}
 

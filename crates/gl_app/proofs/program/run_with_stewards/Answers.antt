@@ -1,23 +1,13 @@
-use Rattle.std.proofs.Common.{◌≡◌, ◌∙◌, sym, ap, refl, subst, ℕ, List, [], ◌∷◌, ◌++◌, map}
+use Rattle.std.proofs.Common.{◌≡◌, ◌∙◌, subst, refl, ℕ, List}
 use Rattle.gl_desk.specs.Desk.{Told}
 use Rattle.gl_day.specs.Flight.{StewardRules, steward_rules}
 use Rattle.gl_steward.specs.Ceiling.{ceiling_fed, ceiling_opening, ceiling_owed}
 use Rattle.gl_steward.specs.EngineNoise.{noise_fed, noise_opening, noise_owed}
-use Rattle.gl_app.specs.Run.{IsRun}
 use Rattle.gl_answer.specs.declared.status.Status.{Status}
+use Rattle.gl_day_app.proofs.Stewards.{at_place, two_rules}
+use Rattle.gl_app.specs.Run.{IsRun}
 use Rattle.gl_app.proofs.program.run_with_stewards.OwnLists.{own-1}
 use Rattle.gl_app.proofs.program.run_with_stewards.Goals as goal
-
--- what is so of any value at a place is so of a value at a place that is the same
-at_place : {X : Type 0} {F : X → Type 0} {B : Type 0} (rules : (v : X) → F v → B) (v w : X) (value : F v) (known : B) → v ≡ w → ((other : F w) → rules w other ≡ known) → rules v value ≡ known
-at_place {F = F} rules v w value known same all = subst (λ x. (other : F x) → rules x other ≡ known) (sym same) all value
-
--- the rules of a list to which two were added
-two_rules : {A : Type 0} (rules : A → StewardRules) (none one two : List A) (first second : A) → none ≡ [] → one ≡ none ++ first ∷ [] → two ≡ one ++ second ∷ []
-    → (known other : StewardRules) → rules first ≡ known → rules second ≡ other → map rules two ≡ known ∷ other ∷ []
-two_rules rules none one two first second is_none is_one is_two known other is_known is_other =
-    ap (map rules) (is_two ∙ ap (λ list. list ++ second ∷ []) (is_one ∙ ap (λ list. list ++ first ∷ []) is_none))
-    ∙ ap (λ head. head ∷ rules second ∷ []) is_known ∙ ap (λ last. known ∷ last ∷ []) is_other
 
 -- a run with stewards of just these rules
 with_rules : (words : List (List ℕ)) (stewards left known : List StewardRules) (status : Status) (before after : Told) → stewards ≡ known
@@ -27,12 +17,12 @@ with_rules words stewards left known status before after same run =
     (subst (λ rules. IsRun words rules left status before after) same run)
 
 pub returns-clause-ran : goal.returns-clause-ran
-returns-clause-ran c c' =
-    with_rules _ _ _ _ _ _ _
-    (two_rules _ _ _ _ _ _ c'.new-stewards.ensures.items c'.in_ok-push.ensures.items c'.in_ok-push-2.ensures.items
+returns-clause-ran g c =
+    with_rules c.args.words.now _ _ _ _ _ _
+    (two_rules _ _ _ _ _ _ c.new-stewards.ensures.items c.in_ok-push.ensures.items c.in_ok-push-2.ensures.items
     (steward_rules ceiling_opening ceiling_fed ceiling_owed) (steward_rules noise_opening noise_fed noise_owed)
-    (at_place (λ v value. steward_rules ((own-1.entry v).1.opening value) ((own-1.entry v).1.fed value) ((own-1.entry v).1.owed value)) _ _ c'.into_dyn_box.result.value _ c'.into_dyn_box.ensures.0
+    (at_place (λ v value. steward_rules ((own-1.entry v).1.opening value) ((own-1.entry v).1.fed value) ((own-1.entry v).1.owed value)) _ _ c.into_dyn_box.result.value _ c.into_dyn_box.ensures.0
     (λ other. refl))
-    (at_place (λ v value. steward_rules ((own-1.entry v).1.opening value) ((own-1.entry v).1.fed value) ((own-1.entry v).1.owed value)) _ _ c'.into_dyn_box-in_ok-new-2.result.value _
-    c'.into_dyn_box-in_ok-new-2.ensures.0 (λ other. refl)))
-    c'.run.ensures
+    (at_place (λ v value. steward_rules ((own-1.entry v).1.opening value) ((own-1.entry v).1.fed value) ((own-1.entry v).1.owed value)) _ _ c.into_dyn_box-in_ok-new-2.result.value _
+    c.into_dyn_box-in_ok-new-2.ensures.0 (λ other. refl)))
+    c.run.ensures

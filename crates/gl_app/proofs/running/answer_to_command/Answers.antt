@@ -1,5 +1,4 @@
 use Rattle.gl_words.specs.BadgeWords.{badge_seen}
-use Rattle.gl_words.specs.DayNames.{names_seen}
 use Rattle.gl_words.specs.NearWords.{near_seen, point_seen}
 use Rattle.gl_words.specs.ReplayWords.{replay_seen}
 use Rattle.gl_words.specs.SeriesWords.{series_seen}
@@ -10,7 +9,6 @@ use Rattle.gl_flights.specs.Series.{series_promise}
 use Rattle.gl_flights.specs.Triangle.{triangle_promise}
 use Rattle.gl_claims.proofs.Badges.{badge_checked}
 use Rattle.gl_answer.proofs.Answered.{reads_right, unread_right}
-use Rattle.gl_claims.proofs.Commanded.{check_right}
 use Rattle.gl_flights.proofs.Nears.{near_checked, pointed}
 use Rattle.gl_app.proofs.running.answer_to_command.Goals as goal
 
@@ -26,16 +24,6 @@ returns-in-Triangle-clause-right g c =
     let promise = triangle_promise before.folder c.in-Triangle.file.now in
     rw c.in-Triangle.is (reads_right promise.IsRight promise.Passes before
     (g.D.Desk.told c.answer_of_file-in-Triangle.new.desk) c.answer_of_file-in-Triangle.result c.answer_of_file-in-Triangle.ensures.right c.answer_of_file-in-Triangle.ensures.reads)
-
-pub returns-in-Score-clause-right : goal.returns-in-Score-clause-right
-returns-in-Score-clause-right g c = rw c.in-Score.is c.score.ensures.right
-
-pub returns-in-Score-clause-stopped : goal.returns-in-Score-clause-stopped
-returns-in-Score-clause-stopped g c = rw c.in-Score.is c.score.ensures.stopped
-
-pub returns-in-Check-clause-right : goal.returns-in-Check-clause-right
-returns-in-Check-clause-right g c =
-    rw c.in-Check.is (check_right (names_seen c.in-Check.day) (g.D.Desk.told c.args.desk.now) (g.D.Desk.told c.check.new.desk) c.check.result c.check.ensures.right c.check.ensures.reads)
 
 pub returns-in-Replay-clause-right : goal.returns-in-Replay-clause-right
 returns-in-Replay-clause-right g c =

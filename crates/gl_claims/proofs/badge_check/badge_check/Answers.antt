@@ -3,21 +3,21 @@ use Rattle.std.proofs.lemmas.Result.{IfOk-weaker}
 use Rattle.gl_desk.specs.Answers.{OnlyReads, stop_of}
 use Rattle.gl_desk.specs.Desk.{FilesByName, Told}
 use Rattle.gl_desk.specs.declared.error.DeskError.{DeskError}
-use Rattle.gl_files.specs.declared.halt.Halt.{Halt}
-use Rattle.gl_files.specs.declared.halt.Halt.TheVariants.{Refused, Stopped}
-use Rattle.gl_files.specs.Halts.{halt_stop}
-use Rattle.gl_files.proofs.ReadsTwice.{reads_twice}
+use Rattle.gl_refusals.specs.declared.halt.Halt.{Halt}
+use Rattle.gl_refusals.specs.declared.halt.Halt.TheVariants.{Refused, Stopped}
+use Rattle.gl_refusals.specs.Halts.{halt_stop}
+use Rattle.gl_refusals.proofs.ReadsTwice.{reads_twice}
 use Rattle.gl_answer.specs.declared.answer.Answer as code
 use Rattle.gl_answer.specs.Answer.{AnswersHalt, answer_of}
 use Rattle.gl_igc.specs.declared.recording.Recording.{Recording}
 use Rattle.gl_proof.specs.declared.proof.Proof.{Proof}
 use Rattle.gl_words.specs.BadgeWords.{badge_seen}
 use Rattle.gl_files.specs.BadgeFiles.{AreBadgeCheckRead, IsBadgeSeen, badge_check_tests}
-use Rattle.gl_files.specs.FileTests.{HasTested}
+use Rattle.gl_refusals.specs.FileTests.{HasTested}
 use Rattle.gl_answer.proofs.Answered.{halt_answered, only_read}
 use Rattle.gl_claims.specs.Badge.{IsBadgeCheck, IsBadgeJudged}
 use Rattle.gl_claims.proofs.Badges.{badge_check_right}
-use Rattle.gl_claims.proofs.Commanded.{reads_on}
+use Rattle.gl_day_claims.proofs.Commanded.{reads_on}
 use Rattle.gl_claims.proofs.badge_check.badge_check.Goals as goal
 
 -- where a file is refused, or a call stopped, the desk was only read

@@ -1,14 +1,14 @@
 use Rattle.std.proofs.Common.{◌≡◌, ◌∙◌, sym, ap, subst, ℕ, List, Err, Some, length}
 use Rattle.gl_day.specs.declared.fault.Checked.{Checked}
 use Rattle.gl_day.specs.declared.fault.Checked.TheVariants as checked
-use Rattle.gl_words.specs.DayNames.{names_seen}
-use Rattle.gl_files.specs.declared.halt.Halt.{Halt}
-use Rattle.gl_files.specs.DayFiles.{IsScoreSeen, check_tests}
-use Rattle.gl_files.specs.FileTests.{HasTested}
-use Rattle.gl_claims.specs.Check.{IsProofChecked}
+use Rattle.gl_day_words.specs.DayNames.{names_seen}
+use Rattle.gl_refusals.specs.declared.halt.Halt.{Halt}
+use Rattle.gl_day_files.specs.DayFiles.{IsScoreSeen, check_tests}
+use Rattle.gl_refusals.specs.FileTests.{HasTested}
+use Rattle.gl_day_claims.specs.Check.{IsProofChecked}
 use Rattle.gl_claims.specs.Demo.{IsCountOf}
 use Rattle.gl_claims.specs.Code.Shelf.{folder_on}
-use Rattle.gl_claims.proofs.Accepting.{FoundAccepted, scored_found, scored_passes}
+use Rattle.gl_day_claims.proofs.Accepting.{FoundAccepted, scored_found, scored_passes}
 use Rattle.gl_claims.proofs.demo.accepted_claims.Goals as goal
 use Rattle.gl_claims.proofs.demo.accepted_claims.Goals.{in-Ok-Accepted, in-Err-Stopped}
 

@@ -1,5 +1,5 @@
 use Rattle.std.proofs.Common.{[], refl, subst}
-use Rattle.gl_words.specs.DayNames.{names_seen}
+use Rattle.gl_day_words.specs.DayNames.{names_seen}
 use Rattle.gl_answer.specs.declared.status.Status.TheVariants.{Done}
 use Rattle.gl_answer.specs.Answer.{answer_with}
 use Rattle.gl_claims.specs.Demo.{IsCountOf}

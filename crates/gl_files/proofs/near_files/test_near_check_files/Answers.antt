@@ -1,8 +1,8 @@
 use Rattle.std.proofs.Common.{◌∷◌, ◌++◌}
 use Rattle.std.proofs.lemmas.Result.{err_from_is_err_and}
 use Rattle.gl_words.specs.NearWords.{near_seen}
-use Rattle.gl_files.specs.FileTests.{Listed, NearProofText, most_proof_bytes, text_tests}
-use Rattle.gl_files.specs.NearFiles.{AreNearCheckRead, recording_tests}
+use Rattle.gl_refusals.specs.FileTests.{Listed, most_proof_bytes, text_tests}
+use Rattle.gl_files.specs.NearFiles.{AreNearCheckRead, NearProofText, recording_tests}
 use Rattle.gl_files.proofs.NearTests.{flight_missing, proof_missing}
 use Rattle.gl_files.proofs.near_files.test_near_check_files.Goals as goal
 use Rattle.gl_desk.proofs.DeskLemmas.{HasFile-from_names}

@@ -2,7 +2,7 @@ use Rattle.std.proofs.lemmas.Result.{err_from_is_err_and}
 use Rattle.std.proofs.Common.{◌∷◌}
 use Rattle.gl_words.specs.NearWords.{near_seen}
 use Rattle.gl_files.specs.NearFiles.{AreNearRead, recording_tests}
-use Rattle.gl_files.specs.FileTests.{Unlisted}
+use Rattle.gl_refusals.specs.FileTests.{Unlisted}
 use Rattle.gl_files.proofs.NearTests.{flight_missing, near_tested, proof_listed}
 use Rattle.gl_files.proofs.near_files.test_near_files.Goals as goal
 use Rattle.gl_desk.proofs.DeskLemmas.{HasFile-from_names}

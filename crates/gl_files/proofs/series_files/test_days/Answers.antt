@@ -2,9 +2,9 @@ use Rattle.std.proofs.Common.{Err, Ok, Option, subst}
 use Rattle.std.proofs.lemmas.Result.{err_from_is_err_and}
 use Rattle.gl_desk.specs.Desk.{FilesByName}
 use Rattle.gl_series.specs.declared.day.DaySheet.{DaySheet}
-use Rattle.gl_files.specs.FileTests.{HasTested}
+use Rattle.gl_refusals.specs.FileTests.{HasTested}
 use Rattle.gl_files.specs.SeriesFiles.{IsDaySeen, IsSheetRead, day_tests}
-use Rattle.gl_files.proofs.ReadsTwice.{reads_twice}
+use Rattle.gl_refusals.proofs.ReadsTwice.{reads_twice}
 use Rattle.gl_files.proofs.SeriesTests.{day_refused, days_more, days_passed}
 use Rattle.gl_files.proofs.series_files.test_days.Goals as goal
 

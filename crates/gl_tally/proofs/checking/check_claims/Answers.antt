@@ -10,7 +10,7 @@ use Rattle.gl_day.specs.declared.fault.NotProved.{NotProved}
 use Rattle.gl_day.specs.Checked.{GoesOn}
 use Rattle.gl_day.specs.Expected.{expected_of}
 use Rattle.gl_judge.specs.Claimed.{rules_of_claims}
-use Rattle.gl_files.proofs.ReadsTwice.{reads_twice}
+use Rattle.gl_refusals.proofs.ReadsTwice.{reads_twice}
 use Rattle.gl_tally.specs.Asked.{AreAskedIn}
 use Rattle.gl_tally.proofs.Compared.{AreChecked, AreChecked-more, checked_end, checked_wrong}
 use Rattle.gl_tally.proofs.checking.check_claims.Goals as goal

@@ -2,7 +2,7 @@ use Rattle.std.proofs.Common.{◌≡◌, ◌∙◌, true, Err, None, Some, ap, r
 use Rattle.std.proofs.lemmas.Int.{to_z-of_z}
 use Rattle.std.proofs.lemmas.Result.{IfOk-weaker}
 use Rattle.gl_igc.specs.Recording.{IsReadAs}
-use Rattle.gl_files.proofs.DayTests.{is_named}
+use Rattle.gl_refusals.proofs.Listing.{is_named}
 use Rattle.gl_tally.proofs.Flights.{entrant_seen}
 use Rattle.gl_tally.proofs.Runs.{reads_memory}
 use Rattle.gl_tally.proofs.seeing.see_entrant.Goals as goal

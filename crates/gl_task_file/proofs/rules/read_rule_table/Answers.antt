@@ -1,5 +1,5 @@
 use Rattle.std.proofs.Common.{◌≡◌, refl, subst, codes, None, Some}
-use Rattle.gl_task_file.specs.declared.error.Key.{Key}
+use Rattle.gl_task.specs.declared.key.Key.{Key}
 use Rattle.toml.specs.View.{table_view}
 use Rattle.gl_task_file.specs.Keys.{optional}
 use Rattle.gl_task_file.specs.Values.{whole}

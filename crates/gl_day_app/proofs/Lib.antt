@@ -1,0 +1,2 @@
+pub mod DayRights
+pub mod Stewards

@@ -1,0 +1,2 @@
+pub mod DayRun
+pub mod Endings

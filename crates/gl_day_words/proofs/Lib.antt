@@ -1,0 +1,3 @@
+pub mod CommandNames
+pub mod Unbroken
+pub mod WorkerCounts

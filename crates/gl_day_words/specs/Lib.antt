@@ -1,0 +1,3 @@
+pub mod DayCommand
+pub mod DayNames
+pub mod DayWords

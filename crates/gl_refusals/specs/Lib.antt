@@ -1,0 +1,5 @@
+pub mod Code
+pub mod FileTests
+pub mod Halts
+pub mod Pouring
+pub mod Refusals
