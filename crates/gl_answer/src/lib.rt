@@ -1,5 +1,5 @@
 //! What a command answers and promises: its status, the texts that it says, the pieces that it
-//! appends, and what is right, begun and passed of it.
+//! appends, and what is right, begun and passed of it. How an answer is said, and what a run owes.
 #![tactic(auto)]
 
 mod answer;

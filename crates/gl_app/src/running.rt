@@ -91,7 +91,7 @@ fn answer_to_words<D: Desk, S: Search>(
     }
 }
 
-/// Carries out what isn't a command of a day, whose claims are searched in this way.
+/// Carries out what isn't a command of a day; `search` searches the claims of `demo`.
 fn carry_out<D: Desk, S: Search>(
     alloc: Global,
     words: &[Name],

@@ -101,7 +101,7 @@ fn announce<S: Search>(
 
 /// The answer of `demo NUMBER`: the sheet of the generated day of that number, and how many claims
 /// its proof has, which the checker reads again, however large it is. Nothing outside is read, and
-/// nothing appended. The claims are searched in this way.
+/// nothing appended. `search` searches the claims.
 pub fn demo<S: Search>(
     alloc: Global,
     search: &S,

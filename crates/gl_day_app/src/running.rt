@@ -74,7 +74,7 @@ fn answer_to_words<D: Desk, S: Search>(
     }
 }
 
-/// Carries out a command, whose claims are searched in this way.
+/// Carries out a command, whose claims `search` searches.
 fn carry_out<D: Desk, S: Search>(
     alloc: Global,
     words: &[Name],
@@ -93,7 +93,8 @@ fn carry_out<D: Desk, S: Search>(
 }
 
 /// Carries out a command of a day on one thread, and always returns. A `score` by several workers
-/// isn't one for this call.
+/// isn't one for this call. Words that are neither `score` nor `check` in their form give the usage
+/// line, those of the other commands too.
 ///
 /// The words are those after the program's own name. One piece is said at the end, or nothing where
 /// a call of the desk failed or memory was wanting before; nothing is said after that. `score`
@@ -114,9 +115,9 @@ pub fn run_day_single<D: Desk>(
     carry_out(alloc, words, desk, &Alone, stewards)
 }
 
-/// Carries out a command of a day, `score` by as many workers as its words name and all else by
-/// one. It may wait for the workers, each of whom passes the gate before its first step. What it
-/// owes is what `run_day_single` owes, whatever the threads do.
+/// Carries out a command of a day, `score` by as many workers as its words name and `check` by one.
+/// Words of no such form give the usage line. It may wait for the workers, each of whom passes the
+/// gate before its first step. What it owes is what `run_day_single` owes, whatever the threads do.
 pub fn run_day<Rt: Threads + Wait + Sync, D: Desk, K: Gate + Sync>(
     rt: &Rt,
     alloc: Global,

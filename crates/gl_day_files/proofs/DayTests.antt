@@ -18,7 +18,7 @@ use Rattle.gl_refusals.specs.declared.halt.Halt.TheVariants.{Refused, Stopped}
 use Rattle.gl_refusals.specs.declared.refusal.Refusal.{Refusal}
 use Rattle.gl_day_files.specs.DayFiles.{AirspaceText, IsAirspaceRead, IsAirspaceSeen, IsCheckRead, IsDayRead, IsScoreRead, IsScoreSeen, IsTaskSeen, TaskText, airspace_file, airspace_tests, check_tests, named_airspace, score_tests, task_tests}
 use Rattle.gl_refusals.specs.FileTests.{HasTested, IsProofOfText, ProofText, Reads, text_tests}
-use Rattle.gl_refusals.specs.Code.FileTests.{HasReadFile, IsNeeded, IsUnused}
+use Rattle.gl_refusals.specs.ReadFiles.{HasReadFile, IsNeeded, IsUnused}
 use Rattle.gl_refusals.proofs.FileTests.{all_pass, fails_behind, fails_in_front, small_fails, small_passes, some_text_fails, some_text_passes}
 use Rattle.gl_refusals.proofs.Listing.{is_listed, not_listed, seen_some}
 use Rattle.gl_desk.proofs.DeskLemmas.{HasFile-from_names}

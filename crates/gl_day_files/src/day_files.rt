@@ -7,9 +7,8 @@ ghost use Rattle.gl_task_file.specs.Reading.{IsReadFrom};
 ghost use Rattle.gl_day_words.specs.DayNames.{names_seen};
 ghost use Rattle.gl_day_files.specs.DayFiles.{AirspaceText, IsAirspaceRead, IsAirspaceSeen, IsCheckRead, IsDayRead, IsScoreRead, IsScoreSeen, IsTaskSeen, TaskText, airspace_cause, airspace_tests, check_tests, score_tests, task_cause, task_tests};
 ghost use Rattle.gl_refusals.specs.FileTests.{HasTested};
-ghost use Rattle.gl_refusals.specs.Code.FileTests.{HasRead, HasReadFile};
-ghost use Rattle.gl_refusals.specs.Code.Halts.{IsNoFault};
-ghost use Rattle.gl_refusals.specs.Halts.{halt_stop};
+ghost use Rattle.gl_refusals.specs.ReadFiles.{HasRead, HasReadFile};
+ghost use Rattle.gl_refusals.specs.Halts.{IsNoFault, halt_stop};
 
 use gl_airspace::{AirError, Airspace, empty, read_openair};
 use gl_day_words::DayNames;

@@ -1,5 +1,6 @@
 //! The words of the commands of a day, `score` and `check`, and how they are read: which of the two
-//! they are a form of, the names of the day's files, and the number of workers.
+//! they are a form of, the names of the day's files, and the number of workers, which `replay` has
+//! too.
 #![tactic(auto)]
 
 mod day_command;

@@ -10,7 +10,7 @@ use Rattle.gl_refusals.specs.declared.halt.Halt.{Halt}
 use Rattle.gl_refusals.specs.declared.halt.Halt.TheVariants.{Refused, Stopped}
 use Rattle.gl_refusals.specs.declared.refusal.Refusal.{Refusal}
 use Rattle.gl_files.specs.BadgeFiles.{AreBadgeCheckRead, BadgeSeen, IsBadgeRead, IsBadgeSeen, badge_check_tests, badge_tests}
-use Rattle.gl_refusals.specs.Code.FileTests.{HasReadFile, IsNeeded, IsUnused}
+use Rattle.gl_refusals.specs.ReadFiles.{HasReadFile, IsNeeded, IsUnused}
 use Rattle.gl_refusals.specs.FileTests.{HasTested, IsProofOfText, IsRecordingOf, ProofText, RecordingText, most_proof_bytes, text_tests}
 use Rattle.gl_refusals.proofs.Listing.{is_listed, not_listed, seen_some}
 use Rattle.gl_refusals.proofs.FileTests.{AreDecided, all_pass, fails_behind, fails_in_front, proof_decided, recording_decided, some_text_fails, some_text_passes}

@@ -6,7 +6,7 @@ use Rattle.gl_desk.specs.Limits.{most_bytes}
 use Rattle.gl_refusals.specs.declared.halt.Halt.{Halt}
 use Rattle.gl_refusals.specs.declared.halt.Halt.TheVariants.{Refused, Stopped}
 use Rattle.gl_refusals.specs.declared.refusal.Refusal.{Refusal}
-use Rattle.gl_refusals.specs.Code.FileTests.{HasReadFile, IsNeeded}
+use Rattle.gl_refusals.specs.ReadFiles.{HasReadFile, IsNeeded}
 use Rattle.gl_refusals.specs.FileTests.{HasTested, IsRecordingOf, RecordingText}
 use Rattle.gl_files.specs.FlightFile.{IsFlightRead, flight_tests}
 use Rattle.gl_refusals.proofs.Listing.{not_listed}

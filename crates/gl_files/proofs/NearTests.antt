@@ -12,7 +12,7 @@ use Rattle.gl_refusals.specs.declared.halt.Halt.TheVariants.{Refused, Stopped}
 use Rattle.gl_refusals.specs.declared.refusal.Cause.{Cause}
 use Rattle.gl_refusals.specs.declared.refusal.Refusal.{Refusal}
 use Rattle.gl_refusals.specs.FileTests.{AllPass, FileTest, FirstFails, HasTested, IsRecordingOf, Listed, Passes, RecordingText, Unlisted, most_proof_bytes, text_tests}
-use Rattle.gl_refusals.specs.Code.FileTests.{AreNeeded, HasReadFile, IsNeeded, IsUnused}
+use Rattle.gl_refusals.specs.ReadFiles.{AreNeeded, HasReadFile, IsNeeded, IsUnused}
 use Rattle.gl_files.specs.Code.NearFiles.{AreFlightsSeen, flights_tests}
 use Rattle.gl_files.specs.NearFiles.{AreNearCheckRead, AreNearRead, IsClaimOf, IsNearSeen, NearProofText, NearSeen, day_of, day_read, near_check_tests, near_proof_cause, near_tests, recording_tests}
 use Rattle.gl_refusals.proofs.Listing.{is_listed, not_listed, seen_some}

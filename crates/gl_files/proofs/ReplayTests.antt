@@ -11,7 +11,7 @@ use Rattle.gl_refusals.specs.declared.halt.Halt.{Halt}
 use Rattle.gl_refusals.specs.declared.halt.Halt.TheVariants.{Refused, Stopped}
 use Rattle.gl_refusals.specs.declared.refusal.Cause.{Cause}
 use Rattle.gl_refusals.specs.declared.refusal.Refusal.{Refusal}
-use Rattle.gl_refusals.specs.Code.FileTests.{AreNeeded, HasReadFile, IsNeeded}
+use Rattle.gl_refusals.specs.ReadFiles.{AreNeeded, HasReadFile, IsNeeded}
 use Rattle.gl_refusals.specs.FileTests.{HasTested, IsRecordingOf, RecordingText, text_tests}
 use Rattle.gl_files.specs.ReplayFiles.{AreReplayRead, AreStepsOf, IsReplaySeen, ReplaySeen, ScheduleText, replay_tests, schedule_cause}
 use Rattle.gl_refusals.proofs.Listing.{is_listed, not_listed, seen_some}

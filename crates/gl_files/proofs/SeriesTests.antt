@@ -21,7 +21,7 @@ use Rattle.gl_refusals.specs.declared.halt.Halt.TheVariants.{Refused, Stopped}
 use Rattle.gl_refusals.specs.declared.refusal.Cause.{Cause}
 use Rattle.gl_refusals.specs.declared.refusal.Refusal.{Refusal}
 use Rattle.gl_refusals.specs.FileTests.{AllPass, FileTest, FirstFails, HasTested, text_tests}
-use Rattle.gl_refusals.specs.Code.FileTests.{HasReadFile, IsNeeded}
+use Rattle.gl_refusals.specs.ReadFiles.{HasReadFile, IsNeeded}
 use Rattle.gl_files.specs.SeriesFiles.{AreSeriesRead, DaySeen, IsDaySeen, IsListRead, IsSeriesSeen, IsSheetRead, SeriesListText, SeriesSeen, SheetText, day_tests, days_tests, list_cause, series_tests, sheet_cause, tests_of}
 use Rattle.gl_refusals.proofs.Listing.{not_listed, seen_some}
 use Rattle.gl_refusals.proofs.FileTests.{AreDecided, IsDecided, all_decided, all_pass, fails_behind, fails_in_front, some_text_fails, some_text_passes}

@@ -3,10 +3,9 @@ ghost use Rattle.gl_desk.specs.Desk.{HasFile, ListsNames};
 ghost use Rattle.std.specs.Prelude.{◌≡◌, Some};
 ghost use Rattle.gl_desk.specs.Limits.{most_bytes};
 ghost use Rattle.gl_words.specs.NearWords.{near_seen};
-ghost use Rattle.gl_refusals.specs.Code.FileTests.{HasRead, HasReadFile};
+ghost use Rattle.gl_refusals.specs.ReadFiles.{HasRead, HasReadFile};
 ghost use Rattle.gl_refusals.specs.FileTests.{HasTested, IsRecordingOf, RecordingText, most_proof_bytes};
-ghost use Rattle.gl_refusals.specs.Code.Halts.{IsNoFault};
-ghost use Rattle.gl_refusals.specs.Halts.{halt_stop};
+ghost use Rattle.gl_refusals.specs.Halts.{IsNoFault, halt_stop};
 ghost use Rattle.gl_files.specs.Code.NearFiles.{AreFlightsSeen, flights_tests};
 ghost use Rattle.gl_files.specs.NearFiles.{AreNearCheckRead, AreNearRead, IsClaimOf, IsNearSeen, NearProofText, near_check_tests, near_proof_cause, near_tests};
 

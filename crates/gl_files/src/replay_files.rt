@@ -3,10 +3,9 @@ ghost use Rattle.gl_desk.specs.Answers.{OnlyReads};
 ghost use Rattle.gl_desk.specs.Desk.{HasFile, ListsNames};
 ghost use Rattle.gl_desk.specs.Limits.{most_bytes};
 ghost use Rattle.gl_words.specs.ReplayWords.{replay_seen};
-ghost use Rattle.gl_refusals.specs.Code.FileTests.{HasRead, HasReadFile};
+ghost use Rattle.gl_refusals.specs.ReadFiles.{HasRead, HasReadFile};
 ghost use Rattle.gl_refusals.specs.FileTests.{HasTested};
-ghost use Rattle.gl_refusals.specs.Code.Halts.{IsNoFault};
-ghost use Rattle.gl_refusals.specs.Halts.{halt_stop};
+ghost use Rattle.gl_refusals.specs.Halts.{IsNoFault, halt_stop};
 ghost use Rattle.gl_files.specs.ReplayFiles.{AreReplayRead, AreStepsOf, IsReplaySeen, ScheduleText, replay_tests, schedule_cause};
 
 use gl_desk::{Desk, MOST_BYTES, Name};

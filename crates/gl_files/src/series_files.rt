@@ -7,10 +7,9 @@ ghost use Rattle.gl_series.specs.SeriesList.{IsList, IsSeries};
 ghost use Rattle.gl_series.specs.SheetText.{IsSheetOf};
 ghost use Rattle.gl_series.specs.Totals.{AreDays};
 ghost use Rattle.gl_words.specs.SeriesWords.{series_seen};
-ghost use Rattle.gl_refusals.specs.Code.FileTests.{HasRead, HasReadFile};
+ghost use Rattle.gl_refusals.specs.ReadFiles.{HasRead, HasReadFile};
 ghost use Rattle.gl_refusals.specs.FileTests.{HasTested};
-ghost use Rattle.gl_refusals.specs.Code.Halts.{IsNoFault};
-ghost use Rattle.gl_refusals.specs.Halts.{halt_stop};
+ghost use Rattle.gl_refusals.specs.Halts.{IsNoFault, halt_stop};
 ghost use Rattle.gl_files.specs.SeriesFiles.{AreSeriesRead, IsDaySeen, IsListRead, IsSeriesSeen, IsSheetRead, SeriesListText, SheetText, day_tests, days_tests, list_cause, series_tests, sheet_cause, tests_of};
 
 use gl_desk::{Desk, MOST_BYTES, Name};

@@ -1,4 +1,4 @@
--- What workers left, put into order and searched part by part.
+-- What becomes of cells as they were left, put into order and searched part by part.
 use Rattle.std.proofs.Common.{◌≡◌, ◌∙◌, sym, ap, refl, subst, inl, inr, ℕ, zero, suc, ◌+◌, ◌<◌, ◌≤◌, List, [], ◌∷◌, ◌++◌, length, get_or, map, take, arith}
 use Rattle.std.specs.Prelude.{All, Contains, Option}
 use Rattle.std.specs.List.{AllZip, flat_map}

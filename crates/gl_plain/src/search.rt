@@ -143,7 +143,9 @@ fn go_over<G: Goal>(
 }
 
 /// Searches what is open of cells as they were left, and keeps what is closed. A legal tuple may be
-/// known, and a better one is looked for first. The only error is want of memory.
+/// known, and a better one is looked for first. The boxes come in the order of the parts, each
+/// closed for the best total in the end, which is no less than what was known. The only error is
+/// want of memory.
 pub fn finish<G: Goal>(
     alloc: Global,
     goal: &G,

@@ -12,8 +12,8 @@ use Rattle.gl_refusals.specs.declared.halt.Halt.TheVariants.{Refused, Stopped}
 use Rattle.gl_refusals.specs.declared.refusal.Cause.{Cause}
 use Rattle.gl_refusals.specs.declared.refusal.Refusal.{Refusal}
 use Rattle.gl_refusals.specs.FileTests.{AllPass, Fails, FileTest, FirstFails, IsNoText, Kind, Listed, Passes, ProofText, Reads, RecordingText, Small, Unlisted, file_of, proof_cause, text_tests}
-use Rattle.gl_refusals.specs.Code.FileTests.{AreNeeded, HasRead, HasReadFile, IsNeeded}
-use Rattle.gl_refusals.specs.Code.Halts.{AreBytes, RefusesFor}
+use Rattle.gl_refusals.specs.ReadFiles.{AreNeeded, HasRead, HasReadFile, IsNeeded}
+use Rattle.gl_refusals.specs.Halts.{AreBytes, RefusesFor}
 
 -- no text is of the kind and isn't
 abbrev pub IsDecided : Kind → Type 0

@@ -12,7 +12,7 @@ use Rattle.gl_proof.specs.Refusal.{IsRefused}
 use Rattle.gl_proof.specs.Text.{IsTextOf, statements_of}
 use Rattle.gl_refusals.specs.declared.halt.Halt.{Halt}
 use Rattle.gl_refusals.specs.declared.halt.Halt.TheVariants.{Refused, Stopped}
-use Rattle.gl_refusals.specs.Code.Halts.{AreBytes, IsUnread}
+use Rattle.gl_refusals.specs.Halts.{AreBytes, IsUnread}
 use Rattle.gl_refusals.specs.Code.Pouring.{IsProofRead, day_tag}
 
 -- a day is known by its tag

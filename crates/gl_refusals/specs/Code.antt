@@ -1,6 +1,4 @@
--- Definitions of the code alone: what it makes of a file and of its tests, and views of its types.
--- No promise of a command cites them.
-pub mod FileTests
-pub mod Halts
+-- Definitions of the code alone: views of its types, and what it reads in pieces. No promise to a
+-- caller cites them.
 pub mod Lines
 pub mod Pouring

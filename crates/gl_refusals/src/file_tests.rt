@@ -2,10 +2,9 @@ ghost use Rattle.std.specs.Prelude.{◌≡◌};
 ghost use Rattle.gl_desk.specs.Answers.{OnlyReads};
 ghost use Rattle.gl_desk.specs.Desk.{HasFile};
 ghost use Rattle.gl_desk.specs.Limits.{most_bytes};
-ghost use Rattle.gl_refusals.specs.Code.FileTests.{AreNeeded, HasReadFile, IsNeeded, IsUnused};
+ghost use Rattle.gl_refusals.specs.ReadFiles.{AreNeeded, HasReadFile, IsNeeded, IsUnused};
 ghost use Rattle.gl_refusals.specs.FileTests.{IsProofOfText, IsRecordingOf, ProofText, RecordingText, proof_cause, recording_cause};
-ghost use Rattle.gl_refusals.specs.Code.Halts.{AreBytes, IsNoFault};
-ghost use Rattle.gl_refusals.specs.Halts.{halt_stop};
+ghost use Rattle.gl_refusals.specs.Halts.{AreBytes, IsNoFault, halt_stop};
 
 use crate::halt::{Halt, refusing, refusing_for, unread};
 use crate::pouring::{read_proof_pieces, read_recording_file};

@@ -1,6 +1,6 @@
 ghost use Rattle.std.specs.Prelude.{◌≡◌};
 ghost use Rattle.gl_desk.specs.declared.error.DeskError.TheVariants.{Memory};
-ghost use Rattle.gl_refusals.specs.Code.Halts.{IsUnread, Refuses, RefusesFor};
+ghost use Rattle.gl_refusals.specs.Halts.{IsUnread, Refuses, RefusesFor};
 
 use crate::refusal::{Cause, Refusal};
 use gl_desk::{DeskError, Name, ReadError};

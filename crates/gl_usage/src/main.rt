@@ -1,5 +1,5 @@
-//! The program of the commands of a day by words that are none, as a test: the gate runs it and
-//! wants the usage line and its status.
+//! The program of the commands of a day by words that are no command, as a test: the gate runs it
+//! and wants the usage line and its status.
 #![tactic(auto)]
 
 use gl_day_app::run_day_program;

@@ -6,7 +6,7 @@ use Rattle.gl_proof.specs.Refusal.{IsRefused}
 use Rattle.gl_proof.specs.declared.proof.Proof.{Proof}
 use Rattle.gl_refusals.specs.declared.halt.Halt.{Halt}
 use Rattle.gl_refusals.specs.FileTests.{IsProofOfText}
-use Rattle.gl_refusals.specs.Code.Halts.{AreBytes}
+use Rattle.gl_refusals.specs.Halts.{AreBytes}
 
 -- the day of a task, if there is one, as a list
 abbrev pub day_tag : Option ℤ → List ℤ

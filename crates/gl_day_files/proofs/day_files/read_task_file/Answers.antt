@@ -1,7 +1,7 @@
 use Rattle.std.proofs.Common.{List, subst, ℕ}
 use Rattle.gl_desk.specs.Limits.{most_bytes}
 use Rattle.gl_task_file.specs.Reading.{IsReadFrom}
-use Rattle.gl_refusals.specs.Code.FileTests.{HasRead}
+use Rattle.gl_refusals.specs.ReadFiles.{HasRead}
 use Rattle.gl_day_files.specs.DayFiles.{TaskText}
 use Rattle.gl_refusals.proofs.FileTests.{bytes_read}
 use Rattle.gl_day_files.proofs.day_files.read_task_file.Goals as goal

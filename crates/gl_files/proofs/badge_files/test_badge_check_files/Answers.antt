@@ -3,7 +3,7 @@ use Rattle.std.proofs.lemmas.Result.{err_from_is_err_and}
 use Rattle.gl_desk.specs.Desk.{FilesByName}
 use Rattle.gl_proof.specs.declared.proof.Proof.{Proof}
 use Rattle.gl_words.specs.BadgeWords.{badge_seen}
-use Rattle.gl_refusals.specs.Code.FileTests.{HasReadFile}
+use Rattle.gl_refusals.specs.ReadFiles.{HasReadFile}
 use Rattle.gl_refusals.specs.FileTests.{IsProofOfText, ProofText, most_proof_bytes}
 use Rattle.gl_files.proofs.BadgeTests.{both_read, check_flight_missing, flight_refused, proof_missing, text_refused}
 use Rattle.gl_files.proofs.badge_files.test_badge_check_files.Goals as goal

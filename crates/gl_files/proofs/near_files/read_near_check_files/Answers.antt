@@ -3,7 +3,7 @@ use Rattle.std.proofs.lemmas.Result.{err_from_is_err_and}
 use Rattle.gl_desk.specs.Desk.{FilesByName}
 use Rattle.gl_near.specs.declared.claim.NearClaim.{NearClaim}
 use Rattle.gl_words.specs.NearWords.{near_seen}
-use Rattle.gl_refusals.specs.Code.FileTests.{HasReadFile}
+use Rattle.gl_refusals.specs.ReadFiles.{HasReadFile}
 use Rattle.gl_refusals.specs.FileTests.{most_proof_bytes}
 use Rattle.gl_files.specs.NearFiles.{IsClaimOf, NearProofText}
 use Rattle.gl_files.proofs.NearTests.{near_all_read, near_check_refused, near_claim_refused}

@@ -1,7 +1,7 @@
 use Rattle.std.proofs.Common.{ℤ, Some, rules, subst, w32}
 use Rattle.std.proofs.lemmas.Int.{to_z-of_z}
 use Rattle.gl_desk.specs.Limits.{most_bytes}
-use Rattle.gl_refusals.specs.Code.FileTests.{HasReadFile}
+use Rattle.gl_refusals.specs.ReadFiles.{HasReadFile}
 use Rattle.gl_refusals.specs.FileTests.{IsRecordingOf, RecordingText}
 use Rattle.gl_files.proofs.near_files.read_other.Goals as goal
 

@@ -4,7 +4,7 @@ use Rattle.gl_desk.specs.Desk.{FilesByName}
 use Rattle.gl_igc.specs.declared.recording.Recording.{Recording}
 use Rattle.gl_desk.specs.Limits.{most_bytes}
 use Rattle.gl_words.specs.NearWords.{near_seen}
-use Rattle.gl_refusals.specs.Code.FileTests.{HasReadFile}
+use Rattle.gl_refusals.specs.ReadFiles.{HasReadFile}
 use Rattle.gl_refusals.specs.FileTests.{IsRecordingOf, RecordingText}
 use Rattle.gl_files.proofs.NearTests.{both_flights, first_refused, other_refused}
 use Rattle.gl_files.proofs.near_files.read_recordings.Goals as goal

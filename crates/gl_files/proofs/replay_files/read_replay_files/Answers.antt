@@ -5,7 +5,7 @@ use Rattle.gl_desk.specs.Desk.{FilesByName}
 use Rattle.gl_desk.specs.Limits.{most_bytes}
 use Rattle.gl_schedule.specs.declared.schedule.Step.{Step}
 use Rattle.gl_words.specs.ReplayWords.{replay_seen}
-use Rattle.gl_refusals.specs.Code.FileTests.{HasReadFile}
+use Rattle.gl_refusals.specs.ReadFiles.{HasReadFile}
 use Rattle.gl_files.specs.ReplayFiles.{AreStepsOf, ScheduleText}
 use Rattle.gl_files.proofs.ReplayTests.{both_read, flight_refused, steps_refused}
 use Rattle.gl_files.proofs.replay_files.read_replay_files.Goals as goal
