@@ -7,6 +7,3 @@ mod steps;
 mod word;
 
 pub use word::{BestWord, Seat};
-
-#[cfg(test)]
-mod tests;

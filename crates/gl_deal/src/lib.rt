@@ -8,8 +8,6 @@ mod hand;
 mod pass;
 mod place;
 mod rule;
-#[cfg(test)]
-mod tests;
 mod view;
 
 pub use dealing::deal;

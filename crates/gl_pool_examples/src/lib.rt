@@ -1,7 +1,11 @@
-//! A gate at which two workers meet, and searches by several workers, of which the tests see that
-//! they work side by side.
+//! A gate at which two workers meet. The tests raise a best word and take and steal cells in several
+//! threads, and see that the workers of a search are at work side by side.
 #![tactic(auto)]
 
+#[cfg(test)]
+mod best_word;
+#[cfg(test)]
+mod deques;
 #[cfg(test)]
 mod flight;
 mod meeting;

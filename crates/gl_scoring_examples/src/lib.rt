@@ -1,4 +1,4 @@
-//! Worked examples of judged flights, points, penalties, sheets and claims of a day.
+//! Worked examples of judged flights, points, penalties, sheets, claims of a day and championships.
 //! They are tests alone.
 #![tactic(auto)]
 
@@ -8,6 +8,8 @@ mod claims;
 mod judged;
 #[cfg(test)]
 mod points;
+#[cfg(test)]
+mod series;
 #[cfg(test)]
 mod sheets;
 #[cfg(test)]

@@ -30,6 +30,3 @@ pub use series::{Member, Series};
 pub use sheet::read_day;
 pub use standing::{Standing, TeamTotal, Total};
 pub use text::series_text;
-
-#[cfg(test)]
-mod tests;

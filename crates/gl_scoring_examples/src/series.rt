@@ -1,4 +1,4 @@
-use super::*;
+use gl_series::{SheetError, read_day, read_list, series_text, totals};
 use std::alloc::Global;
 use std::str::from_utf8;
 use std::test::Fail;

@@ -1,7 +1,7 @@
 ghost use Rattle.std.specs.Prelude.{◌≡◌, ◌<◌, ◌≤◌, ◌+◌, All, IfOk, length};
 ghost use Rattle.gl_best.specs.Seats.{IsSeatOf, view_of};
 
-use crate::{BestWord, Seat};
+use gl_best::{BestWord, Seat};
 use std::alloc::{AllocError, Global};
 use std::test::Fail;
 use std::thread::{self, Threads};

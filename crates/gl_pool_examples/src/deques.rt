@@ -1,8 +1,8 @@
 ghost use Rattle.std.specs.Prelude.{◌≡◌, IfOk, IfSome};
 ghost use Rattle.gl_deal.specs.Tokens.{hand_deque, pass_deque};
 
-use super::*;
 use gl_box::{Cell, Tuple};
+use gl_deal::{Hand, Pass, Steal, deal};
 use std::alloc::{AllocError, Global};
 use std::sync::atomic::{AtomicBool, Ordering};
 use std::test::Fail;

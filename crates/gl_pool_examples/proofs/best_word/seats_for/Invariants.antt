@@ -1,6 +1,6 @@
 use Rattle.std.proofs.Common.{◌≤◌, ◌+◌, All, length}
 use Rattle.gl_best.specs.Seats.{IsSeatOf, view_of}
-use Rattle.gl_best.proofs.tests.seats_for.Given as goal
+use Rattle.gl_pool_examples.proofs.best_word.seats_for.Given as goal
 
 abbrev pub invariant-loop : goal.invariant-loop
 invariant-loop l =
