@@ -1,6 +1,6 @@
 ghost use Rattle.std.specs.Prelude.{◌≤ℤ◌, neg_ℤ, pos};
 
-use gl_airspace::{AirError, Airspace, cut, empty, inside, read_openair};
+use gl_airspace::{AirError, cut, empty, inside, read_openair};
 use gl_igc::Fix;
 use gl_sphere::{Grid, vector};
 use std::alloc::{AllocError, Global};
@@ -13,12 +13,11 @@ const SQUARE: &str =
     DP 1:30:00 N 0:30:00 E\nDP 1:30:00 N 0:30:00 W\n";
 
 /// A place in 1/100,000 minute.
-fn grid(rt: &impl Abort, lat: i32, lon: i32) -> Grid {
-    assert!(rt; lat >= -540_000_000);
-    assert!(rt; lat <= 540_000_000);
-    assert!(rt; lon >= -1_080_000_000);
-    assert!(rt; lon <= 1_080_000_000);
-    Grid { lat, lon }
+fn grid(lat: i32, lon: i32) -> Grid {
+    Grid {
+        lat: lat.clamp(-540_000_000, 540_000_000),
+        lon: lon.clamp(-1_080_000_000, 1_080_000_000),
+    }
 }
 
 /// A fix over a place, at an altitude in metres.
@@ -39,7 +38,7 @@ fn fix_over(grid: Grid, alt: i32) -> Fix
 fn fix(rt: &impl Abort, lat: i32, lon: i32, alt: i32) -> Fix {
     assert!(rt; alt >= -9_999);
     assert!(rt; alt <= 32_767);
-    fix_over(grid(rt, lat, lon), alt)
+    fix_over(grid(lat, lon), alt)
 }
 
 /// How many volumes a text has, or why it is refused, in words.
@@ -260,19 +259,27 @@ fn odd_polygons(rt: HostRuntime) -> Result<(), Fail> {
     )
 }
 
-/// The number of the first of two volumes, and the cut before the first fix inside.
+/// A volume over the same place that ends below 1,000 m.
+const LOW: &str = "AC R\nAL SFC\nAH 999m\nDP 0:30 N 0:30 W\nDP 0:30 N 0:30 E\nDP 1:30 N 0:0 E\n";
+
+/// The number of fixes before the first one inside.
 #[test]
 fn the_cut_of_a_flight(rt: HostRuntime) -> Result<(), Fail> {
     let origin = fix(&rt, 0, 0, 1_000);
     let north = fix(&rt, 6_000_000, 0, 1_000);
     let flight = [origin, north, origin, north, origin];
-    let air: Airspace = read_openair(rt.alloc(), SQUARE.as_bytes())?;
-    assert_eq!(rt; cut(&air, &flight), 1);
-    let low = "AC R\nAL SFC\nAH 999m\nDP 0:30 N 0:30 W\nDP 0:30 N 0:30 E\nDP 1:30 N 0:0 E\n";
-    assert_eq!(rt; cut(&read_openair(rt.alloc(), low.as_bytes())?, &flight), 5);
     assert_eq!(rt; cut(&empty(rt.alloc()), &flight), 5);
-    let both = format!(in rt.alloc(); "{low}{SQUARE}{SQUARE}")?;
-    let both = read_openair(rt.alloc(), both.as_bytes())?;
-    assert_eq!(rt; inside(&both, &north), Some(1));
+    for (text, expected) in [(SQUARE, 1), (LOW, 5)] {
+        let air = read_openair(rt.alloc(), text.as_bytes())?;
+        assert_eq!(rt; cut(&air, &flight), expected, "{text}");
+    }
+    Ok(())
+}
+
+#[test]
+fn the_first_of_two_volumes(rt: HostRuntime) -> Result<(), Fail> {
+    let text = format!(in rt.alloc(); "{LOW}{SQUARE}{SQUARE}")?;
+    let air = read_openair(rt.alloc(), text.as_bytes())?;
+    assert_eq!(rt; inside(&air, &fix(&rt, 6_000_000, 0, 1_000)), Some(1));
     Ok(())
 }

@@ -158,34 +158,27 @@ const EVENLY: [&str; 9] = [
     "095000", "100000", "101000", "102000", "103000", "104000", "105000", "110000", "111000",
 ];
 
-/// A place, as recordings write it.
+/// The places of letters, as recordings write them. W and E are on the equator, one minute west and
+/// east of longitude 0. a and b are in the first zone, c in the first and the second, d and e in the
+/// second, g in the second and the third, h and i in the third. j, m, k and n are in the ring, j and
+/// m in the third zone too; j is before the line, and the others are behind it. o, p and q are in no
+/// zone.
+const PLACES: &str = "W 0000000N00001000W\nE 0000000N00001000E\na 0000000N00012000E\n\
+    b 0004000N00017000E\nc 0005000N00019000E\nd 0010000N00024000E\ne 0006000N00029000E\n\
+    g 0005000N00031500E\nh 0008000N00040000E\ni 0003000S00041000E\nj 0001000N00048500E\n\
+    m 0001000N00050300E\nk 0000000N00051000E\nn 0001000S00052000E\no 0020000N00030000E\n\
+    p 0010000S00020000E\nq 0000000N00028000E\n";
+
+/// The place of a letter, or nothing if it has none.
 fn place(letter: char) -> &'static str {
-    match letter {
-        // On the equator: one minute west and east of longitude 0.
-        'W' => "0000000N00001000W",
-        'E' => "0000000N00001000E",
-        // In the first zone, in the first and the second, in the second.
-        'a' => "0000000N00012000E",
-        'b' => "0004000N00017000E",
-        'c' => "0005000N00019000E",
-        'd' => "0010000N00024000E",
-        'e' => "0006000N00029000E",
-        // In the second and the third zone, in the third.
-        'g' => "0005000N00031500E",
-        'h' => "0008000N00040000E",
-        'i' => "0003000S00041000E",
-        // In the third zone and the ring, before the line and behind it.
-        'j' => "0001000N00048500E",
-        'm' => "0001000N00050300E",
-        // In the ring, behind the line.
-        'k' => "0000000N00051000E",
-        'n' => "0001000S00052000E",
-        // In no zone of them.
-        'o' => "0020000N00030000E",
-        'p' => "0010000S00020000E",
-        'q' => "0000000N00028000E",
-        _ => "0000000N00000000E",
+    for row in PLACES.lines() {
+        if let Some((name, at)) = row.split_once(' ')
+            && name.starts_with(letter)
+        {
+            return at;
+        }
     }
+    ""
 }
 
 /// The recording of a flight over these places at these times.
@@ -214,7 +207,11 @@ struct Claimed {
 
 /// The greatest total of a goal.
 fn total_of(alloc: Global, goal: &AnyGoal) -> Result<Option<u64>, AllocError> {
-    Ok(search_one(alloc, goal)?.best.map(|best| best.total))
+    let found = search_one(alloc, goal)?;
+    Ok(match found.best {
+        Some(best) => Some(best.total),
+        None => None,
+    })
 }
 
 /// The word for a kind of claim.

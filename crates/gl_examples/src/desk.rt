@@ -4,10 +4,11 @@ ghost use Rattle.gl_desk.specs.Desk.{HasFile};
 use crate::system::{Broken, OddSystem};
 use gl_desk::{Desk, DeskError, HostDesk, MemDesk, Name, ReadError, Taker, pour, read_all};
 use std::alloc::{AllocError, Global};
+use std::fs;
 use std::os::unix::fs::symlink;
+use std::process::Abort;
 use std::rt::Files;
 use std::test::Fail;
-use std::{fs, io};
 
 /// What a run of four calls answered.
 #[derive(Debug, Drop, PartialEq)]
@@ -155,9 +156,15 @@ fn a_file_is_read_in_large_pieces(rt: HostRuntime) -> Result<(), Fail> {
     Ok(())
 }
 
-/// How many entries the current folder has.
-fn entries<R: Files>(rt: &R, alloc: Global) -> io::Result<usize> {
-    Ok(fs::read_dir(&(rt, alloc), ".")?.count())
+/// Makes a file of the current folder with these bytes.
+fn make<R: Files + Print + Drop>(
+    real: R,
+    alloc: Global,
+    name: &str,
+    piece: &[u8],
+) -> Result<(), Fail> {
+    let name = Name::from_text(alloc, name)?;
+    Ok(HostDesk::new(real).append(alloc, &name, piece)?)
 }
 
 /// The names that are listed where `unnamed` entries without a name come after those of the current
@@ -168,46 +175,54 @@ fn listed<R: Files + Drop>(real: R, alloc: Global, unnamed: usize) -> Result<Vec
     HostDesk::new(system).names(alloc)
 }
 
-/// A link, a folder and what has no name are passed over, and count among the entries.
+/// Asserts what is listed of a folder with these plain files, a link and a folder: the last two and
+/// what has no name are passed over, and count among the million entries.
+fn expect_listed(rt: &(impl Files + Abort), alloc: Global, names: &[Name]) -> Result<(), Fail> {
+    let room = 999_998usize.saturating_sub(names.len());
+    assert!(rt; listed(rt, alloc, 1)?.as_slice() == names);
+    assert!(rt; listed(rt, alloc, room)?.as_slice() == names);
+    let too_many = listed(rt, alloc, room.saturating_add(1));
+    assert_eq!(rt; too_many.err(), Some(DeskError::Failed));
+    for (name, is_plain) in [("PLAIN.BIN", true), ("LINK.BIN", false), ("SUB.DIR", false)] {
+        let is_listed = names.iter().any(|it| it.as_str() == name);
+        assert_eq!(rt; is_listed, is_plain, "{name}");
+    }
+    Ok(())
+}
+
 #[test]
 fn a_million_entries_are_gone_over_and_one_more_is_a_fault(rt: HostRuntime) -> Result<(), Fail> {
     let alloc = rt.alloc();
-    let plain = Name::from_text(alloc, "PLAIN.BIN")?;
-    HostDesk::new(&rt).append(alloc, &plain, b"x")?;
+    make(&rt, alloc, "PLAIN.BIN", b"x")?;
     symlink(&rt, "PLAIN.BIN", "LINK.BIN")?;
     fs::create_dir(&rt, "SUB.DIR")?;
     let names = HostDesk::new(&rt).names(alloc)?;
-    let room = 1_000_000usize.saturating_sub(entries(&rt, alloc)?);
-    let one = listed(&rt, alloc, 1);
-    let full = listed(&rt, alloc, room);
-    let too_many = listed(&rt, alloc, room + 1);
+    expect_listed(&rt, alloc, &names)?;
     fs::remove_file(&rt, "LINK.BIN")?;
     fs::remove_dir(&rt, "SUB.DIR")?;
     fs::remove_file(&rt, "PLAIN.BIN")?;
-    assert!(rt; names.contains(&plain));
-    assert!(rt; !names.contains(&Name::from_text(alloc, "LINK.BIN")?));
-    assert!(rt; !names.contains(&Name::from_text(alloc, "SUB.DIR")?));
-    assert_eq!(rt; one?, names);
-    assert_eq!(rt; full?, names);
-    assert_eq!(rt; too_many, Err(DeskError::Failed));
     Ok(())
+}
+
+/// How many files the current folder has.
+fn count_of_files<R: Files + Print + Drop>(real: R, alloc: Global) -> Result<usize, DeskError> {
+    Ok(HostDesk::new(real).names(alloc)?.len())
 }
 
 #[test]
 fn each_of_a_thousand_files_is_listed(rt: HostRuntime) -> Result<(), Fail> {
     let alloc = rt.alloc();
-    let mut desk = HostDesk::new(&rt);
-    let before = desk.names(alloc)?.len();
+    let before = count_of_files(&rt, alloc)?;
     for number in 0..1000 {
         let name = format!(in alloc; "F{number:03}.BIN")?;
-        desk.append(alloc, &Name::from_text(alloc, name.as_str())?, b"")?;
+        make(&rt, alloc, name.as_str(), b"")?;
     }
-    let names = desk.names(alloc)?;
+    let after = count_of_files(&rt, alloc)?;
     for number in 0..1000 {
         let name = format!(in alloc; "F{number:03}.BIN")?;
         fs::remove_file(&rt, name.as_str())?;
     }
-    assert_eq!(rt; names.len().checked_sub(before), Some(1000));
+    assert_eq!(rt; after.checked_sub(before), Some(1000));
     Ok(())
 }
 
@@ -272,22 +287,32 @@ fn each_error_of_the_system_is_a_fault(rt: HostRuntime) -> Result<(), Fail> {
     Ok(())
 }
 
+/// How many bytes of a piece are said by prints of at most so many bytes, and why it failed if it
+/// did. Nothing is always said.
+fn said<R: Files + Drop>(
+    real: R,
+    alloc: Global,
+    most: usize,
+    piece: &[u8],
+) -> (usize, Option<DeskError>, Option<DeskError>) {
+    let mut system = OddSystem::new(real);
+    system.most = most;
+    let said = HostDesk::new(&system).say(alloc, piece).err();
+    let nothing = HostDesk::new(&system).say(alloc, b"").err();
+    (system.printed.get(), said, nothing)
+}
+
 #[test]
 fn a_piece_is_said_in_parts(rt: HostRuntime) -> Result<(), Fail> {
-    let alloc = rt.alloc();
-    let long = piece(alloc, 100_000)?;
+    let long = piece(rt.alloc(), 100_000)?;
     let cases = [
-        (usize::MAX, 100_000, Ok(())),
-        (7, 100_000, Ok(())),
-        (0, 0, Err(DeskError::Failed)),
+        (usize::MAX, 100_000, None),
+        (7, 100_000, None),
+        (0, 0, Some(DeskError::Failed)),
     ];
-    for (most, printed, expected) in cases {
-        let mut system = OddSystem::new(&rt);
-        system.most = most;
-        let said = HostDesk::new(&system).say(alloc, &long);
-        assert_eq!(rt; said, expected, "at {most}");
-        assert_eq!(rt; system.printed.get(), printed, "at {most}");
-        assert_eq!(rt; HostDesk::new(&system).say(alloc, b""), Ok(()));
+    for (most, printed, error) in cases {
+        let answer = said(&rt, rt.alloc(), most, &long);
+        assert_eq!(rt; answer, (printed, error, None), "at {most}");
     }
     Ok(())
 }
@@ -348,17 +373,38 @@ fn a_file_is_read_from_a_place_on(rt: HostRuntime) -> Result<(), Fail> {
     Ok(())
 }
 
-/// The text of a small file.
-fn text_of<R: Files>(rt: &R, alloc: Global, name: &str) -> Result<String, Fail> {
-    Ok(fs::read_to_string(&(rt, alloc), name)?)
+/// Asserts the text of a file of the current folder.
+fn expect_text(
+    rt: &(impl Files + Abort),
+    alloc: Global,
+    name: &str,
+    text: &str,
+) -> Result<(), Fail> {
+    let found = fs::read_to_string(&(rt, alloc), name)?;
+    assert_eq!(rt; found.as_str(), text, "in {name}");
+    Ok(())
+}
+
+/// Asserts that nothing is appended under a name, and that a second try has no other answer.
+fn expect_refused(
+    rt: &(impl Files + Print + Abort),
+    alloc: Global,
+    name: &str,
+) -> Result<(), Fail> {
+    let given = Name::from_text(alloc, name)?;
+    let mut desk = HostDesk::new(rt);
+    for _ in 0..2 {
+        let appended = desk.append(alloc, &given, b"new");
+        assert_eq!(rt; appended, Err(DeskError::Failed), "{name}");
+    }
+    Ok(())
 }
 
 /// A file, a link to one, a link that leads nowhere, a folder and a device stand under a name.
 #[test]
 fn what_stands_under_a_name_already_is_never_written_to(rt: HostRuntime) -> Result<(), Fail> {
     let alloc = rt.alloc();
-    let there = Name::from_text(alloc, "THERE.TXT")?;
-    HostDesk::new(&rt).append(alloc, &there, b"old")?;
+    make(&rt, alloc, "THERE.TXT", b"old")?;
     symlink(&rt, "THERE.TXT", "LINK.TXT")?;
     symlink(&rt, "NOWHERE.TXT", "LOOSE.TXT")?;
     fs::create_dir(&rt, "FOLDER.TXT")?;
@@ -369,14 +415,9 @@ fn what_stands_under_a_name_already_is_never_written_to(rt: HostRuntime) -> Resu
         "FOLDER.TXT",
         "/dev/null",
     ] {
-        let name = Name::from_text(alloc, name)?;
-        let mut desk = HostDesk::new(&rt);
-        for _ in 0..2 {
-            let appended = desk.append(alloc, &name, b"new");
-            assert_eq!(rt; appended, Err(DeskError::Failed), "{}", name.as_str());
-        }
+        expect_refused(&rt, alloc, name)?;
     }
-    assert_eq!(rt; text_of(&rt, alloc, "THERE.TXT")?.as_str(), "old");
+    expect_text(&rt, alloc, "THERE.TXT", "old")?;
     assert!(rt; fs::symlink_metadata(&rt, "NOWHERE.TXT").is_err());
     fs::remove_file(&rt, "LINK.TXT")?;
     fs::remove_file(&rt, "LOOSE.TXT")?;
@@ -385,23 +426,22 @@ fn what_stands_under_a_name_already_is_never_written_to(rt: HostRuntime) -> Resu
     Ok(())
 }
 
-/// Between two pieces another file takes the name of the one that was made.
+/// Makes a file by two pieces, between which another file takes its name.
+fn make_beside_another(rt: &(impl Files + Print), alloc: Global) -> Result<(), Fail> {
+    let name = Name::from_text(alloc, "GROWS.TXT")?;
+    let mut desk = HostDesk::new(rt);
+    desk.append(alloc, &name, b"one ")?;
+    fs::rename(rt, "GROWS.TXT", "MOVED.TXT")?;
+    make(rt, alloc, "GROWS.TXT", b"other")?;
+    Ok(desk.append(alloc, &name, b"two")?)
+}
+
 #[test]
 fn all_pieces_go_to_the_file_that_was_made(rt: HostRuntime) -> Result<(), Fail> {
-    let alloc = rt.alloc();
-    let name = Name::from_text(alloc, "GROWS.TXT")?;
-    let mut desk = HostDesk::new(&rt);
-    desk.append(alloc, &name, b"one ")?;
-    fs::rename(&rt, "GROWS.TXT", "MOVED.TXT")?;
-    HostDesk::new(&rt).append(alloc, &name, b"other")?;
-    desk.append(alloc, &name, b"two")?;
-    let texts = [
-        text_of(&rt, alloc, "MOVED.TXT")?,
-        text_of(&rt, alloc, "GROWS.TXT")?,
-    ];
+    make_beside_another(&rt, rt.alloc())?;
+    expect_text(&rt, rt.alloc(), "MOVED.TXT", "one two")?;
+    expect_text(&rt, rt.alloc(), "GROWS.TXT", "other")?;
     fs::remove_file(&rt, "MOVED.TXT")?;
     fs::remove_file(&rt, "GROWS.TXT")?;
-    assert_eq!(rt; texts[0].as_str(), "one two");
-    assert_eq!(rt; texts[1].as_str(), "other");
     Ok(())
 }

@@ -8,6 +8,8 @@ use gl_igc::Fix;
 use gl_sphere::{Grid, east, north, vector};
 use gl_text::Items;
 use gl_zone::{Cylinder, Line, MOST_PARTS, Part, Sector, WHOLE_TURN, Zone, crossing, holds, side};
+use std::alloc::{AllocError, Global};
+use std::process::Abort;
 use std::test::Fail;
 
 /// The origin of the places: latitude 0 and longitude 0.
@@ -160,6 +162,18 @@ fn sector_at(grid: Grid, inner: u64, outer: u64, from: u32, to: u32) -> Part
     })
 }
 
+/// Asserts which of some places a zone holds: those for which a byte is Y.
+fn expect_inside(rt: &impl Abort, zone: &Zone, around: &[Grid], inside: &[u8]) {
+    for (grid, held) in around.iter().zip(inside) {
+        let is_held = *held == b'Y';
+        assert_eq!(rt;
+            holds(zone, vector(*grid)),
+            is_held,
+            "{grid:?}, of {inside:?}"
+        );
+    }
+}
+
 #[test]
 fn sectors(rt: HostRuntime) -> Result<(), Fail> {
     // One degree from the origin to the north, the north-east and so on round to the north-west,
@@ -204,42 +218,54 @@ fn sectors(rt: HostRuntime) -> Result<(), Fail> {
             centre: vector(ORIGIN),
             parts: Items::from_vec(vec![in rt.alloc(); *part]?),
         };
-        for (grid, held) in around.iter().zip(inside) {
-            let held = *held == b'Y';
-            assert_eq!(rt; holds(&zone, vector(*grid)), held, "{grid:?} of {part:?}");
-        }
+        expect_inside(&rt, &zone, &around, inside);
     }
     Ok(())
 }
 
+/// A ring about the place to the east, from 1,000 to 2,000 metres.
+fn ring(alloc: Global) -> Result<Zone, AllocError> {
+    Ok(Zone {
+        centre: vector(EAST),
+        parts: Items::from_vec(vec![in alloc; sector_at(EAST, 100_000, 200_000, 0, 0)]?),
+    })
+}
+
+/// The same with a cylinder in its middle.
+fn filled_ring(alloc: Global) -> Result<Zone, AllocError> {
+    let middle = Cylinder {
+        centre: vector(EAST),
+        radius: 99_999,
+    };
+    Ok(Zone {
+        centre: vector(EAST),
+        parts: Items::from_vec(vec![in alloc;
+            sector_at(EAST, 100_000, 200_000, 0, 0),
+            Part::Cylinder(middle),
+        ]?),
+    })
+}
+
+/// Asserts which of some places a zone holds.
+fn expect_held(rt: &impl Abort, zone: &Zone, cases: &[(Grid, bool)]) {
+    for (grid, held) in cases {
+        assert_eq!(rt; holds(zone, vector(*grid)), *held, "{grid:?}");
+    }
+}
+
 #[test]
 fn zones(rt: HostRuntime) -> Result<(), Fail> {
-    let ring = Zone {
-        centre: vector(EAST),
-        parts: Items::from_vec(vec![in rt.alloc(); sector_at(EAST, 100_000, 200_000, 0, 0)]?),
-    };
+    let on_the_ring = [
+        (EAST, false),
+        (place(100_000, 6_000_000), true),
+        (place(-100_000, 6_000_000), true),
+        (place(0, 6_100_000), true),
+        (place(0, 5_900_000), true),
+    ];
+    let ring = ring(rt.alloc())?;
     share(&ring);
-    assert!(rt; !holds(&ring, vector(EAST)));
-    for (lat, lon) in [
-        (100_000, 6_000_000),
-        (-100_000, 6_000_000),
-        (0, 6_100_000),
-        (0, 5_900_000),
-    ] {
-        assert!(rt; holds(&ring, vector(place(lat, lon))), "{lat} {lon}");
-    }
-    let filled = Zone {
-        centre: vector(EAST),
-        parts: Items::from_vec(vec![in rt.alloc();
-            sector_at(EAST, 100_000, 200_000, 0, 0),
-            Part::Cylinder(Cylinder {
-                centre: vector(EAST),
-                radius: 99_999
-            }),
-        ]?),
-    };
-    assert!(rt; holds(&filled, vector(EAST)));
-    assert!(rt; holds(&filled, vector(place(0, 6_100_000))));
-    assert!(rt; !holds(&filled, vector(ORIGIN)));
+    expect_held(&rt, &ring, &on_the_ring);
+    let in_the_filled = [(EAST, true), (place(0, 6_100_000), true), (ORIGIN, false)];
+    expect_held(&rt, &filled_ring(rt.alloc())?, &in_the_filled);
     Ok(())
 }

@@ -21,28 +21,26 @@ const DAY: i32 = 19_905;
 const ENTRANT: &str =
     "[[entrant]]\nnumber = \"AA\"\nname = \"Ann\"\nhandicap = 1000\nfile = \"AA.IGC\"\n";
 
-/// A place, as recordings write it.
+/// The places of letters, as recordings write them. W and E are on the equator, one minute west and
+/// east of longitude 0, and o is on it. a is in the first zone of the small tasks, x in it and the
+/// second, b in the second, y in it and the third, c in the third zone before the gate, g behind it,
+/// and f behind both. v is in the airspace of the small tasks. e is one degree east, and n one degree
+/// north.
+const PLACES: &str = "W 0000000N00001000W\nE 0000000N00001000E\no 0000000N00000000E\n\
+    a 0000000N00010000E\nx 0000000N00011000E\nb 0000000N00012000E\ny 0000000N00013000E\n\
+    c 0000000N00014000E\ng 0000000N00015500E\nf 0000000N00016000E\nv 0005000N00005000E\n\
+    e 0000000N00100000E\nn 0100000N00000000E\n";
+
+/// The place of a letter, or nothing if it has none.
 fn place(letter: &str) -> &'static str {
-    match letter {
-        // On the equator: one minute west and east of longitude 0, and on it.
-        "W" => "0000000N00001000W",
-        "E" => "0000000N00001000E",
-        "o" => "0000000N00000000E",
-        // In the first zone of the small tasks, in it and the second, and so on.
-        "a" => "0000000N00010000E",
-        "x" => "0000000N00011000E",
-        "b" => "0000000N00012000E",
-        "y" => "0000000N00013000E",
-        // In the third zone before the gate and behind it, and behind both.
-        "c" => "0000000N00014000E",
-        "g" => "0000000N00015500E",
-        "f" => "0000000N00016000E",
-        // In the airspace of the small tasks.
-        "v" => "0005000N00005000E",
-        // One degree east, and one degree north.
-        "e" => "0000000N00100000E",
-        _ => "0100000N00000000E",
+    for row in PLACES.lines() {
+        if let Some((name, at)) = row.split_once(' ')
+            && name == letter
+        {
+            return at;
+        }
     }
+    ""
 }
 
 /// A line of a recording: an E line for a code of three letters, else the fix at the place of a

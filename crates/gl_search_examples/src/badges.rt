@@ -1,6 +1,6 @@
 use gl_badge::{Course, course};
 use gl_igc::{IgcError, Recording, read_igc};
-use std::alloc::Global;
+use std::alloc::{AllocError, Global};
 use std::test::Fail;
 
 /// The first lines of a recording.
@@ -25,23 +25,34 @@ fn recording(alloc: Global, heading: &str, places: &[&str]) -> Result<Recording,
     read_igc(alloc, &text, None)
 }
 
+/// A course in words.
+fn told(alloc: Global, course: Course) -> Result<String, AllocError> {
+    match course {
+        Course::Undeclared => String::from_str(alloc, "undeclared"),
+        Course::Missed(point) => format!(in alloc; "missed {point}"),
+        Course::Lists { .. } => String::from_str(alloc, "lists"),
+        Course::Long => String::from_str(alloc, "long"),
+    }
+}
+
+/// What is seen of the course of a recording, in words.
+fn seen(alloc: Global, heading: &str, places: &[&str]) -> Result<String, Fail> {
+    let recording = recording(alloc, heading, places)?;
+    Ok(told(alloc, course(alloc, &recording)?)?)
+}
+
 #[test]
 fn what_is_seen_of_a_declared_course(rt: HostRuntime) -> Result<(), Fail> {
-    let undeclared = recording(rt.alloc(), "", &[])?;
-    assert!(rt; matches!(course(rt.alloc(), &undeclared)?, Course::Undeclared));
+    let undeclared = seen(rt.alloc(), "", &[])?;
+    assert_eq!(rt; undeclared.as_str(), "undeclared");
     let far = "C0200000N00000000E\n";
-    let missed = recording(
-        rt.alloc(),
-        "C010724090000010724000101\n",
-        &[ORIGIN, ORIGIN, far, ORIGIN, ORIGIN],
-    )?;
-    assert!(rt; matches!(course(rt.alloc(), &missed)?, Course::Missed(2)));
-    let ten = [ORIGIN; 12];
-    let most = recording(rt.alloc(), "C010724090000010724000108\n", &ten)?;
-    assert!(rt; matches!(course(rt.alloc(), &most)?, Course::Lists { .. }));
-    let eleven = [ORIGIN; 13];
-    let long = recording(rt.alloc(), "C010724090000010724000109\n", &eleven)?;
-    assert!(rt; matches!(course(rt.alloc(), &long)?, Course::Long));
+    let places = [ORIGIN, ORIGIN, far, ORIGIN, ORIGIN];
+    let missed = seen(rt.alloc(), "C010724090000010724000101\n", &places)?;
+    assert_eq!(rt; missed.as_str(), "missed 2");
+    let most = seen(rt.alloc(), "C010724090000010724000108\n", &[ORIGIN; 12])?;
+    assert_eq!(rt; most.as_str(), "lists");
+    let long = seen(rt.alloc(), "C010724090000010724000109\n", &[ORIGIN; 13])?;
+    assert_eq!(rt; long.as_str(), "long");
     Ok(())
 }
 
@@ -55,10 +66,9 @@ fn fixes_near_a_declared_course(rt: HostRuntime) -> Result<(), Fail> {
     let Course::Lists { lists, points } = course(rt.alloc(), &rec)? else {
         return Err("lists".into());
     };
-    assert_eq!(rt; points.len(), 3);
-    assert_eq!(rt; lists.len(), 3);
-    assert_eq!(rt; lists[0].as_slice(), [0, 2].as_slice());
-    assert_eq!(rt; lists[1].as_slice(), [1].as_slice());
-    assert_eq!(rt; lists[2].as_slice(), [0, 2].as_slice());
+    assert_eq!(rt; (points.len(), lists.len()), (3, 3));
+    for (list, expected) in lists.iter().zip([[0, 2].as_slice(), &[1], &[0, 2]]) {
+        assert_eq!(rt; list.as_slice(), expected);
+    }
     Ok(())
 }

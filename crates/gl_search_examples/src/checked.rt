@@ -6,6 +6,7 @@ use gl_igc::Fix;
 use gl_proof::read_proof;
 use gl_sphere::{Grid, vector};
 use std::alloc::{AllocError, Global};
+use std::process::Abort;
 use std::test::Fail;
 
 /// A fix at a latitude in 1/100,000 minute, on the meridian of 0 degrees.
@@ -31,73 +32,51 @@ fn said(alloc: Global, goal: &FreeGoal, total: &str, lines: &str) -> Result<Verd
     Ok(check_claim(alloc, goal, claim)?)
 }
 
-/// The free distance over one fix: its optimum is 0, and its whole cell holds one choice.
-#[test]
-fn a_claim_over_one_fix(rt: HostRuntime) -> Result<(), Fail> {
-    let fixes = [fix_at(0, 0).ok_or("a fix")?];
-    let goal = FreeGoal::new(rt.alloc(), &fixes, 0, 0, 1_000)?;
-    let cases = [
-        (
-            "0",
-            "FIX 0 0 0 0 0\nBOX B 0-0 0-0 0-0 0-0 0-0\n",
-            Verdict::Yes,
-        ),
-        ("0", "FIX 0 0 0 0 0\n", Verdict::Open),
-        (
-            "0",
-            "FIX 0 0 0 0 1\nBOX B 0-0 0-0 0-0 0-0 0-0\n",
-            Verdict::Fixes,
-        ),
-        ("0", "FIX 0 0 0 0 4294967295\nBOX B 0-0\n", Verdict::Fixes),
-        (
-            "0",
-            "FIX 0 0 0 0\nBOX B 0-0 0-0 0-0 0-0 0-0\n",
-            Verdict::Fixes,
-        ),
-        (
-            "1",
-            "FIX 0 0 0 0 0\nBOX B 0-0 0-0 0-0 0-0 0-0\n",
-            Verdict::Total,
-        ),
-        (
-            "0",
-            "FIX 0 0 0 0 0\nBOX B 0-0 0-0 0-0 0-0 0-0\nBOX B 0-0\n",
-            Verdict::Extra(2),
-        ),
-        (
-            "0",
-            "FIX 0 0 0 0 0\nBOX B 0-0 0-0 0-0 0-0 0-1\n",
-            Verdict::Place(1),
-        ),
-        (
-            "0",
-            "FIX 0 0 0 0 0\nBOX B 0-0 0-0 0-0 0-0\n",
-            Verdict::Place(1),
-        ),
-        (
-            "0",
-            "FIX 0 0 0 0 0\nBOX S 0-0 0-0 0-0 0-0 0-0\n",
-            Verdict::Cell(1),
-        ),
-        (
-            "0",
-            "FIX 0 0 0 0 0\nBOX D 0-0 0-0 0-0 0-0 0-0\n",
-            Verdict::Cell(1),
-        ),
-        ("NONE", "BOX B 0-0 0-0 0-0 0-0 0-0\n", Verdict::Cell(1)),
-        ("NONE", "", Verdict::Open),
-    ];
-    for (total, lines, verdict) in cases {
-        assert_eq!(rt;
-            said(rt.alloc(), &goal, total, lines)?,
-            verdict,
-            "{total} {lines}"
-        );
+/// Compares what is said of each claim of a table: its total, its lines, with `|` for the end of
+/// each, and the verdict.
+fn compare(rt: &impl Abort, alloc: Global, goal: &FreeGoal, table: &str) -> Result<(), Fail> {
+    for row in table.lines() {
+        let (claim, expected) = row.split_once(": ").ok_or("no verdict")?;
+        let (total, lines) = claim.split_once(' ').ok_or("no total")?;
+        let lines = lines.replace(alloc, "|", "\n")?;
+        let verdict = said(alloc, goal, total, lines.as_str())?;
+        let told = format!(in alloc; "{verdict:?}")?;
+        assert_eq!(rt; told.as_str(), expected, "of {claim}");
     }
     Ok(())
 }
 
-/// The same over two fixes, one degree of latitude apart, worth 111,194.92 m.
+/// Claims over one fix: the optimum is 0, and the whole cell holds one choice.
+const OVER_ONE_FIX: &str = "0 FIX 0 0 0 0 0|BOX B 0-0 0-0 0-0 0-0 0-0|: Yes
+0 FIX 0 0 0 0 0|: Open
+0 FIX 0 0 0 0 1|BOX B 0-0 0-0 0-0 0-0 0-0|: Fixes
+0 FIX 0 0 0 0 4294967295|BOX B 0-0|: Fixes
+0 FIX 0 0 0 0|BOX B 0-0 0-0 0-0 0-0 0-0|: Fixes
+1 FIX 0 0 0 0 0|BOX B 0-0 0-0 0-0 0-0 0-0|: Total
+0 FIX 0 0 0 0 0|BOX B 0-0 0-0 0-0 0-0 0-0|BOX B 0-0|: Extra(2)
+0 FIX 0 0 0 0 0|BOX B 0-0 0-0 0-0 0-0 0-1|: Place(1)
+0 FIX 0 0 0 0 0|BOX B 0-0 0-0 0-0 0-0|: Place(1)
+0 FIX 0 0 0 0 0|BOX S 0-0 0-0 0-0 0-0 0-0|: Cell(1)
+0 FIX 0 0 0 0 0|BOX D 0-0 0-0 0-0 0-0 0-0|: Cell(1)
+NONE BOX B 0-0 0-0 0-0 0-0 0-0|: Cell(1)
+NONE : Open";
+
+#[test]
+fn a_claim_over_one_fix(rt: HostRuntime) -> Result<(), Fail> {
+    let fixes = [fix_at(0, 0).ok_or("a fix")?];
+    let goal = FreeGoal::new(rt.alloc(), &fixes, 0, 0, 1_000)?;
+    compare(&rt, rt.alloc(), &goal, OVER_ONE_FIX)
+}
+
+/// Claims over two fixes, one degree of latitude apart, worth 111,194.92 m.
+const OVER_TWO_FIXES: &str = "11119492 FIX 0 0 0 0 1|BOX B 0-1 0-1 0-1 0-1 0-1|: Cell(1)
+11119492 FIX 0 0 0 0 1|BOX D 1-1 0-1 0-1 0-1 0-1|: Place(1)
+11119492 FIX 0 0 0 0 1|BOX D 0-0 0-1 0-1 0-1 0-1|: Cell(1)
+11119492 FIX 0 0 0 0 1|BOX B 0-0 0-0 0-0 0-0 0-1|: Open
+11119492 FIX 0 0 0 0 1|BOX B 0-0 0-0 0-0 0-0 0-1|BOX B 0-0 0-0 0-0 1-1 0-0|: Cell(2)
+11119492 FIX 0 0 0 0 1|BOX B 0-0 0-0 0-0 0-0 0-1|BOX D 0-0 0-0 0-0 1-1 0-0|: Open
+11119492 FIX 0 0 0 0 1|BOX B 0-0 0-0 0-0 0-0 0-1|BOX D 0-0 0-0 0-0 1-1 1-1|: Place(2)";
+
 #[test]
 fn a_claim_over_two_fixes(rt: HostRuntime) -> Result<(), Fail> {
     let fixes = [
@@ -105,30 +84,7 @@ fn a_claim_over_two_fixes(rt: HostRuntime) -> Result<(), Fail> {
         fix_at(9, 6_000_000).ok_or("a fix")?,
     ];
     let goal = FreeGoal::new(rt.alloc(), &fixes, 0, 1, 1_000)?;
-    let cases = [
-        ("BOX B 0-1 0-1 0-1 0-1 0-1\n", Verdict::Cell(1)),
-        ("BOX D 1-1 0-1 0-1 0-1 0-1\n", Verdict::Place(1)),
-        ("BOX D 0-0 0-1 0-1 0-1 0-1\n", Verdict::Cell(1)),
-        ("BOX B 0-0 0-0 0-0 0-0 0-1\n", Verdict::Open),
-        (
-            "BOX B 0-0 0-0 0-0 0-0 0-1\nBOX B 0-0 0-0 0-0 1-1 0-0\n",
-            Verdict::Cell(2),
-        ),
-        (
-            "BOX B 0-0 0-0 0-0 0-0 0-1\nBOX D 0-0 0-0 0-0 1-1 0-0\n",
-            Verdict::Open,
-        ),
-        (
-            "BOX B 0-0 0-0 0-0 0-0 0-1\nBOX D 0-0 0-0 0-0 1-1 1-1\n",
-            Verdict::Place(2),
-        ),
-    ];
-    for (lines, verdict) in cases {
-        let lines = format!(in rt.alloc(); "FIX 0 0 0 0 1\n{lines}")?;
-        let answer = said(rt.alloc(), &goal, "11119492", lines.as_str())?;
-        assert_eq!(rt; answer, verdict, "{lines}");
-    }
-    Ok(())
+    compare(&rt, rt.alloc(), &goal, OVER_TWO_FIXES)
 }
 
 /// A fix on the grid, at 1,000 metres.
@@ -166,6 +122,12 @@ fn all_choices(alloc: Global) -> Result<String, AllocError> {
     Ok(text)
 }
 
+/// A proof that there is no triangle, with all these boxes.
+fn no_triangle(alloc: Global) -> Result<String, AllocError> {
+    let boxes = all_choices(alloc)?;
+    format!(in alloc; "GLIDEPROOF 2\nCLAIM EE TRIANGLE NONE\n{boxes}END\n")
+}
+
 /// A flight from the origin by two degrees east, and by 2.7 degrees north and half a degree east,
 /// back to the origin. Its triangle of 871 km has legs of 25.5, 39.4 and 35.0 percent. So the
 /// choice of its first three fixes isn't shut, and that is box 11; those before it are disordered
@@ -185,8 +147,7 @@ fn no_box_shuts_a_large_triangle_out(rt: HostRuntime) -> Result<(), Fail> {
         fix_on(Grid { lat: 0, lon: 0 }),
     ];
     let goal = TriangleGoal::new(rt.alloc(), &fixes, 0, 3, 100_000)?;
-    let boxes = all_choices(rt.alloc())?;
-    let text = format!(in rt.alloc(); "GLIDEPROOF 2\nCLAIM EE TRIANGLE NONE\n{boxes}END\n")?;
+    let text = no_triangle(rt.alloc())?;
     let proof = read_proof(rt.alloc(), text.as_bytes())?;
     let claim = proof.claims.first().ok_or("a claim")?;
     assert_eq!(rt; claim.cells.joined(rt.alloc())?.len(), 64);

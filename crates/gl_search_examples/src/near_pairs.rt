@@ -3,7 +3,7 @@ ghost use Rattle.std.specs.Prelude.{◌≤◌};
 use gl_igc::read_igc;
 use gl_near::*;
 use gl_sphere::{read_place, vector};
-use std::alloc::Global;
+use std::alloc::{AllocError, Global};
 use std::process::Abort;
 use std::test::Fail;
 
@@ -100,6 +100,19 @@ fn a_place(rt: HostRuntime) -> Result<(), Fail> {
     Ok(())
 }
 
+/// What is said of a claim without boxes.
+fn said_of(
+    alloc: Global,
+    pairs: &Pairs,
+    best: Option<NearBest>,
+) -> Result<NearVerdict, AllocError> {
+    let claim = NearClaim {
+        best,
+        closed: Vec::new(alloc),
+    };
+    check_near(alloc, pairs, &claim)
+}
+
 #[test]
 fn what_is_wrong_with_a_claim(rt: HostRuntime) -> Result<(), Fail> {
     let same = pairs_of(&rt, TO_NORTH, TO_EAST, 0)?;
@@ -111,11 +124,7 @@ fn what_is_wrong_with_a_claim(rt: HostRuntime) -> Result<(), Fail> {
         (None, NearVerdict::Open),
     ];
     for (best, verdict) in cases {
-        let claim = NearClaim {
-            best,
-            closed: Vec::new(rt.alloc()),
-        };
-        assert_eq!(rt; check_near(rt.alloc(), &same, &claim)?, verdict);
+        assert_eq!(rt; said_of(rt.alloc(), &same, best)?, verdict);
     }
     Ok(())
 }

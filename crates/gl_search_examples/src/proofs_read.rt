@@ -2,7 +2,8 @@ use gl_box::{Cell, Closed, Tuple, Why};
 use gl_desk::Name;
 use gl_proof::*;
 use gl_walk::Boxes;
-use std::alloc::Global;
+use std::alloc::{AllocError, Global};
+use std::process::Abort;
 use std::test::Fail;
 
 /// A proof of one claim.
@@ -32,14 +33,6 @@ fn claims_in(alloc: Global, text: &[u8]) -> Result<usize, ProofError> {
         Ok(proof) => Ok(proof.claims.len()),
         Err(error) => Err(error),
     }
-}
-
-/// The text of a proof with these lines between its heading and its end.
-fn proof_of(alloc: Global, lines: &[u8]) -> Result<Vec<u8>, Fail> {
-    let mut text = b"GLIDEPROOF 2\n".to_vec(alloc)?;
-    text.extend_from_slice(lines)?;
-    text.extend_from_slice(b"END\n")?;
-    Ok(text)
 }
 
 #[test]
@@ -106,66 +99,64 @@ fn a_changed_byte_is_told(rt: HostRuntime) -> Result<(), Fail> {
     Ok(())
 }
 
-#[test]
-fn lines_that_may_stand(rt: HostRuntime) -> Result<(), Fail> {
-    let cases = [
-        (b"".as_slice(), 0),
-        (b"CLAIM a FREE NONE\n", 1),
-        (
-            b"CLAIM 12345678 TRIANGLE 0\nFIX 4294967295\nCLAIM Zz AREA NONE\n",
-            2,
-        ),
-        (
-            b"CLAIM a OUT 18446744073709551615\nFIX 1 2 3 4 5 6 7 8 9 10\n",
-            1,
-        ),
-        (b"CLAIM a OUT NONE\nBOX D 0-4294967295\nBOX S 7-7 0-0\n", 1),
-        (
-            b"CLAIM a OUT NONE\nBOX B 0-0 0-0 0-0 0-0 0-0 0-0 0-0 0-0 0-0 0-0\n",
-            1,
-        ),
-    ];
-    for (lines, claims) in cases {
-        let text = proof_of(rt.alloc(), lines)?;
-        assert_eq!(rt; claims_in(rt.alloc(), text.as_slice()), Ok(claims));
+/// How many claims the proof has that has these lines, with `|` for the end of each, between its
+/// heading and its end; or why it is none.
+fn told(alloc: Global, lines: &str) -> Result<String, AllocError> {
+    let lines = lines.replace(alloc, "|", "\n")?;
+    let text = format!(in alloc; "GLIDEPROOF 2\n{lines}END\n")?;
+    match claims_in(alloc, text.as_bytes()) {
+        Ok(claims) => format!(in alloc; "{claims}"),
+        Err(error) => format!(in alloc; "{error:?}"),
+    }
+}
+
+/// Compares what is told of the lines of each row of a table.
+fn compare(rt: &impl Abort, alloc: Global, table: &str) -> Result<(), Fail> {
+    for row in table.lines() {
+        let (expected, lines) = row.split_once(": ").ok_or("no lines")?;
+        assert_eq!(rt; told(alloc, lines)?.as_str(), expected, "of {lines}");
     }
     Ok(())
 }
 
+/// Lines that may stand.
+const LINES: &str = "0: \n\
+    1: CLAIM a FREE NONE|\n\
+    2: CLAIM 12345678 TRIANGLE 0|FIX 4294967295|CLAIM Zz AREA NONE|\n\
+    1: CLAIM a OUT 18446744073709551615|FIX 1 2 3 4 5 6 7 8 9 10|\n\
+    1: CLAIM a OUT NONE|BOX D 0-4294967295|BOX S 7-7 0-0|\n\
+    1: CLAIM a OUT NONE|BOX B 0-0 0-0 0-0 0-0 0-0 0-0 0-0 0-0 0-0 0-0|\n";
+
+#[test]
+fn lines_that_may_stand(rt: HostRuntime) -> Result<(), Fail> {
+    compare(&rt, rt.alloc(), LINES)
+}
+
+/// Lines of which one may not stand.
+const WRONG_LINES: &str = "Line(2): BOX B 0-0|\n\
+    Line(2): FIX 1|\n\
+    Line(2): CLAIM 123456789 FREE NONE|\n\
+    Line(2): CLAIM a FREE 18446744073709551616|FIX 1|\n\
+    Line(2): CLAIM a FREE 011119492|FIX 1|\n\
+    Line(2): CLAIM  a FREE NONE|\n\
+    Line(2): CLAIM a FREE NONE |\n\
+    Line(2): CLAIM a FREE NONE\r|\n\
+    Line(3): CLAIM a FREE 1|\n\
+    Line(3): CLAIM a FREE NONE|FIX 1|\n\
+    Line(3): CLAIM a FREE 1|FIX 4294967296|\n\
+    Line(3): CLAIM a FREE 1|FIX|\n\
+    Line(3): CLAIM a FREE 1|FIX 1 2 3 4 5 6 7 8 9 10 11|\n\
+    Line(4): CLAIM a FREE 1|FIX 1|FIX 1|\n\
+    Line(3): CLAIM a FREE NONE|BOX B 0-4294967296|\n\
+    Line(3): CLAIM a FREE NONE|BOX B 1-0|\n\
+    Line(4): CLAIM a FREE NONE|BOX B 0-0|\
+    BOX B 0-0 0-0 0-0 0-0 0-0 0-0 0-0 0-0 0-0 0-0 0-0|\n\
+    Line(3): END|END|\n\
+    Line(3): END||\n";
+
 #[test]
 fn lines_that_may_not_stand(rt: HostRuntime) -> Result<(), Fail> {
-    let cases = [
-        (b"BOX B 0-0\n".as_slice(), 2),
-        (b"FIX 1\n", 2),
-        (b"CLAIM 123456789 FREE NONE\n", 2),
-        (b"CLAIM a FREE 18446744073709551616\nFIX 1\n", 2),
-        (b"CLAIM a FREE 011119492\nFIX 1\n", 2),
-        (b"CLAIM  a FREE NONE\n", 2),
-        (b"CLAIM a FREE NONE \n", 2),
-        (b"CLAIM a FREE NONE\r\n", 2),
-        (b"CLAIM a FREE 1\n", 3),
-        (b"CLAIM a FREE NONE\nFIX 1\n", 3),
-        (b"CLAIM a FREE 1\nFIX 4294967296\n", 3),
-        (b"CLAIM a FREE 1\nFIX\n", 3),
-        (b"CLAIM a FREE 1\nFIX 1 2 3 4 5 6 7 8 9 10 11\n", 3),
-        (b"CLAIM a FREE 1\nFIX 1\nFIX 1\n", 4),
-        (b"CLAIM a FREE NONE\nBOX B 0-4294967296\n", 3),
-        (b"CLAIM a FREE NONE\nBOX B 1-0\n", 3),
-        (
-            b"CLAIM a FREE NONE\nBOX B 0-0\nBOX B 0-0 0-0 0-0 0-0 0-0 0-0 0-0 0-0 0-0 0-0 0-0\n",
-            4,
-        ),
-        (b"END\nEND\n", 3),
-        (b"END\n\n", 3),
-    ];
-    for (lines, line) in cases {
-        let text = proof_of(rt.alloc(), lines)?;
-        assert_eq!(rt;
-            claims_in(rt.alloc(), text.as_slice()),
-            Err(ProofError::Line(line))
-        );
-    }
-    Ok(())
+    compare(&rt, rt.alloc(), WRONG_LINES)
 }
 
 /// The box of the first place on a single axis.

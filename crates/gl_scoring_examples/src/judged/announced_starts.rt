@@ -5,6 +5,7 @@ use super::{compare, task};
 use gl_airspace::empty;
 use gl_task::Task;
 use std::alloc::Global;
+use std::process::Abort;
 use std::test::Fail;
 
 /// A wait of ten minutes, and then a window of five.
@@ -88,14 +89,23 @@ fn announced_task(alloc: Global, announcement: &str) -> Result<Task, Fail> {
     small_task(alloc, zones.as_str(), RING)
 }
 
+/// Judges each flight of a table in a task whose start is announced so.
+fn compare_announced(
+    rt: &impl Abort,
+    alloc: Global,
+    announcement: &str,
+    table: &str,
+) -> Result<(), Fail> {
+    let task = announced_task(alloc, announcement)?;
+    compare(rt, alloc, &task, &empty(alloc), table)
+}
+
 #[test]
 fn announced_starts(rt: HostRuntime) -> Result<(), Fail> {
-    let air = empty(rt.alloc());
-    let task = announced_task(rt.alloc(), WAIT)?;
-    compare(&rt, rt.alloc(), &task, &air, ENDS_OF_THE_WINDOW)?;
-    compare(&rt, rt.alloc(), &task, &air, OPEN_AND_CLOSED)?;
-    compare(&rt, rt.alloc(), &task, &air, COUNTED)?;
-    compare(&rt, rt.alloc(), &task, &air, TWO_CROSSINGS)
+    compare_announced(&rt, rt.alloc(), WAIT, ENDS_OF_THE_WINDOW)?;
+    compare_announced(&rt, rt.alloc(), WAIT, OPEN_AND_CLOSED)?;
+    compare_announced(&rt, rt.alloc(), WAIT, COUNTED)?;
+    compare_announced(&rt, rt.alloc(), WAIT, TWO_CROSSINGS)
 }
 
 #[test]
@@ -107,11 +117,7 @@ fn announced_before_midnight(rt: HostRuntime) -> Result<(), Fail> {
 
 #[test]
 fn starts_without_a_wait(rt: HostRuntime) -> Result<(), Fail> {
-    let air = empty(rt.alloc());
-    let at_once = announced_task(rt.alloc(), AT_ONCE)?;
-    let plain = announced_task(rt.alloc(), "")?;
-    let width_alone = announced_task(rt.alloc(), "width = 300\n")?;
-    compare(&rt, rt.alloc(), &at_once, &air, WITHOUT_A_WAIT)?;
-    compare(&rt, rt.alloc(), &plain, &air, UNANNOUNCED)?;
-    compare(&rt, rt.alloc(), &width_alone, &air, UNANNOUNCED)
+    compare_announced(&rt, rt.alloc(), AT_ONCE, WITHOUT_A_WAIT)?;
+    compare_announced(&rt, rt.alloc(), "", UNANNOUNCED)?;
+    compare_announced(&rt, rt.alloc(), "width = 300\n", UNANNOUNCED)
 }

@@ -88,17 +88,27 @@ fn what_counts_of_a_race(rt: HostRuntime) -> Result<(), Fail> {
     Ok(())
 }
 
+/// What counts of a flight that finished after so many seconds, in the task of a text.
+fn marked_in(
+    rt: &impl Abort,
+    alloc: Global,
+    text: &str,
+    seconds: u32,
+    best: Option<u64>,
+) -> Result<String, Fail> {
+    let task = task(alloc, text)?;
+    Ok(marked(rt, alloc, &task, finished(seconds), best)?)
+}
+
 #[test]
 fn what_counts_of_areas(rt: HostRuntime) -> Result<(), Fail> {
-    let areas = task(rt.alloc(), AREAS)?;
-    let short = task(rt.alloc(), SHORT)?;
     let flights = [
-        (&areas, 10_800, Some(22_138_984), "true 221389 14400"),
-        (&areas, 14_401, Some(22_138_984), "true 221389 14401"),
-        (&short, 9_000, None, "true 0 9000"),
+        (AREAS, 10_800, Some(22_138_984), "true 221389 14400"),
+        (AREAS, 14_401, Some(22_138_984), "true 221389 14401"),
+        (SHORT, 9_000, None, "true 0 9000"),
     ];
-    for (task, seconds, best, expected) in flights {
-        let answer = marked(&rt, rt.alloc(), task, finished(seconds), best)?;
+    for (text, seconds, best, expected) in flights {
+        let answer = marked_in(&rt, rt.alloc(), text, seconds, best)?;
         assert_eq!(rt; answer.as_str(), expected);
     }
     Ok(())

@@ -147,11 +147,14 @@ fn to_a_gate(rt: HostRuntime) -> Result<(), Fail> {
     compare_evenly(&rt, rt.alloc(), &task, &air, TO_A_GATE)
 }
 
+/// Judges each flight of a table through zones of all places to this finish.
+fn compare_wide(rt: &impl Abort, alloc: Global, finish: &str, table: &str) -> Result<(), Fail> {
+    let task = small_task(alloc, WIDE, finish)?;
+    compare(rt, alloc, &task, &airspace(alloc, CIRCLE)?, table)
+}
+
 #[test]
 fn each_fix_in_all_zones(rt: HostRuntime) -> Result<(), Fail> {
-    let to_a_ring = small_task(rt.alloc(), WIDE, WIDE_RING)?;
-    let to_a_gate = small_task(rt.alloc(), WIDE, GATE)?;
-    let air = airspace(rt.alloc(), CIRCLE)?;
-    compare(&rt, rt.alloc(), &to_a_ring, &air, WITHIN_THE_RING)?;
-    compare(&rt, rt.alloc(), &to_a_gate, &air, OVER_THE_GATE)
+    compare_wide(&rt, rt.alloc(), WIDE_RING, WITHIN_THE_RING)?;
+    compare_wide(&rt, rt.alloc(), GATE, OVER_THE_GATE)
 }

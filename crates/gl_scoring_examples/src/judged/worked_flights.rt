@@ -1,8 +1,9 @@
 use super::{airspace, compare, recording, task};
-use gl_airspace::{Airspace, empty};
+use gl_igc::Recording;
 use gl_judge::{Stretch, judged_range};
 use gl_task::Task;
 use std::alloc::Global;
+use std::process::Abort;
 use std::test::Fail;
 
 /// A racing task over one degree east and one degree north of its start point.
@@ -36,45 +37,46 @@ pub fn race(alloc: Global) -> Result<Task, Fail> {
     task(alloc, RACE)
 }
 
-#[test]
-fn flights_round_a_race(rt: HostRuntime) -> Result<(), Fail> {
-    let race = race(rt.alloc())?;
-    let free = empty(rt.alloc());
-    let boxed = airspace(rt.alloc(), BOX)?;
-    compare(&rt, rt.alloc(), &race, &free, FREE)?;
-    compare(&rt, rt.alloc(), &race, &boxed, BOXED)
+/// Judges each flight of a table in the race, with the airspace of a text.
+fn compare_in(rt: &impl Abort, alloc: Global, air: &str, table: &str) -> Result<(), Fail> {
+    let race = race(alloc)?;
+    compare(rt, alloc, &race, &airspace(alloc, air)?, table)
 }
 
-/// The judged fixes of a flight.
-fn judged(alloc: Global, task: &Task, air: &Airspace, flight: &str) -> Result<Stretch, Fail> {
-    let rec = recording(alloc, flight)?;
-    Ok(judged_range(task, air, &rec))
+#[test]
+fn flights_round_a_race(rt: HostRuntime) -> Result<(), Fail> {
+    compare_in(&rt, rt.alloc(), "", FREE)?;
+    compare_in(&rt, rt.alloc(), BOX, BOXED)
+}
+
+/// The judged fixes of a recording in the race, with the airspace of a text.
+fn judged_in(alloc: Global, air: &str, rec: &Recording) -> Result<Stretch, Fail> {
+    let race = race(alloc)?;
+    Ok(judged_range(&race, &airspace(alloc, air)?, rec))
+}
+
+/// The judged fixes of a flight in the race, with the airspace of a text.
+fn judged(alloc: Global, air: &str, flight: &str) -> Result<Stretch, Fail> {
+    judged_in(alloc, air, &recording(alloc, flight)?)
 }
 
 #[test]
 fn judged_fixes(rt: HostRuntime) -> Result<(), Fail> {
-    let race = race(rt.alloc())?;
-    let free = empty(rt.alloc());
-    let boxed = airspace(rt.alloc(), BOX)?;
     let round = "010724 100000-W 100010-E 120000-e 133000-n 143005-o";
     let night = "300624 235959-n 000000-E 000001-n";
     let before = "300624 100000-W 100010-E";
     let late = "010724 195959-W 200000-E 200001-e";
     let flights = [
-        (&free, round, Stretch { from: 0, to: 5 }),
-        (&boxed, round, Stretch { from: 0, to: 3 }),
-        (&free, night, Stretch { from: 1, to: 3 }),
-        (&boxed, night, Stretch { from: 1, to: 2 }),
-        (&free, late, Stretch { from: 0, to: 2 }),
+        ("", round, Stretch { from: 0, to: 5 }),
+        (BOX, round, Stretch { from: 0, to: 3 }),
+        ("", night, Stretch { from: 1, to: 3 }),
+        (BOX, night, Stretch { from: 1, to: 2 }),
+        ("", late, Stretch { from: 0, to: 2 }),
     ];
     for (air, flight, expected) in flights {
-        assert_eq!(rt;
-            judged(rt.alloc(), &race, air, flight)?,
-            expected,
-            "{flight}"
-        );
+        assert_eq!(rt; judged(rt.alloc(), air, flight)?, expected, "{flight}");
     }
-    let none = judged(rt.alloc(), &race, &free, before)?;
+    let none = judged(rt.alloc(), "", before)?;
     assert_eq!(rt; none.from, none.to);
     Ok(())
 }
