@@ -4,11 +4,11 @@ ghost use Rattle.gl_desk.specs.Desk.{HasFile};
 use crate::system::{Broken, OddSystem};
 use gl_desk::{Desk, DeskError, HostDesk, MemDesk, Name, ReadError, Taker, pour, read_all};
 use std::alloc::{AllocError, Global};
-use std::fs;
 use std::os::unix::fs::symlink;
 use std::process::Abort;
 use std::rt::Files;
 use std::test::Fail;
+use std::{fs, io};
 
 /// What a run of four calls answered.
 #[derive(Debug, Drop, PartialEq)]
@@ -175,10 +175,20 @@ fn listed<R: Files + Drop>(real: R, alloc: Global, unnamed: usize) -> Result<Vec
     HostDesk::new(system).names(alloc)
 }
 
-/// Asserts what is listed of a folder with these plain files, a link and a folder: the last two and
-/// what has no name are passed over, and count among the million entries.
-fn expect_listed(rt: &(impl Files + Abort), alloc: Global, names: &[Name]) -> Result<(), Fail> {
-    let room = 999_998usize.saturating_sub(names.len());
+/// How many entries the current folder has.
+fn entries<R: Files>(rt: &R, alloc: Global) -> io::Result<usize> {
+    Ok(fs::read_dir(&(rt, alloc), ".")?.count())
+}
+
+/// Asserts what is listed of a folder with these plain files, a link and a folder, where there is
+/// room for so many entries more: the link, the folder and what has no name are passed over, and
+/// count among the million entries.
+fn expect_listed(
+    rt: &(impl Files + Abort),
+    alloc: Global,
+    room: usize,
+    names: &[Name],
+) -> Result<(), Fail> {
     assert!(rt; listed(rt, alloc, 1)?.as_slice() == names);
     assert!(rt; listed(rt, alloc, room)?.as_slice() == names);
     let too_many = listed(rt, alloc, room.saturating_add(1));
@@ -197,7 +207,8 @@ fn a_million_entries_are_gone_over_and_one_more_is_a_fault(rt: HostRuntime) -> R
     symlink(&rt, "PLAIN.BIN", "LINK.BIN")?;
     fs::create_dir(&rt, "SUB.DIR")?;
     let names = HostDesk::new(&rt).names(alloc)?;
-    expect_listed(&rt, alloc, &names)?;
+    let room = 1_000_000usize.saturating_sub(entries(&rt, alloc)?);
+    expect_listed(&rt, alloc, room, &names)?;
     fs::remove_file(&rt, "LINK.BIN")?;
     fs::remove_dir(&rt, "SUB.DIR")?;
     fs::remove_file(&rt, "PLAIN.BIN")?;
