@@ -49,23 +49,46 @@ fn expect_claims(rt: &impl Abort, proof: &str) {
     assert_eq!(rt; proof.split("CLAIM ").skip(1).count(), 4);
 }
 
+/// How `score` of a generated day ended.
+fn scored(alloc: Global, number: u32) -> Result<Ended, Fail>
+    requires least { 1 ≤ number }
+    requires most { number ≤ 1_000_000 }
+{
+    let files = day_files(alloc, number)?;
+    run(alloc, "score DAY.TOML P.TXT 1", &files, 0)
+}
+
+/// `demo` says this sheet and that the proof has four claims, and makes no file.
+fn expect_said(rt: &impl Abort, alloc: Global, line: &str, sheet: &str) -> Result<(), Fail> {
+    let said = joined(alloc, &[sheet, "CLAIMS 4 ACCEPTED\n"])?;
+    let ended = expect(rt, alloc, line, &[], Status::Done, &said)?;
+    assert!(rt; ended.proof.is_none());
+    Ok(())
+}
+
+/// `check` accepts this proof of a generated day.
+fn expect_accepted(rt: &impl Abort, alloc: Global, number: u32, proof: &str) -> Result<(), Fail>
+    requires least { 1 ≤ number }
+    requires most { number ≤ 1_000_000 }
+{
+    let mut files = day_files(alloc, number)?;
+    files.push(make_file(alloc, "P.TXT", &[proof])?)?;
+    let (check, accepted) = ("check DAY.TOML P.TXT", "ACCEPTED 4\n");
+    expect(rt, alloc, check, &files, Status::Done, accepted)?;
+    Ok(())
+}
+
 /// `demo` says the sheet that `score` makes of the same files, and that the proof has four claims.
 fn expect_demo(rt: &impl Abort, alloc: Global, line: &str, number: u32) -> Result<(), Fail>
     requires least { 1 ≤ number }
     requires most { number ≤ 1_000_000 }
 {
-    let mut files = day_files(alloc, number)?;
-    let scored: Ended = run(alloc, "score DAY.TOML P.TXT 1", &files, 0)?;
-    assert_eq!(rt; scored.status, Status::Done);
-    let said = joined(alloc, &[scored.said.as_str(), "CLAIMS 4 ACCEPTED\n"])?;
-    let ended = expect(rt, alloc, line, &[], Status::Done, &said)?;
-    assert!(rt; ended.proof.is_none());
-    let proof = scored.proof.unwrap_or(String::new(alloc));
+    let ended = scored(alloc, number)?;
+    assert_eq!(rt; ended.status, Status::Done);
+    expect_said(rt, alloc, line, ended.said.as_str())?;
+    let proof = ended.proof.ok_or("no proof")?;
     expect_claims(rt, &proof);
-    files.push(make_file(alloc, "P.TXT", &[proof.as_str()])?)?;
-    let (check, accepted) = ("check DAY.TOML P.TXT", "ACCEPTED 4\n");
-    expect(rt, alloc, check, &files, Status::Done, accepted)?;
-    Ok(())
+    expect_accepted(rt, alloc, number, &proof)
 }
 
 /// The generated days of the numbers 1 to 3.

@@ -1,17 +1,43 @@
-//! What of whole days isn't one answer: each call of the desk failing in turn, each first part of a
-//! proof, generated days, whose `demo` says what `score` says of their files, and two workers at
-//! work at the same time.
+//! Worked examples of judged flights, points, penalties, sheets, claims of a day and championships;
+//! what of whole days isn't one answer: each first part of a proof, and generated days, whose `demo`
+//! says what `score` says of their files; and best words, deques and workers in several threads, two
+//! of which meet at a gate.
+//! They are tests alone.
 #![tactic(auto)]
 
 #[cfg(test)]
+mod best_word;
+#[cfg(test)]
 mod checks;
+#[cfg(test)]
+mod claims;
+#[cfg(test)]
+mod day_by_two;
 #[cfg(test)]
 mod demo;
 #[cfg(test)]
-mod failures;
+mod deques;
+#[cfg(test)]
+mod flight;
 #[cfg(test)]
 mod folder;
 #[cfg(test)]
+mod generated_files;
+#[cfg(test)]
+mod judged;
+#[cfg(test)]
+mod meeting;
+#[cfg(test)]
+mod points;
+#[cfg(test)]
+mod search_by_two;
+#[cfg(test)]
+mod series;
+#[cfg(test)]
+mod sheets;
+#[cfg(test)]
 mod status;
 #[cfg(test)]
-mod two_hands;
+mod stewards;
+#[cfg(test)]
+mod stolen;

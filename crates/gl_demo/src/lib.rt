@@ -11,6 +11,3 @@ mod task;
 
 pub use day::generated_day;
 pub use task::task_name;
-
-#[cfg(test)]
-mod tests;

@@ -10,7 +10,9 @@ use gl_goal::{FreeGoal, fix_numbers};
 use gl_igc::read_igc;
 use gl_plain::{Found, search_one};
 use gl_proof::{Claim, ClaimKind, read_proof, write_claim};
+use gl_walk::Boxes;
 use std::alloc::{AllocError, Global};
+use std::process::Abort;
 use std::test::Fail;
 
 /// The claim of what a search found over five axes.
@@ -36,31 +38,67 @@ fn claim_of(alloc: Global, goal: &FreeGoal, found: Found) -> Result<Option<Claim
     }))
 }
 
-/// What a search finds is written, read and accepted.
+/// The free distance over a flight that wanders.
+fn goal_of(alloc: Global, seed: u64, fixes: u64) -> Result<FreeGoal, Fail> {
+    let recording = read_igc(alloc, &wandering(alloc, seed, fixes)?, None)?;
+    let last = recording.fixes.len() as u32 - 1;
+    Ok(FreeGoal::new(alloc, recording.fixes.as_slice(), 0, last, 1_000)?)
+}
+
+/// The claim of what a search finds.
+fn found_claim(alloc: Global, goal: &FreeGoal) -> Result<Claim, Fail>
+    ensures { IfOk result IsWritable }
+{
+    let found = search_one(alloc, goal)?;
+    let claim = claim_of(alloc, goal, found)?;
+    Ok(claim.ok_or("a claim")?)
+}
+
+/// The text of a proof with this claim.
+fn written(alloc: Global, claim: &Claim) -> Result<Vec<u8>, AllocError>
+    requires { IsWritable claim.now }
+{
+    let mut text = Vec::from_slice(alloc, b"GLIDEPROOF 2\n")?;
+    write_claim(&mut text, claim)?;
+    text.extend_from_slice(b"END\n")?;
+    Ok(text)
+}
+
+/// Whether two lists have the same boxes.
+fn are_same(alloc: Global, boxes: &Boxes, others: &Boxes) -> Result<bool, AllocError> {
+    Ok(boxes.joined(alloc)?.as_slice() == others.joined(alloc)?.as_slice())
+}
+
+/// A claim that is read is as it was written, and is accepted.
+fn compare(
+    rt: &impl Abort,
+    alloc: Global,
+    goal: &FreeGoal,
+    claim: &Claim,
+    proof: &[u8],
+) -> Result<(), Fail> {
+    let proof = read_proof(alloc, proof)?;
+    assert_eq!(rt; proof.claims.len(), 1);
+    let read = &proof.claims[0];
+    assert_eq!(rt; read.total, claim.total);
+    assert_eq!(rt; read.fixes.as_slice(), claim.fixes.as_slice());
+    assert!(rt; are_same(alloc, &read.cells, &claim.cells)?);
+    assert_eq!(rt; check_claim(alloc, goal, read)?, Verdict::Yes);
+    Ok(())
+}
+
+/// What a search finds over a goal is written, read and accepted.
+fn expect_accepted(rt: &impl Abort, alloc: Global, goal: &FreeGoal) -> Result<(), Fail> {
+    let claim = found_claim(alloc, goal)?;
+    let proof = written(alloc, &claim)?;
+    compare(rt, alloc, goal, &claim, &proof)
+}
+
 #[test]
 fn found_claims_are_accepted(rt: HostRuntime) -> Result<(), Fail> {
     for (seed, fixes) in [(1, 60), (2, 80), (3, 100)] {
-        let recording = read_igc(rt.alloc(), &wandering(rt.alloc(), seed, fixes)?, None)?;
-        let last = recording.fixes.len() as u32 - 1;
-        let goal = FreeGoal::new(rt.alloc(), recording.fixes.as_slice(), 0, last, 1_000)?;
-        let found = search_one(rt.alloc(), &goal)?;
-        let claim = claim_of(rt.alloc(), &goal, found)?.ok_or("a claim")?;
-        let mut text = Vec::from_slice(rt.alloc(), b"GLIDEPROOF 2\n")?;
-        write_claim(&mut text, &claim)?;
-        text.extend_from_slice(b"END\n")?;
-        let proof = read_proof(rt.alloc(), &text)?;
-        assert_eq!(rt; proof.claims.len(), 1);
-        let read = &proof.claims[0];
-        assert_eq!(rt; read.total, claim.total);
-        assert_eq!(rt; read.fixes.as_slice(), claim.fixes.as_slice());
-        let boxes = read.cells.joined(rt.alloc())?;
-        let found = claim.cells.joined(rt.alloc())?;
-        assert_eq!(rt; boxes.as_slice(), found.as_slice());
-        assert_eq!(rt;
-            check_claim(rt.alloc(), &goal, read)?,
-            Verdict::Yes,
-            "at seed {seed}"
-        );
+        let goal = goal_of(rt.alloc(), seed, fixes)?;
+        expect_accepted(&rt, rt.alloc(), &goal)?;
     }
     Ok(())
 }

@@ -9,7 +9,7 @@ struct Draws {
 impl Draws {
     /// A number below `bound`.
     fn below(&mut self, bound: u64) -> u64 {
-        self.state = (self.state % 0x8000_0000 * 1_103_515_245 + 12_345) % 0x8000_0000;
+        self.state = self.state.wrapping_mul(1_103_515_245).wrapping_add(12_345) % 0x8000_0000;
         self.state / 65_536 % bound.max(1)
     }
 }

@@ -53,9 +53,30 @@ fn holds_first_parts(
     Ok(true)
 }
 
-/// Each call of the desk fails in turn. The run has to end with `Desk` at that call, to have said a
-/// first part of what the whole run says, and to have left each file that was there, and a first
-/// part of each that it makes.
+/// How a run ends whose call with this number fails, if it isn't as it has to be: with `Desk` at
+/// that call, with a first part of what the whole run says, and with each file that was there and a
+/// first part of each that it makes.
+fn wrong_end<Rt: Threads + Wait + Sync>(
+    rt: &Rt,
+    alloc: Global,
+    desk: &mut MemDesk,
+    words: &str,
+    failing: u64,
+    whole: (&MemDesk, &str),
+) -> Result<Option<String>> {
+    let (right, said) = whole;
+    let mut twin = folder::twin(alloc, desk, failing)?;
+    let ended = end_of(rt, alloc, &mut twin, Line::Run(words))?;
+    let is_stopped = ended.status == Status::Desk && ended.calls == failing;
+    let is_part = said.starts_with(ended.said.as_str());
+    if is_stopped && is_part && holds_first_parts(alloc, desk, right, &mut twin)? {
+        return Ok(None);
+    }
+    let (status, said) = (ended.status, ended.said.as_str());
+    Ok(Some(format!(in alloc; "{words}: where call {failing} fails {status:?} {said:?}")?))
+}
+
+/// Each call of the desk fails in turn.
 fn failures<Rt: Threads + Wait + Sync>(
     rt: &Rt,
     alloc: Global,
@@ -65,15 +86,8 @@ fn failures<Rt: Threads + Wait + Sync>(
     let mut right = folder::twin(alloc, desk, 0)?;
     let whole = end_of(rt, alloc, &mut right, Line::Run(words))?;
     for failing in 1..=whole.calls {
-        let mut twin = folder::twin(alloc, desk, failing)?;
-        let ended = end_of(rt, alloc, &mut twin, Line::Run(words))?;
-        let is_stopped = ended.status == Status::Desk && ended.calls == failing;
-        let is_part = whole.said.as_str().starts_with(ended.said.as_str());
-        if !is_stopped || !is_part || !holds_first_parts(alloc, desk, &right, &mut twin)? {
-            let (status, said) = (ended.status, ended.said.as_str());
-            let told = format!(in alloc;
-                "{words}: where call {failing} fails {status:?} {said:?}"
-            )?;
+        let wanted = (&right, whole.said.as_str());
+        if let Some(told) = wrong_end(rt, alloc, desk, words, failing, wanted)? {
             return Ok(told);
         }
     }
@@ -96,6 +110,27 @@ fn outcome(alloc: Global, ended: &Ended, number: &str) -> Result<String> {
     Ok(format!(in alloc; "{status:?} {result} {metres}")?)
 }
 
+/// The outcome of words if a file has this text.
+fn outcome_with<Rt: Threads + Wait + Sync>(
+    rt: &Rt,
+    alloc: Global,
+    desk: &mut MemDesk,
+    file: (&Name, &str),
+    number: &str,
+    words: &str,
+) -> Result<String> {
+    let (name, text) = file;
+    let mut twin = folder::twin_but(alloc, desk, name, text)?;
+    let ended = end_of(rt, alloc, &mut twin, Line::Run(words))?;
+    outcome(alloc, &ended, number)
+}
+
+/// What a file of a folder has.
+fn text_of(alloc: Global, desk: &MemDesk, name: &Name) -> Result<String> {
+    let bytes = desk.file(name).context("no such file")?;
+    Ok(String::from_str(alloc, str::from_utf8(bytes)?)?)
+}
+
 /// Each first part of a file stands in its place in turn.
 fn prefixes<Rt: Threads + Wait + Sync>(
     rt: &Rt,
@@ -106,17 +141,14 @@ fn prefixes<Rt: Threads + Wait + Sync>(
     let (name, rest) = rest.split_once(' ').context("a file")?;
     let (number, words) = rest.split_once(' ').context("a number")?;
     let name = Name::from_text(alloc, name)?;
-    let bytes = desk.file(&name).context("no such file")?;
-    let text = String::from_str(alloc, str::from_utf8(bytes)?)?;
+    let text = text_of(alloc, desk, &name)?;
     let mut told = String::from_str(alloc, words)?;
     let mut last = String::new(alloc);
     for length in 0..=text.len() {
         let Some(part) = text.as_str().get(..length) else {
             continue;
         };
-        let mut twin = folder::twin_but(alloc, desk, &name, part)?;
-        let ended = end_of(rt, alloc, &mut twin, Line::Run(words))?;
-        let found = outcome(alloc, &ended, number)?;
+        let found = outcome_with(rt, alloc, desk, (&name, part), number, words)?;
         if found.as_str() != last.as_str() {
             let change = format!(in alloc; "\nfrom {length} bytes on {}", found.as_str())?;
             told.push_str(change.as_str())?;

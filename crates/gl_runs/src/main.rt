@@ -1,12 +1,14 @@
 //! Worked runs of the commands over folders in memory, as a program: each line of `stdin` begins a
-//! folder, gives it a file or runs words in it, and the program says what came of it. The gate
-//! compares that with `stdout`, whose answers were computed by hand or by an independent program.
+//! folder, gives it a file or runs words in it, and the program says what came of it. The last one
+//! tries the task files of `data/`. The gate compares what is said with `stdout`, whose answers were
+//! computed by hand or by an independent program.
 #![tactic(auto)]
 
 mod folder;
 mod in_turn;
 mod runs;
 mod severe;
+mod tasks;
 
 use anyhow::{Result, bail};
 use gl_desk::MemDesk;
@@ -24,6 +26,7 @@ fn obey(rt: &HostRuntime, desk: &mut MemDesk, word: &str, rest: &str) -> Result<
         "seconds" => folder::seconds(rt, desk, rest),
         "show" => folder::show(rt, desk, rest),
         "behind" => folder::behind(rt, desk, rest),
+        "tasks" => tasks::show_all(rt),
         _ => bail!("no line begins with {word}"),
     }
 }

@@ -106,26 +106,25 @@ pub fn end_of<Rt: Threads + Wait + Sync>(
     })
 }
 
-/// The first line of what was said, and whether the rest is one of the lines, which are parted by
-/// ` | `.
-fn among(alloc: Global, ended: &Ended, lines: &str) -> Result<String> {
-    let (total, fixes) = ended.said.as_str().split_once('\n').context("one line")?;
-    let lines = lines.replace(alloc, " | ", "\n")?;
-    let lines = format!(in alloc; "\n{lines}\n")?;
-    let rest = format!(in alloc; "\n{fixes}")?;
-    let is_line = !fixes.is_empty() && fixes.ends_with('\n');
-    let is_right = is_line && lines.as_str().contains(rest.as_str());
+/// Whether a text is one of the lines, which are parted by ` | `, and its end.
+fn is_among(text: &str, lines: &str) -> bool {
+    for line in lines.split(" | ") {
+        if text.strip_suffix('\n') == Some(line) {
+            return true;
+        }
+    }
+    false
+}
+
+/// The first line of what was said, and whether the rest is one of the lines.
+fn among(alloc: Global, said: &str, lines: &str) -> Result<String> {
+    let (total, fixes) = said.split_once('\n').context("one line")?;
+    let is_right = is_among(fixes, lines);
     Ok(format!(in alloc; "{total:?}, right fixes: {is_right}")?)
 }
 
-/// Runs the words of a line, and answers what the line wants to know.
-pub fn run<Rt: Threads + Wait + Sync>(
-    rt: &Rt,
-    alloc: Global,
-    desk: &mut MemDesk,
-    line: Line<'_>,
-) -> Result<String> {
-    let ended = end_of(rt, alloc, desk, line)?;
+/// What a line wants to know of a run.
+fn told(alloc: Global, line: Line<'_>, ended: &Ended) -> Result<String> {
     let words = line.words();
     let status = ended.status;
     let said = ended.said.as_str();
@@ -144,9 +143,20 @@ pub fn run<Rt: Threads + Wait + Sync>(
             format!(in alloc; "{words}: {status:?} {first:?} first")?
         }
         Line::Among(_, lines) => {
-            let among = among(alloc, &ended, lines)?;
+            let among = among(alloc, said, lines)?;
             format!(in alloc; "{words}: {status:?} {among}")?
         }
     };
     Ok(told)
+}
+
+/// Runs the words of a line, and answers what the line wants to know.
+pub fn run<Rt: Threads + Wait + Sync>(
+    rt: &Rt,
+    alloc: Global,
+    desk: &mut MemDesk,
+    line: Line<'_>,
+) -> Result<String> {
+    let ended = end_of(rt, alloc, desk, line)?;
+    told(alloc, line, &ended)
 }

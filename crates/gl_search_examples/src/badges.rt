@@ -1,6 +1,7 @@
 use gl_badge::{Course, course};
 use gl_igc::{IgcError, Recording, read_igc};
 use std::alloc::{AllocError, Global};
+use std::process::Abort;
 use std::test::Fail;
 
 /// The first lines of a recording.
@@ -41,19 +42,25 @@ fn seen(alloc: Global, heading: &str, places: &[&str]) -> Result<String, Fail> {
     Ok(told(alloc, course(alloc, &recording)?)?)
 }
 
+/// Asserts what is seen of the course of a recording.
+fn expect_seen(
+    rt: &(impl AllocGlobal + Abort),
+    heading: &str,
+    places: &[&str],
+    expected: &str,
+) -> Result<(), Fail> {
+    assert_eq!(rt; seen(rt.alloc(), heading, places)?.as_str(), expected);
+    Ok(())
+}
+
 #[test]
 fn what_is_seen_of_a_declared_course(rt: HostRuntime) -> Result<(), Fail> {
-    let undeclared = seen(rt.alloc(), "", &[])?;
-    assert_eq!(rt; undeclared.as_str(), "undeclared");
+    expect_seen(&rt, "", &[], "undeclared")?;
     let far = "C0200000N00000000E\n";
     let places = [ORIGIN, ORIGIN, far, ORIGIN, ORIGIN];
-    let missed = seen(rt.alloc(), "C010724090000010724000101\n", &places)?;
-    assert_eq!(rt; missed.as_str(), "missed 2");
-    let most = seen(rt.alloc(), "C010724090000010724000108\n", &[ORIGIN; 12])?;
-    assert_eq!(rt; most.as_str(), "lists");
-    let long = seen(rt.alloc(), "C010724090000010724000109\n", &[ORIGIN; 13])?;
-    assert_eq!(rt; long.as_str(), "long");
-    Ok(())
+    expect_seen(&rt, "C010724090000010724000101\n", &places, "missed 2")?;
+    expect_seen(&rt, "C010724090000010724000108\n", &[ORIGIN; 12], "lists")?;
+    expect_seen(&rt, "C010724090000010724000109\n", &[ORIGIN; 13], "long")
 }
 
 #[test]

@@ -43,24 +43,28 @@ fn drawn_flight(alloc: Global, seed: u32, count: u8) -> Result<Vec<Fix>, AllocEr
     Ok(fixes)
 }
 
-/// Both searches of the free distance, and both of the triangle, find the same over the fixes of a
-/// flight.
-fn compare(rt: &(impl AllocGlobal + Abort), fixes: &[Fix], loss: u16) -> Result<(), Fail>
+/// Both searches of the free distance find the same over the fixes of a flight.
+fn compare_free(rt: &(impl AllocGlobal + Abort), fixes: &[Fix], loss: u16) -> Result<(), Fail>
     requires some { 0 < length fixes.now }
     requires few { length fixes.now ≤ 255 }
 {
     let last = fixes.len() as u32 - 1;
     let free = FreeGoal::new(rt.alloc(), fixes, 0, last, i32::from(loss))?;
     let boxed = search_one(rt.alloc(), &free)?.best.map(|best| best.total);
-    assert_eq!(rt;
-        Some(best_free(rt.alloc(), &free)?.total),
-        boxed,
-        "of {fixes:?}"
-    );
+    let alone = best_free(rt.alloc(), &free)?.total;
+    assert_eq!(rt; Some(alone), boxed, "of {fixes:?}");
+    Ok(())
+}
+
+/// Both searches of the triangle find the same over the fixes of a flight.
+fn compare_triangle(rt: &(impl AllocGlobal + Abort), fixes: &[Fix]) -> Result<(), Fail>
+    requires some { 0 < length fixes.now }
+    requires few { length fixes.now ≤ 255 }
+{
+    let last = fixes.len() as u32 - 1;
     let triangle = TriangleGoal::new(rt.alloc(), fixes, 0, last, 200_000)?;
-    let boxed = search_one(rt.alloc(), &triangle)?
-        .best
-        .map(|best| best.total);
+    let found = search_one(rt.alloc(), &triangle)?;
+    let boxed = found.best.map(|best| best.total);
     let alone = best_triangle(rt.alloc(), &triangle)?.map(|best| best.total);
     assert_eq!(rt; alone, boxed, "of {fixes:?}");
     Ok(())
@@ -72,7 +76,8 @@ fn searches_with_and_without_boxes_find_the_same(rt: HostRuntime) -> Result<(), 
         for (count, loss) in [(1, 0), (3, 500), (6, 300)] {
             let fixes = drawn_flight(rt.alloc(), seed, count)?;
             if !fixes.is_empty() && fixes.len() <= 255 {
-                compare(&rt, &fixes, loss)?;
+                compare_free(&rt, &fixes, loss)?;
+                compare_triangle(&rt, &fixes)?;
             }
         }
     }

@@ -122,10 +122,15 @@ fn all_choices(alloc: Global) -> Result<String, AllocError> {
     Ok(text)
 }
 
-/// A proof that there is no triangle, with all these boxes.
-fn no_triangle(alloc: Global) -> Result<String, AllocError> {
-    let boxes = all_choices(alloc)?;
-    format!(in alloc; "GLIDEPROOF 2\nCLAIM EE TRIANGLE NONE\n{boxes}END\n")
+/// What is said of the claim, with these 64 boxes, that there is no triangle.
+fn said_of_none(alloc: Global, goal: &TriangleGoal, boxes: &str) -> Result<Verdict, Fail> {
+    let text = format!(in alloc; "GLIDEPROOF 2\nCLAIM EE TRIANGLE NONE\n{boxes}END\n")?;
+    let proof = read_proof(alloc, text.as_bytes())?;
+    let claim = proof.claims.first().ok_or("a claim")?;
+    if claim.cells.joined(alloc)?.len() != 64 {
+        return Err("64 boxes")?;
+    }
+    Ok(check_claim(alloc, goal, claim)?)
 }
 
 /// A flight from the origin by two degrees east, and by 2.7 degrees north and half a degree east,
@@ -147,10 +152,8 @@ fn no_box_shuts_a_large_triangle_out(rt: HostRuntime) -> Result<(), Fail> {
         fix_on(Grid { lat: 0, lon: 0 }),
     ];
     let goal = TriangleGoal::new(rt.alloc(), &fixes, 0, 3, 100_000)?;
-    let text = no_triangle(rt.alloc())?;
-    let proof = read_proof(rt.alloc(), text.as_bytes())?;
-    let claim = proof.claims.first().ok_or("a claim")?;
-    assert_eq!(rt; claim.cells.joined(rt.alloc())?.len(), 64);
-    assert_eq!(rt; check_claim(rt.alloc(), &goal, claim)?, Verdict::Cell(11));
+    let boxes = all_choices(rt.alloc())?;
+    let verdict = said_of_none(rt.alloc(), &goal, boxes.as_str())?;
+    assert_eq!(rt; verdict, Verdict::Cell(11));
     Ok(())
 }

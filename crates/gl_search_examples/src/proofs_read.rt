@@ -183,21 +183,26 @@ fn a_claim_is_written(rt: HostRuntime) -> Result<(), Fail> {
     Ok(())
 }
 
-#[test]
-fn boxes_of_several_lists_are_written_one_after_the_other(rt: HostRuntime) -> Result<(), Fail> {
-    let mut cells = Boxes::empty(rt.alloc());
+/// Three equal boxes in three lists.
+fn three_boxes(alloc: Global) -> Result<Boxes, AllocError> {
+    let mut cells = Boxes::empty(alloc);
     for apart in [false, true, true] {
         if apart {
             cells.begin_list()?;
         }
         cells.push(first_box())?;
     }
+    Ok(cells)
+}
+
+#[test]
+fn boxes_of_several_lists_are_written_one_after_the_other(rt: HostRuntime) -> Result<(), Fail> {
     let claim = Claim {
         number: Name::from_text(rt.alloc(), "CC")?,
         kind: ClaimKind::Out,
         total: None,
         fixes: Vec::new(rt.alloc()),
-        cells,
+        cells: three_boxes(rt.alloc())?,
     };
     let mut text = Vec::new(rt.alloc());
     write_claim(&mut text, &claim)?;
