@@ -106,20 +106,15 @@ pub fn end_of<Rt: Threads + Wait + Sync>(
     })
 }
 
-/// Whether a text is one of the lines, which are parted by ` | `, and its end.
-fn is_among(text: &str, lines: &str) -> bool {
-    for line in lines.split(" | ") {
-        if text.strip_suffix('\n') == Some(line) {
-            return true;
-        }
-    }
-    false
-}
-
-/// The first line of what was said, and whether the rest is one of the lines.
+/// The first line of what was said, and whether the rest is among the lines, which are parted by
+/// ` | `.
 fn among(alloc: Global, said: &str, lines: &str) -> Result<String> {
     let (total, fixes) = said.split_once('\n').context("one line")?;
-    let is_right = is_among(fixes, lines);
+    let lines = lines.replace(alloc, " | ", "\n")?;
+    let lines = format!(in alloc; "\n{lines}\n")?;
+    let rest = format!(in alloc; "\n{fixes}")?;
+    let is_line = !fixes.is_empty() && fixes.ends_with('\n');
+    let is_right = is_line && lines.as_str().contains(rest.as_str());
     Ok(format!(in alloc; "{total:?}, right fixes: {is_right}")?)
 }
 
