@@ -7,10 +7,10 @@ use Rattle.gl_desk.specs.Answers.{OnlyReads, stop_of}
 use Rattle.gl_desk.specs.Desk.{Told}
 use Rattle.gl_desk.specs.declared.error.DeskError.{DeskError}
 use Rattle.gl_desk.specs.declared.error.DeskError.TheVariants.{Failed, Memory}
-use Rattle.gl_refusals.specs.declared.halt.Halt.{Halt}
-use Rattle.gl_refusals.specs.declared.halt.Halt.TheVariants.{Refused, Stopped}
-use Rattle.gl_refusals.specs.FileTests.{FileTest, HasTested}
-use Rattle.gl_refusals.proofs.ReadsTwice.{reads_twice}
+use Rattle.gl_answer.specs.declared.halt.Halt.{Halt}
+use Rattle.gl_answer.specs.declared.halt.Halt.TheVariants.{Refused, Stopped}
+use Rattle.gl_answer.specs.FileTests.{FileTest, HasTested}
+use Rattle.gl_answer.proofs.ReadsTwice.{reads_twice}
 use Rattle.gl_answer.specs.declared.answer.Answer as code
 use Rattle.gl_answer.specs.declared.status.Status.{Status}
 use Rattle.gl_answer.specs.declared.status.Status.TheVariants.{Done}

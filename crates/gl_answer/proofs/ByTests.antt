@@ -1,8 +1,8 @@
 -- The laws of an answer by tests, from those of what the files give.
 use Rattle.std.proofs.Common.{◌≢◌, inl, inr, List, Option, None, Some}
 use Rattle.gl_desk.specs.Desk.{FilesByName}
-use Rattle.gl_refusals.specs.FileTests.{FileTest}
-use Rattle.gl_refusals.proofs.FileTests.{AreDecided, AreNamed, none_fails, refusal_named}
+use Rattle.gl_answer.specs.FileTests.{FileTest}
+use Rattle.gl_answer.proofs.FileTests.{AreDecided, AreNamed, none_fails, refusal_named}
 use Rattle.gl_answer.specs.declared.status.Status.TheVariants as status
 use Rattle.gl_answer.specs.Answer.{Answer}
 use Rattle.gl_answer.specs.ByTests.{IsByTests, PassByTests}

@@ -4,3 +4,8 @@ pub mod ByTests
 pub mod LineTexts
 pub mod Promises
 pub mod Runs
+pub mod FileTests
+pub mod Listing
+pub mod Pourings
+pub mod ReadsTwice
+pub mod SameFiles

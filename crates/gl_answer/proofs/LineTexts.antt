@@ -6,9 +6,9 @@ use Rattle.std.proofs.lemmas.List.Folds.{list_all-append}
 use Rattle.std.proofs.lemmas.List.Sums.{AllPass-from_list_all}
 use Rattle.std.proofs.lemmas.List.Elements.{All-contains}
 use Rattle.gl_text.proofs.Forms.{is_inside, is_unbroken}
-use Rattle.gl_refusals.specs.declared.refusal.Cause.{Cause}
-use Rattle.gl_refusals.specs.declared.refusal.Cause.TheVariants.{NotListed, Listed, TooLarge, NotIgc, NoDate, TooManyFixes, NoFix, NotToml, NoKey, WrongValue, NumberTwice, TooManyItems, WrongAirspace, TooMuchAirspace, WrongStep, TooManySteps, NoHeading, WrongProof, ProofCut, WrongDay, NoNearHeading, WrongNearProof, NearProofCut, NoListHeading, NoSheetHeading, WrongListLine, WrongRecord}
-use Rattle.gl_refusals.specs.Refusals.{Parts, Place, Nowhere, AtLine, AtRecord, AtKey, parts_of, place_text, line_with, refusal_line, file_refusal}
+use Rattle.gl_answer.specs.declared.refusal.Cause.{Cause}
+use Rattle.gl_answer.specs.declared.refusal.Cause.TheVariants.{NotListed, Listed, TooLarge, NotIgc, NoDate, TooManyFixes, NoFix, NotToml, NoKey, WrongValue, NumberTwice, TooManyItems, WrongAirspace, TooMuchAirspace, WrongStep, TooManySteps, NoHeading, WrongProof, ProofCut, WrongDay, NoNearHeading, WrongNearProof, NearProofCut, NoListHeading, NoSheetHeading, WrongListLine, WrongRecord}
+use Rattle.gl_answer.specs.Refusals.{Parts, Place, Nowhere, AtLine, AtRecord, AtKey, parts_of, place_text, line_with, refusal_line, file_refusal}
 use Rattle.gl_answer.specs.Answer.{Answer, refused}
 use Rattle.gl_answer.specs.Texts.{IsLine, wrong_line}
 

@@ -1,6 +1,6 @@
 -- What holds of each promise: the laws that a command's own file proves.
 use Rattle.std.proofs.Common.{◌≡◌, ◌≢◌, ◌∙◌, sym, ap, ℕ, ◌⊎◌, inl, inr, List, take, None}
-use Rattle.gl_refusals.specs.declared.refusal.Cause.{Cause}
+use Rattle.gl_answer.specs.declared.refusal.Cause.{Cause}
 use Rattle.gl_answer.specs.declared.status.Status.{Status}
 use Rattle.gl_answer.specs.declared.status.Status.TheVariants.{Done, Words, Refused, NotProved}
 use Rattle.gl_answer.specs.Answer.{Answer, refused}

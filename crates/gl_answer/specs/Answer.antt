@@ -4,10 +4,10 @@ use Rattle.std.specs.declared.alloc.AllocError.{AllocError}
 use Rattle.std.specs.declared.alloc.Global.{Global}
 use Rattle.gl_desk.specs.declared.error.DeskError.{DeskError}
 use Rattle.gl_desk.specs.declared.error.DeskError.TheVariants.{Memory}
-use Rattle.gl_refusals.specs.declared.refusal.Cause.{Cause}
-use Rattle.gl_refusals.specs.declared.halt.Halt.{Halt}
-use Rattle.gl_refusals.specs.declared.halt.Halt.TheVariants as halt
-use Rattle.gl_refusals.specs.Refusals.{refusal_line, file_refusal}
+use Rattle.gl_answer.specs.declared.refusal.Cause.{Cause}
+use Rattle.gl_answer.specs.declared.halt.Halt.{Halt}
+use Rattle.gl_answer.specs.declared.halt.Halt.TheVariants as halt
+use Rattle.gl_answer.specs.Refusals.{refusal_line, file_refusal}
 use Rattle.gl_answer.specs.declared.answer.Answer as code
 use Rattle.gl_answer.specs.declared.status.Status.{Status}
 use Rattle.gl_answer.specs.declared.status.Status.TheVariants.{Done, Refused}

@@ -1,8 +1,8 @@
 -- An answer by the tests of a command's files.
 use Rattle.std.specs.Prelude.{◌≡◌, ◌⊎◌, List, Option, Some}
 use Rattle.gl_desk.specs.Desk.{FilesByName}
-use Rattle.gl_refusals.specs.declared.refusal.Refusal.{Refusal}
-use Rattle.gl_refusals.specs.FileTests.{FileTest, AllPass, FirstFails}
+use Rattle.gl_answer.specs.declared.refusal.Refusal.{Refusal}
+use Rattle.gl_answer.specs.FileTests.{FileTest, AllPass, FirstFails}
 use Rattle.gl_answer.specs.Answer.{Answer, refused}
 use Rattle.gl_answer.specs.Promise.{IsTold}
 

@@ -7,3 +7,9 @@ pub mod Promise
 pub mod Run
 pub mod Statuses
 pub mod Texts
+pub mod Code
+pub mod FileTests
+pub mod Halts
+pub mod Pouring
+pub mod ReadFiles
+pub mod Refusals

@@ -1,9 +1,11 @@
 ghost use Rattle.std.specs.Prelude.{◌≡◌, IfOk};
 ghost use Rattle.gl_answer.specs.Answer.{AnswersHalt, SaysDone, answer_of, refused};
 
+use crate::halt::Halt;
+use crate::line::refusal_line;
+use crate::refusal::Cause;
 use crate::status::Status;
 use gl_desk::{DeskError, Name};
-use gl_refusals::{Cause, Halt, refusal_line};
 use std::alloc::{AllocError, Global};
 
 /// What a run ends with: the status, and the text that it says. Nothing is appended.

@@ -1,1 +1,6 @@
 pub mod Rights
+pub mod BadgeLaws
+pub mod Badges
+pub mod DemoLaws
+pub mod DemoTask
+pub mod Demos

@@ -4,7 +4,7 @@ use Rattle.std.specs.Prelude.{◌↔◌, IfErr, IfNone, IfOk, IsNone, IsSome}
 use Rattle.gl_desk.specs.Desk.{FilesByName, Told}
 use Rattle.gl_desk.specs.declared.error.DeskError.{DeskError}
 use Rattle.gl_day.specs.Flight.{StewardRules}
-use Rattle.gl_day_words.specs.DayWords.{DayCommand}
+use Rattle.gl_words.specs.DayWords.{DayCommand}
 use Rattle.gl_words.specs.Words.{Badge, BadgeCheck, Command, Demo, Free, Near, NearCheck, Point, Replay, Series, Triangle}
 use Rattle.gl_words.proofs.CommandNames.{HasUnbrokenNames}
 use Rattle.gl_answer.specs.declared.answer.Answer as code
@@ -15,8 +15,8 @@ use Rattle.gl_answer.specs.Run.{IsRunOf}
 use Rattle.gl_answer.specs.Statuses.{stop_at}
 use Rattle.gl_answer.proofs.Promises.{IsLawful}
 use Rattle.gl_answer.proofs.Runs.{HasRunLaws, lawful_runs, no_command_runs}
-use Rattle.gl_claims.proofs.BadgeLaws.{badge_check_lawful, badge_lawful}
-use Rattle.gl_claims.proofs.DemoLaws.{demo_lawful}
+use Rattle.gl_app.proofs.BadgeLaws.{badge_check_lawful, badge_lawful}
+use Rattle.gl_app.proofs.DemoLaws.{demo_lawful}
 use Rattle.gl_flights.specs.Free.{IsFreeText}
 use Rattle.gl_flights.specs.Near.{IsPointText}
 use Rattle.gl_flights.specs.Triangle.{IsTriangleText}

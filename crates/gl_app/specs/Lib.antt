@@ -1,1 +1,4 @@
 pub mod Run
+pub mod Badge
+pub mod Code
+pub mod Demo

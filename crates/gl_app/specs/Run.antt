@@ -2,13 +2,13 @@
 use Rattle.std.specs.Prelude.{ℕ, IsNone, List, Option, None, Some}
 use Rattle.gl_desk.specs.Desk.{FilesByName, Told}
 use Rattle.gl_day.specs.Flight.{StewardRules}
-use Rattle.gl_day_words.specs.DayWords.{DayCommand, day_command_of}
+use Rattle.gl_words.specs.DayWords.{DayCommand, day_command_of}
 use Rattle.gl_words.specs.Words.{Badge, BadgeCheck, Command, Demo, Free, Near, NearCheck, Point, Replay, Series, Triangle, command_of}
 use Rattle.gl_answer.specs.declared.status.Status.{Status}
 use Rattle.gl_answer.specs.Promise.{Promise, no_command}
 use Rattle.gl_answer.specs.Run.{IsRunOf}
-use Rattle.gl_claims.specs.Badge.{badge_check_promise, badge_promise}
-use Rattle.gl_claims.specs.Demo.{demo_promise}
+use Rattle.gl_app.specs.Badge.{badge_check_promise, badge_promise}
+use Rattle.gl_app.specs.Demo.{demo_promise}
 use Rattle.gl_flights.specs.Free.{free_promise}
 use Rattle.gl_flights.specs.Near.{near_check_promise, near_promise, point_promise}
 use Rattle.gl_flights.specs.Replay.{replay_promise}

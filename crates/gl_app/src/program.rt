@@ -9,7 +9,7 @@ use gl_answer::Status;
 use gl_day_app::{Ending, names_given};
 use gl_desk::{Desk, HostDesk, Name};
 use gl_pool::OpenGate;
-use gl_steward::{Ceiling, EngineNoise, Steward};
+use gl_task::{Ceiling, EngineNoise, Steward};
 use std::alloc::{AllocError, Global};
 use std::env::Args;
 use std::process::ExitCode;

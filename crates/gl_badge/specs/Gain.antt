@@ -3,7 +3,7 @@
 use Rattle.std.specs.Prelude.{◌≡◌, ℕ, ◌≤◌, true, false, List, [], ◌∷◌, length, slice_get, Some, ℤ, pos, ◌-ℤ◌, unsigned_abs}
 use Rattle.std.specs.Int.{int_max}
 use Rattle.gl_igc.specs.declared.fix.Fix.{Fix}
-use Rattle.gl_hull.specs.Box.{Box}
+use Rattle.gl_goal.specs.Box.{Box}
 use Rattle.gl_goal.specs.Chain.{fixes_at, hulls_of, last_of}
 use Rattle.gl_goal.specs.Free.{numbers_from}
 use Rattle.gl_goal.specs.Goal.{Goal}

@@ -1,6 +1,6 @@
 ghost use Rattle.std.specs.Prelude.{◌≤◌, length};
 
-use gl_hull::Hulls;
+use gl_goal::Hulls;
 
 /// The gain of height over all fixes of a recording: two fixes in time order, worth the metres by
 /// which the second is higher than the first, and 0 where it isn't.

@@ -7,8 +7,7 @@ ghost use Rattle.gl_badge.specs.Lemmas.Gain.{gain_goal-is_goal};
 
 use crate::gain::GainGoal;
 use gl_box::{Cell, Span, Tuple};
-use gl_goal::{Goal, Leg};
-use gl_hull::Hulls;
+use gl_goal::{Goal, Hulls, Leg};
 use gl_igc::Fix;
 use std::alloc::{AllocError, Global};
 

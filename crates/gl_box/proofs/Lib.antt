@@ -5,3 +5,6 @@ pub mod Parts
 pub mod Singles
 pub mod Spans
 pub mod Work
+pub mod Exact
+pub mod Frontiers
+pub mod Passed

@@ -1,17 +1,28 @@
 //! Boxes of choices: on each axis a span of places. A cell is cut into halves, again and again, and
-//! the cells that are left part its tuples: each tuple lies in exactly one of them.
+//! the cells that are left part its tuples: each tuple lies in exactly one of them. The walk over
+//! boxes along this tree tells whether boxes in their order part a whole cell by splits, or which of
+//! them is the first that doesn't stand where it must.
 #![tactic(auto)]
 
+mod boxed;
 mod cell;
 mod closed;
+mod cut;
 mod halves;
 mod holding;
+mod lists;
+mod passage;
 mod span;
 mod tuple;
+mod walk;
 
+pub use boxed::Boxed;
 pub use cell::Cell;
 pub use closed::{Closed, Why};
 pub use halves::{halve, split, widest};
 pub use holding::{covers, has};
+pub use lists::{Boxes, all_boxes};
+pub use passage::{WalkEnd, Walked, number_of, walk_along};
 pub use span::Span;
 pub use tuple::{MOST_AXES, Tuple};
+pub use walk::go_down;

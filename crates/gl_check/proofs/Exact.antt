@@ -1,8 +1,8 @@
 -- A claim gets one verdict.
 use Rattle.std.proofs.Common.{◌≡◌, ◌∙◌, sym, ap, refl, ℕ, List, Option, Some, None}
 use Rattle.gl_box.specs.declared.closed.Why.{Why}
-use Rattle.gl_walk.specs.Boxes.{Said, NoneWrong, ExtraBox, StrayBox, UnclosedBox, Unfinished}
-use Rattle.gl_walk.proofs.Exact.{said_unique}
+use Rattle.gl_box.specs.Boxes.{Said, NoneWrong, ExtraBox, StrayBox, UnclosedBox, Unfinished}
+use Rattle.gl_box.proofs.Exact.{said_unique}
 use Rattle.gl_goal.specs.Goal.{Goal, whole_cell}
 use Rattle.gl_goal.specs.Certificate.{IsClaimed}
 use Rattle.gl_check.specs.declared.verdict.Verdict.{Verdict}

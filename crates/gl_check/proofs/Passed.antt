@@ -6,10 +6,10 @@ use Rattle.gl_box.specs.declared.closed.Closed.{Closed}
 use Rattle.gl_box.specs.declared.closed.Why.{Why}
 use Rattle.gl_box.specs.Cell.{Covers, spans_of}
 use Rattle.gl_box.specs.Closed.{box_of}
-use Rattle.gl_walk.specs.Boxes.{BeginWhole, Begins, IsPlaced}
-use Rattle.gl_walk.specs.Walk.{AreFrontiers, IsWalked}
-use Rattle.gl_walk.proofs.Frontiers.{walked_begins, walked_open, walked_out}
-use Rattle.gl_walk.proofs.Passed.{cells_more, placed_covered, walked_more}
+use Rattle.gl_box.specs.Boxes.{BeginWhole, Begins, IsPlaced}
+use Rattle.gl_box.specs.Walk.{AreFrontiers, IsWalked}
+use Rattle.gl_box.proofs.Frontiers.{walked_begins, walked_open, walked_out}
+use Rattle.gl_box.proofs.Passed.{cells_more, placed_covered, walked_more}
 use Rattle.gl_check.specs.Verdict.{cells_of}
 
 pub length-cells : (cells : List Closed) → length (cells_of (map box_of cells)) ≡ length cells

@@ -2,7 +2,7 @@
 use Rattle.std.proofs.Common.{◌≡◌, ◌∙◌, sym, ap, ℕ, List, length, Option, arith}
 use Rattle.std.proofs.lemmas.List.{length-map}
 use Rattle.gl_box.specs.declared.closed.Why.{Why}
-use Rattle.gl_walk.specs.Boxes.{Said, NoneWrong, ExtraBox, StrayBox, UnclosedBox, Unfinished}
+use Rattle.gl_box.specs.Boxes.{Said, NoneWrong, ExtraBox, StrayBox, UnclosedBox, Unfinished}
 use Rattle.gl_goal.specs.Goal.{Goal, IsReached, chosen, value}
 use Rattle.gl_goal.specs.Certificate.{IsCertificate, IsClaimed}
 use Rattle.gl_check.specs.declared.verdict.Verdict.{Verdict}

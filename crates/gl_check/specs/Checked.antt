@@ -4,7 +4,7 @@ use Rattle.gl_box.specs.Closed.{box_of}
 use Rattle.gl_goal.specs.Goal.{Goal}
 use Rattle.gl_goal.specs.Certificate.{IsCertificate}
 use Rattle.gl_proof.specs.declared.claim.Claim.{Claim}
-use Rattle.gl_walk.specs.InLists.{boxes_in}
+use Rattle.gl_box.specs.InLists.{boxes_in}
 use Rattle.gl_check.specs.declared.verdict.Verdict.{Verdict}
 use Rattle.gl_check.specs.Verdict.{IsVerdict}
 

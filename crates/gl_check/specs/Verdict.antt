@@ -2,7 +2,7 @@
 use Rattle.std.specs.Prelude.{◌≡◌, ◌≢◌, ℕ, List, map, Option, IsSomeAnd}
 use Rattle.std.specs.List.{HoldsAt}
 use Rattle.gl_box.specs.declared.closed.Why.{Why}
-use Rattle.gl_walk.specs.Boxes.{IsSaid, Said, ExtraBox, StrayBox, UnclosedBox, Unfinished}
+use Rattle.gl_box.specs.Boxes.{IsSaid, Said, ExtraBox, StrayBox, UnclosedBox, Unfinished}
 use Rattle.gl_goal.specs.Goal.{Goal, IsLegal, chosen, value, whole_cell}
 use Rattle.gl_goal.specs.Certificate.{IsCertificate, IsClaimed, IsClosedFor}
 use Rattle.gl_check.specs.declared.verdict.Verdict.{Verdict}

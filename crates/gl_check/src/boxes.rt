@@ -3,14 +3,13 @@ ghost use Rattle.gl_box.specs.Cell.{Covers, spans_of};
 ghost use Rattle.gl_box.specs.Closed.{box_of};
 ghost use Rattle.gl_goal.specs.Goal.{whole_cell};
 ghost use Rattle.gl_goal.specs.Certificate.{IsClaimed, IsClosedFor};
-ghost use Rattle.gl_walk.specs.InLists.{boxes_in};
-ghost use Rattle.gl_walk.specs.Walk.{IsWalked, open_cells};
+ghost use Rattle.gl_box.specs.InLists.{boxes_in};
+ghost use Rattle.gl_box.specs.Walk.{IsWalked, open_cells};
 ghost use Rattle.gl_check.specs.Verdict.{IsVerdict};
 
 use crate::verdict::Verdict;
-use gl_box::{Cell, Closed, Why};
+use gl_box::{Boxes, Cell, Closed, Why, go_down, number_of};
 use gl_goal::{Goal, Leg, measured_legs, whole};
-use gl_walk::{Boxes, go_down, number_of};
 use std::alloc::{AllocError, Global};
 
 /// Room for open cells: each cut adds one, and a cell can be cut at most 32 times on each axis.

@@ -3,7 +3,7 @@ ghost use Rattle.gl_box.specs.Cell.{Holds};
 ghost use Rattle.gl_box.specs.Closed.{box_of};
 ghost use Rattle.gl_box.specs.Frontier.{mult};
 ghost use Rattle.gl_goal.specs.Goal.{IsOptimum, whole_cell};
-ghost use Rattle.gl_walk.specs.InLists.{boxes_in};
+ghost use Rattle.gl_box.specs.InLists.{boxes_in};
 ghost use Rattle.gl_check.specs.Checked.{IsCertified, IsCheckedAs};
 ghost use Rattle.gl_check.specs.declared.verdict.Verdict.{Verdict};
 ghost use Rattle.gl_check.specs.declared.verdict.Verdict.TheVariants.{Yes};

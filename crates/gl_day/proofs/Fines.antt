@@ -3,7 +3,7 @@ use Rattle.std.proofs.Common.{◌≡◌, ◌∙◌, ap, refl, ℕ, List, [], ◌
 use mathlib.Core.Path.{fun_ext}
 use Rattle.std.specs.List.{AllZip}
 use Rattle.gl_igc.specs.declared.fix.Fix.{Fix}
-use Rattle.gl_steward.specs.Penalty.{KeepsRules, held_after, penalty}
+use Rattle.gl_task.specs.Penalty.{KeepsRules, held_after, penalty}
 use Rattle.gl_task.specs.declared.task.LocalRules.{LocalRules}
 use Rattle.gl_day.specs.Flight.{StewardRules, owed_for, steward_rules}
 

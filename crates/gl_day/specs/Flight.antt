@@ -15,7 +15,7 @@ use Rattle.gl_judge.specs.Claims.{AreExpected}
 use Rattle.gl_judge.specs.Marking.{IsMarked}
 use Rattle.gl_judge.specs.Outcome.{IsJudged}
 use Rattle.gl_proof.specs.Claim.{Statement}
-use Rattle.gl_steward.specs.Penalty.{held_after, penalty}
+use Rattle.gl_task.specs.Penalty.{held_after, penalty}
 use Rattle.gl_task.specs.declared.task.Entrant.{Entrant}
 use Rattle.gl_task.specs.declared.task.LocalRules.{LocalRules}
 use Rattle.gl_task.specs.declared.task.Task.{Task}

@@ -12,8 +12,7 @@ use crate::totals::Totals;
 use gl_igc::{Fix, Recording};
 use gl_judge::{Judged, Window, mark};
 use gl_sheet::Outcome;
-use gl_steward::{Steward, fine};
-use gl_task::{Entrant, Task};
+use gl_task::{Entrant, Steward, Task, fine};
 
 /// The fixes of a window, from its first to its last.
 fn window_fixes(rec: &Recording, window: Window) -> &[Fix]

@@ -3,8 +3,8 @@ use Rattle.std.proofs.Common.{List, Option, None, Some, refl}
 use Rattle.std.specs.Prelude.{IsNone}
 use Rattle.gl_desk.specs.Desk.{FilesByName}
 use Rattle.gl_day.specs.Flight.{StewardRules}
-use Rattle.gl_day_words.specs.DayWords.{Check, DayCommand, Score}
-use Rattle.gl_day_words.proofs.CommandNames.{HasUnbrokenDay}
+use Rattle.gl_words.specs.DayWords.{Check, DayCommand, Score}
+use Rattle.gl_words.proofs.DayCommandNames.{HasUnbrokenDay}
 use Rattle.gl_answer.proofs.Promises.{IsLawful}
 use Rattle.gl_answer.proofs.Runs.{HasRunLaws, lawful_runs, no_command_runs}
 use Rattle.gl_day_claims.proofs.CheckLaws.{check_lawful}

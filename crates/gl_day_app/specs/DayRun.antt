@@ -2,7 +2,7 @@
 use Rattle.std.specs.Prelude.{ℕ, IsNone, List, Option, None, Some}
 use Rattle.gl_desk.specs.Desk.{FilesByName, Told}
 use Rattle.gl_day.specs.Flight.{StewardRules}
-use Rattle.gl_day_words.specs.DayWords.{Check, DayCommand, Score, day_command_of}
+use Rattle.gl_words.specs.DayWords.{Check, DayCommand, Score, day_command_of}
 use Rattle.gl_answer.specs.declared.status.Status.{Status}
 use Rattle.gl_answer.specs.Promise.{Promise, no_command}
 use Rattle.gl_answer.specs.Run.{IsRunOf}

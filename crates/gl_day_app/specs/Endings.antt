@@ -10,8 +10,8 @@ use Rattle.std.specs.declared.io.Error.{Error}
 use Rattle.std.specs.declared.io.ErrorKind.TheVariants.{OutOfMemory}
 use Rattle.gl_desk.specs.Desk.{Told}
 use Rattle.gl_day.specs.Flight.{StewardRules, steward_rules}
-use Rattle.gl_steward.specs.Ceiling.{ceiling_fed, ceiling_opening, ceiling_owed}
-use Rattle.gl_steward.specs.EngineNoise.{noise_fed, noise_opening, noise_owed}
+use Rattle.gl_task.specs.Ceiling.{ceiling_fed, ceiling_opening, ceiling_owed}
+use Rattle.gl_task.specs.EngineNoise.{noise_fed, noise_opening, noise_owed}
 use Rattle.gl_answer.specs.declared.status.Status.{Status}
 use Rattle.gl_answer.specs.Statuses.{number_of_status}
 use Rattle.gl_day_app.specs.declared.program.Ending.{Ending}

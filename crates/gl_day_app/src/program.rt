@@ -10,7 +10,7 @@ use crate::running::run_day;
 use gl_answer::Status;
 use gl_desk::{Desk, HostDesk, Name};
 use gl_pool::OpenGate;
-use gl_steward::{Ceiling, EngineNoise, Steward};
+use gl_task::{Ceiling, EngineNoise, Steward};
 use std::alloc::{AllocError, Global};
 use std::env;
 use std::env::Args;

@@ -4,10 +4,10 @@ ghost use Rattle.gl_goal.specs.AnyGoal.{any_rule};
 ghost use Rattle.gl_plain.specs.Answer.{IsAnswer};
 
 use gl_day::Search;
-use gl_day_words::Workers;
 use gl_goal::AnyGoal;
 use gl_plain::Found;
 use gl_pool::{Gate, search_many};
+use gl_words::Workers;
 use std::alloc::{AllocError, Global};
 use std::sync::Wait;
 use std::thread::Threads;

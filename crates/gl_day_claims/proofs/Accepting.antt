@@ -12,19 +12,19 @@ use Rattle.gl_day.specs.declared.fault.Checked.{Checked}
 use Rattle.gl_day.specs.declared.fault.Checked.TheVariants as checked
 use Rattle.gl_day.specs.Flight.{StewardRules}
 use Rattle.gl_day.proofs.Foreign.{proof_is_no_recording}
-use Rattle.gl_day_words.specs.DayWords.{DayNames}
+use Rattle.gl_words.specs.DayWords.{DayNames}
 use Rattle.gl_day_files.specs.declared.day_files.DayFiles.{DayFiles}
-use Rattle.gl_refusals.specs.declared.refusal.Refusal.{Refusal}
+use Rattle.gl_answer.specs.declared.refusal.Refusal.{Refusal}
 use Rattle.gl_day_files.specs.DayFiles.{IsAirspaceSeen, IsScoreRead, IsScoreSeen, ScoreSeen, airspace_file, airspace_tests, check_tests, score_tests, task_tests}
-use Rattle.gl_refusals.specs.FileTests.{AllPass, FirstFails, ProofText, most_proof_bytes, text_tests}
-use Rattle.gl_refusals.proofs.FileTests.{all_pass, none_fails}
+use Rattle.gl_answer.specs.FileTests.{AllPass, FirstFails, ProofText, most_proof_bytes, text_tests}
+use Rattle.gl_answer.proofs.FileTests.{all_pass, none_fails}
 use Rattle.gl_day_files.proofs.DayDecided.{check_decided}
 use Rattle.gl_day_files.proofs.OneDay.{day_one, seen_one}
-use Rattle.gl_refusals.proofs.SameFiles.{still}
-use Rattle.gl_tally.specs.DayChecked.{IsDayChecked}
-use Rattle.gl_tally.specs.Scored.{statements_of_all}
-use Rattle.gl_tally.proofs.Flights.{all_asked}
-use Rattle.gl_tally.proofs.DayAccepted.{all_moved, day_accepted}
+use Rattle.gl_answer.proofs.SameFiles.{still}
+use Rattle.gl_day_claims.specs.DayChecked.{IsDayChecked}
+use Rattle.gl_day_claims.specs.Scored.{statements_of_all}
+use Rattle.gl_day_claims.proofs.Flights.{all_asked}
+use Rattle.gl_day_claims.proofs.DayAccepted.{all_moved, day_accepted}
 use Rattle.gl_answer.specs.declared.status.Status.{Status}
 use Rattle.gl_answer.specs.declared.status.Status.TheVariants as status
 use Rattle.gl_answer.specs.Answer.{Answer}

@@ -3,10 +3,10 @@ use Rattle.std.proofs.Common.{◌≡◌, ◌≢◌, ap, ◌⊎◌, inl, inr, Opt
 use Rattle.gl_desk.specs.Desk.{FilesByName}
 use Rattle.gl_day.specs.declared.fault.Checked.{Checked}
 use Rattle.gl_day.specs.declared.fault.Checked.TheVariants as checked
-use Rattle.gl_day_words.specs.DayWords.{DayNames}
-use Rattle.gl_day_words.proofs.Unbroken.{AreUnbroken}
+use Rattle.gl_words.specs.DayWords.{DayNames}
+use Rattle.gl_words.proofs.UnbrokenNames.{AreUnbroken}
 use Rattle.gl_day_files.specs.DayFiles.{IsScoreSeen, ScoreSeen, check_tests}
-use Rattle.gl_refusals.specs.FileTests.{most_proof_bytes}
+use Rattle.gl_answer.specs.FileTests.{most_proof_bytes}
 use Rattle.gl_day_files.proofs.DayDecided.{check_decided}
 use Rattle.gl_day_files.proofs.DayRefusals.{check_named}
 use Rattle.gl_answer.specs.declared.status.Status.TheVariants.{Done, NotProved}

@@ -16,20 +16,20 @@ use Rattle.gl_proof.specs.declared.version.Version.TheVariants.{Two}
 use Rattle.gl_day.specs.declared.fault.Checked.{Checked}
 use Rattle.gl_day.specs.Expected.{Proves}
 use Rattle.gl_day.specs.Flight.{StewardRules}
-use Rattle.gl_day_words.specs.DayWords.{DayNames}
+use Rattle.gl_words.specs.DayWords.{DayNames}
 use Rattle.gl_day_files.specs.declared.day_files.DayFiles.{DayFiles}
-use Rattle.gl_refusals.specs.declared.halt.Halt.{Halt}
-use Rattle.gl_refusals.specs.declared.halt.Halt.TheVariants.{Refused, Stopped}
+use Rattle.gl_answer.specs.declared.halt.Halt.{Halt}
+use Rattle.gl_answer.specs.declared.halt.Halt.TheVariants.{Refused, Stopped}
 use Rattle.gl_day_files.specs.DayFiles.{IsCheckRead, IsScoreRead, IsScoreSeen, check_tests, score_tests}
-use Rattle.gl_refusals.specs.FileTests.{HasTested}
-use Rattle.gl_refusals.specs.Halts.{halt_stop}
-use Rattle.gl_refusals.proofs.ReadsTwice.{reads_twice}
+use Rattle.gl_answer.specs.FileTests.{HasTested}
+use Rattle.gl_answer.specs.Halts.{halt_stop}
+use Rattle.gl_answer.proofs.ReadsTwice.{reads_twice}
 use Rattle.gl_answer.specs.Appending.{HasGiven}
-use Rattle.gl_tally.specs.DayChecked.{IsDayChecked}
-use Rattle.gl_tally.specs.Scored.{IsBegun, IsScored, statements_of_all, text_so_far}
-use Rattle.gl_tally.specs.Scoring.{IsDayDone, IsDayStopped}
+use Rattle.gl_day_claims.specs.DayChecked.{IsDayChecked}
+use Rattle.gl_day_claims.specs.Scored.{IsBegun, IsScored, statements_of_all, text_so_far}
+use Rattle.gl_day_claims.specs.Scoring.{IsDayDone, IsDayStopped}
 use Rattle.gl_answer.proofs.Appended.{HasAppended-none, HasAppended-reads, HasAppended-then, part_after}
-use Rattle.gl_tally.proofs.Flights.{all_texts}
+use Rattle.gl_day_claims.proofs.Flights.{all_texts}
 use Rattle.gl_answer.specs.declared.answer.Answer as code
 use Rattle.gl_answer.specs.declared.status.Status.TheVariants.{Done}
 use Rattle.gl_answer.specs.Answer.{answer_of, AnswersHalt}

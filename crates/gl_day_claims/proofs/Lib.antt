@@ -5,3 +5,11 @@ pub mod DayLines
 pub mod OneAnswer
 pub mod PartOfDay
 pub mod ScoreLaws
+pub mod Claiming
+pub mod Compared
+pub mod Completing
+pub mod DayAccepted
+pub mod Flights
+pub mod OneFlight
+pub mod Pieces
+pub mod Runs

@@ -9,17 +9,17 @@ use Rattle.gl_proof.specs.declared.version.Version.TheVariants.{Two}
 use Rattle.gl_task.specs.declared.task.Entrant.{Entrant}
 use Rattle.gl_day.specs.Flight.{IsFlight, StewardRules}
 use Rattle.gl_day.proofs.Sheets.{sheet_of-one}
-use Rattle.gl_day_words.specs.DayWords.{DayNames}
+use Rattle.gl_words.specs.DayWords.{DayNames}
 use Rattle.gl_day_files.specs.declared.day_files.DayFiles.{DayFiles}
-use Rattle.gl_refusals.specs.declared.refusal.Refusal.{Refusal}
+use Rattle.gl_answer.specs.declared.refusal.Refusal.{Refusal}
 use Rattle.gl_day_files.specs.DayFiles.{ScoreSeen, score_tests}
-use Rattle.gl_refusals.specs.FileTests.{AllPass, FirstFails}
+use Rattle.gl_answer.specs.FileTests.{AllPass, FirstFails}
 use Rattle.gl_day_files.proofs.DayDecided.{score_decided}
-use Rattle.gl_refusals.proofs.FileTests.{none_fails}
+use Rattle.gl_answer.proofs.FileTests.{none_fails}
 use Rattle.gl_day_files.proofs.OneDay.{day_one, refusal_one, seen_alone, seen_one}
-use Rattle.gl_tally.specs.Alike.{AreAlike}
-use Rattle.gl_tally.specs.Scored.{IsScored, Scored, flights_of_all, statements_of_all}
-use Rattle.gl_tally.proofs.OneFlight.{IsOneFlight, flight_one}
+use Rattle.gl_day_claims.specs.Alike.{AreAlike}
+use Rattle.gl_day_claims.specs.Scored.{IsScored, Scored, flights_of_all, statements_of_all}
+use Rattle.gl_day_claims.proofs.OneFlight.{IsOneFlight, flight_one}
 use Rattle.gl_answer.specs.Answer.{Answer, refused}
 use Rattle.gl_day_claims.specs.Laws.{AreProofsAlike, HasOneAnswer}
 use Rattle.gl_day_claims.specs.Score.{IsDayScored, IsScore, IsScoreTold}

@@ -6,9 +6,9 @@ use Rattle.gl_proof.specs.declared.version.Version.TheVariants.{Two}
 use Rattle.gl_day.specs.Flight.{StewardRules}
 use Rattle.gl_day.proofs.Sheets.{some_sheet}
 use Rattle.gl_day_files.specs.declared.day_files.DayFiles.{DayFiles}
-use Rattle.gl_tally.specs.Scored.{IsScored, flights_of_all, statements_of_all}
-use Rattle.gl_tally.proofs.Completing.{IsPartOfScored}
-use Rattle.gl_tally.proofs.Flights.{all_texts, length-flights}
+use Rattle.gl_day_claims.specs.Scored.{IsScored, flights_of_all, statements_of_all}
+use Rattle.gl_day_claims.proofs.Completing.{IsPartOfScored}
+use Rattle.gl_day_claims.proofs.Flights.{all_texts, length-flights}
 use Rattle.gl_answer.specs.declared.status.Status.TheVariants.{Done}
 use Rattle.gl_answer.specs.Answer.{Answer}
 use Rattle.gl_day_claims.specs.Score.{IsDayScored}

@@ -2,12 +2,12 @@
 use Rattle.std.proofs.Common.{◌≡◌, inl, List, ℕ, Option}
 use Rattle.gl_desk.specs.Desk.{FilesByName}
 use Rattle.gl_day.specs.Flight.{StewardRules}
-use Rattle.gl_day_words.specs.DayWords.{DayNames}
-use Rattle.gl_day_words.proofs.Unbroken.{AreUnbroken}
+use Rattle.gl_words.specs.DayWords.{DayNames}
+use Rattle.gl_words.proofs.UnbrokenNames.{AreUnbroken}
 use Rattle.gl_day_files.specs.DayFiles.{IsScoreSeen, ScoreSeen, score_tests}
 use Rattle.gl_day_files.proofs.DayDecided.{score_decided}
 use Rattle.gl_day_files.proofs.DayRefusals.{score_named}
-use Rattle.gl_tally.proofs.Completing.{begun_either}
+use Rattle.gl_day_claims.proofs.Completing.{begun_either}
 use Rattle.gl_answer.specs.declared.status.Status.TheVariants.{Done}
 use Rattle.gl_answer.specs.Answer.{Answer}
 use Rattle.gl_day_claims.specs.Score.{IsScoreBegun, IsScoreTold, score_promise}

@@ -8,11 +8,11 @@ use Rattle.gl_day.specs.declared.fault.Checked.TheVariants.{Accepted, Refused}
 use Rattle.gl_day.specs.declared.fault.NotProved.{NotProved}
 use Rattle.gl_day.specs.Fault.{box_of_fault, word_of}
 use Rattle.gl_day.specs.Flight.{StewardRules}
-use Rattle.gl_day_words.specs.DayWords.{DayNames}
+use Rattle.gl_words.specs.DayWords.{DayNames}
 use Rattle.gl_day_files.specs.declared.day_files.DayFiles.{DayFiles}
 use Rattle.gl_day_files.specs.DayFiles.{IsCheckRead, IsScoreSeen, ScoreSeen, check_tests}
-use Rattle.gl_refusals.specs.FileTests.{most_proof_bytes}
-use Rattle.gl_tally.specs.DayChecked.{IsDayChecked}
+use Rattle.gl_answer.specs.FileTests.{most_proof_bytes}
+use Rattle.gl_day_claims.specs.DayChecked.{IsDayChecked}
 use Rattle.gl_answer.specs.declared.status.Status.TheVariants as status
 use Rattle.gl_answer.specs.Answer.{Answer, saying}
 use Rattle.gl_answer.specs.ByTests.{IsByTests, PassByTests}

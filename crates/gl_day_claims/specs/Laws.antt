@@ -6,8 +6,8 @@ use Rattle.gl_proof.specs.Claim.{Statement}
 use Rattle.gl_proof.specs.Text.{IsTextOf}
 use Rattle.gl_proof.specs.declared.version.Version.TheVariants.{Two}
 use Rattle.gl_day.specs.Flight.{StewardRules}
-use Rattle.gl_day_words.specs.DayWords.{DayNames}
-use Rattle.gl_tally.specs.Alike.{AreAlike}
+use Rattle.gl_words.specs.DayWords.{DayNames}
+use Rattle.gl_day_claims.specs.Alike.{AreAlike}
 use Rattle.gl_answer.specs.Answer.{Answer}
 use Rattle.gl_day_claims.specs.Score.{IsScore}
 

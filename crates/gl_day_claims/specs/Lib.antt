@@ -1,3 +1,9 @@
 pub mod Check
 pub mod Laws
 pub mod Score
+pub mod Alike
+pub mod Asked
+pub mod Code
+pub mod DayChecked
+pub mod Scored
+pub mod Scoring

@@ -6,11 +6,11 @@ use Rattle.gl_proof.specs.Text.{IsTextOf}
 use Rattle.gl_proof.specs.declared.version.Version.TheVariants.{Two}
 use Rattle.gl_day.specs.Day.{IsSheetOf}
 use Rattle.gl_day.specs.Flight.{StewardRules}
-use Rattle.gl_day_words.specs.DayWords.{DayNames}
+use Rattle.gl_words.specs.DayWords.{DayNames}
 use Rattle.gl_day_files.specs.declared.day_files.DayFiles.{DayFiles}
 use Rattle.gl_day_files.specs.DayFiles.{IsScoreRead, IsScoreSeen, ScoreSeen, score_tests}
-use Rattle.gl_refusals.specs.FileTests.{AllPass}
-use Rattle.gl_tally.specs.Scored.{Scored, IsScored, statements_of_all, flights_of_all, IsBegun}
+use Rattle.gl_answer.specs.FileTests.{AllPass}
+use Rattle.gl_day_claims.specs.Scored.{Scored, IsScored, statements_of_all, flights_of_all, IsBegun}
 use Rattle.gl_answer.specs.declared.status.Status.TheVariants.{Done}
 use Rattle.gl_answer.specs.Answer.{Answer}
 use Rattle.gl_answer.specs.ByTests.{IsByTests, PassByTests}

@@ -1,19 +1,18 @@
 ghost use Rattle.std.specs.Prelude.{◌≡◌, IfOk};
 ghost use Rattle.gl_desk.specs.Answers.{OnlyReads, stop_of};
-ghost use Rattle.gl_day_words.specs.DayNames.{names_seen};
+ghost use Rattle.gl_words.specs.DayNames.{names_seen};
 ghost use Rattle.gl_day_files.specs.DayFiles.{IsScoreSeen, check_tests};
-ghost use Rattle.gl_refusals.specs.FileTests.{HasTested};
-ghost use Rattle.gl_refusals.specs.Halts.{halt_stop};
+ghost use Rattle.gl_answer.specs.FileTests.{HasTested};
+ghost use Rattle.gl_answer.specs.Halts.{halt_stop};
 ghost use Rattle.gl_answer.specs.Answer.{answer_of};
 ghost use Rattle.gl_day_claims.specs.Check.{IsCheck, IsProofChecked, checked_answer};
 
-use gl_answer::{Answer, Status, accepted_line, answer_halt, wrong_line};
+use crate::checking::check_claims;
+use gl_answer::{Answer, Halt, MOST_PROOF_BYTES, Status, accepted_line, answer_halt, wrong_line};
 use gl_day::Checked;
 use gl_day_files::test_check_files;
-use gl_day_words::DayNames;
 use gl_desk::{Desk, DeskError};
-use gl_refusals::{Halt, MOST_PROOF_BYTES};
-use gl_tally::check_claims;
+use gl_words::DayNames;
 use std::alloc::{AllocError, Global};
 
 /// What is said of a proof by the files of its day: that its claims are accepted, or the first that

@@ -1,16 +1,16 @@
 ghost use Rattle.std.specs.Prelude.{◌≡◌, IfErr, IfOk, map};
 ghost use Rattle.gl_day.specs.Flight.{steward_rules};
-ghost use Rattle.gl_day_words.specs.DayNames.{names_seen};
+ghost use Rattle.gl_words.specs.DayNames.{names_seen};
 ghost use Rattle.gl_answer.specs.Given.{HasAnswered, IsStopped};
 ghost use Rattle.gl_day_claims.specs.Score.{score_promise};
 
+use crate::scoring::score_day;
 use gl_answer::{Answer, Status, answer_halt};
 use gl_day::Search;
 use gl_day_files::test_score_files;
-use gl_day_words::DayNames;
 use gl_desk::{Desk, DeskError};
-use gl_steward::Steward;
-use gl_tally::score_day;
+use gl_task::Steward;
+use gl_words::DayNames;
 use std::alloc::Global;
 
 /// The answer of `score TASK PROOF WORKERS`: the sheet of the day. Its proof is appended to the

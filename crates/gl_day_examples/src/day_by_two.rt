@@ -2,7 +2,7 @@
 use crate::folder::{CLAIM, RACE, SHEET, filled, joined, names, race, text_of};
 use crate::meeting::Meeting;
 use gl_app::{Status, run};
-use gl_steward::{Ceiling, EngineNoise, Steward};
+use gl_task::{Ceiling, EngineNoise, Steward};
 use std::test::Fail;
 
 /// `score` by two workers hands its one claim to both of them, and comes to the sheet and the proof

@@ -1,6 +1,6 @@
 use gl_app::{Status, run_single, worker_count};
 use gl_desk::{Desk, MemDesk, Name};
-use gl_steward::{Ceiling, EngineNoise, Steward};
+use gl_task::{Ceiling, EngineNoise, Steward};
 use std::alloc::{AllocError, Global};
 use std::process::Abort;
 use std::test::Fail;

@@ -2,8 +2,7 @@ ghost use Rattle.std.specs.Prelude.{◌≡◌, ℕ, List, [], ◌∷◌, pos, ne
 
 use gl_igc::Fix;
 use gl_sphere::{Grid, vector};
-use gl_steward::{Ceiling, EngineNoise, Steward, fine};
-use gl_task::LocalRules;
+use gl_task::{Ceiling, EngineNoise, LocalRules, Steward, fine};
 use std::test::Fail;
 
 /// A steward that owes the greatest number there is.

@@ -1,9 +1,9 @@
 -- No file of a day passes a test and fails it.
 use Rattle.std.proofs.Common.{◌≡◌, ◌∙◌, sym, ap, ℕ, List, Option, None, Some}
-use Rattle.gl_day_words.specs.DayWords.{DayNames}
-use Rattle.gl_refusals.specs.FileTests.{ProofText, text_tests}
-use Rattle.gl_refusals.specs.declared.refusal.Cause.{Cause}
-use Rattle.gl_refusals.proofs.FileTests.{AreDecided, IsDecided, all_decided, proof_decided}
+use Rattle.gl_words.specs.DayWords.{DayNames}
+use Rattle.gl_answer.specs.FileTests.{ProofText, text_tests}
+use Rattle.gl_answer.specs.declared.refusal.Cause.{Cause}
+use Rattle.gl_answer.proofs.FileTests.{AreDecided, IsDecided, all_decided, proof_decided}
 use Rattle.gl_day_files.specs.DayFiles.{AirspaceText, ScoreSeen, TaskSeen, TaskText, airspace_cause, airspace_file, airspace_tests, check_tests, score_tests, task_cause, task_tests}
 use Rattle.gl_day_files.proofs.Readings.{airspace_refused, task_refused}
 

@@ -6,12 +6,12 @@ use Rattle.toml.specs.Parse.{parse_document}
 use Rattle.gl_text.specs.Forms.{is_file_name}
 use Rattle.gl_task_file.specs.Keys.{said}
 use Rattle.gl_task_file.specs.Values.{file_name, in_form}
-use Rattle.gl_day_words.specs.DayWords.{DayNames}
+use Rattle.gl_words.specs.DayWords.{DayNames}
 use Rattle.gl_text.proofs.Forms.{is_unbroken, is_unbroken-file}
-use Rattle.gl_day_words.proofs.Unbroken.{AreUnbroken}
+use Rattle.gl_words.proofs.UnbrokenNames.{AreUnbroken}
 use Rattle.gl_day_files.specs.DayFiles.{ScoreSeen, TaskSeen, airspace_file, airspace_tests, check_tests, named_airspace, score_tests, task_tests}
-use Rattle.gl_refusals.specs.FileTests.{ProofText, text_tests}
-use Rattle.gl_refusals.proofs.FileTests.{AreNamed, all_named}
+use Rattle.gl_answer.specs.FileTests.{ProofText, text_tests}
+use Rattle.gl_answer.proofs.FileTests.{AreNamed, all_named}
 
 form_is : (text file : List ℕ) (fits : Bool) → is_file_name text ≡ fits → (if fits then Some text else None) ≡ Some file → is_unbroken file ≡ true
 form_is text file true fits same =

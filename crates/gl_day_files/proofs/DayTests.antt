@@ -11,16 +11,16 @@ use Rattle.gl_task.specs.declared.task.Task.{Task}
 use Rattle.gl_task_file.specs.Keys.{said}
 use Rattle.gl_task_file.specs.Reading.{IsReadFrom}
 use Rattle.gl_task_file.specs.Values.{file_name}
-use Rattle.gl_day_words.specs.DayWords.{DayNames}
+use Rattle.gl_words.specs.DayWords.{DayNames}
 use Rattle.gl_day_files.specs.declared.day_files.DayFiles.{DayFiles}
-use Rattle.gl_refusals.specs.declared.halt.Halt.{Halt}
-use Rattle.gl_refusals.specs.declared.halt.Halt.TheVariants.{Refused, Stopped}
-use Rattle.gl_refusals.specs.declared.refusal.Refusal.{Refusal}
+use Rattle.gl_answer.specs.declared.halt.Halt.{Halt}
+use Rattle.gl_answer.specs.declared.halt.Halt.TheVariants.{Refused, Stopped}
+use Rattle.gl_answer.specs.declared.refusal.Refusal.{Refusal}
 use Rattle.gl_day_files.specs.DayFiles.{AirspaceText, IsAirspaceRead, IsAirspaceSeen, IsCheckRead, IsDayRead, IsScoreRead, IsScoreSeen, IsTaskSeen, TaskText, airspace_file, airspace_tests, check_tests, named_airspace, score_tests, task_tests}
-use Rattle.gl_refusals.specs.FileTests.{HasTested, IsProofOfText, ProofText, Reads, text_tests}
-use Rattle.gl_refusals.specs.ReadFiles.{HasReadFile, IsNeeded, IsUnused}
-use Rattle.gl_refusals.proofs.FileTests.{all_pass, fails_behind, fails_in_front, small_fails, small_passes, some_text_fails, some_text_passes}
-use Rattle.gl_refusals.proofs.Listing.{is_listed, not_listed, seen_some}
+use Rattle.gl_answer.specs.FileTests.{HasTested, IsProofOfText, ProofText, Reads, text_tests}
+use Rattle.gl_answer.specs.ReadFiles.{HasReadFile, IsNeeded, IsUnused}
+use Rattle.gl_answer.proofs.FileTests.{all_pass, fails_behind, fails_in_front, small_fails, small_passes, some_text_fails, some_text_passes}
+use Rattle.gl_answer.proofs.Listing.{is_listed, not_listed, seen_some}
 use Rattle.gl_desk.proofs.DeskLemmas.{HasFile-from_names}
 
 -- what is seen of an airspace file, where the folder may be told or not

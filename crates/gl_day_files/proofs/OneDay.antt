@@ -15,13 +15,13 @@ use Rattle.gl_task_file.specs.Tests.{tests}
 use Rattle.gl_task_file.specs.declared.error.TaskError.{TaskError}
 use Rattle.gl_task_file.specs.declared.error.TaskError.TheVariants as task
 use Rattle.gl_task.specs.declared.task.Task.{Task}
-use Rattle.gl_day_words.specs.DayWords.{DayNames}
+use Rattle.gl_words.specs.DayWords.{DayNames}
 use Rattle.gl_day_files.specs.declared.day_files.DayFiles.{DayFiles}
-use Rattle.gl_refusals.specs.declared.refusal.Cause.{Cause}
-use Rattle.gl_refusals.specs.declared.refusal.Refusal.{Refusal}
+use Rattle.gl_answer.specs.declared.refusal.Cause.{Cause}
+use Rattle.gl_answer.specs.declared.refusal.Refusal.{Refusal}
 use Rattle.gl_day_files.specs.DayFiles.{AirspaceText, IsAirspaceRead, IsAirspaceSeen, IsDayRead, IsScoreSeen, IsTaskSeen, ScoreSeen, TaskSeen, TaskText, airspace_cause, airspace_file, airspace_tests, score_tests, task_cause}
-use Rattle.gl_refusals.specs.FileTests.{Fails, FileTest, FirstFails, IsNoText, Kind, Reads}
-use Rattle.gl_refusals.proofs.FileTests.{AreDecided, passes_or_fails}
+use Rattle.gl_answer.specs.FileTests.{Fails, FileTest, FirstFails, IsNoText, Kind, Reads}
+use Rattle.gl_answer.proofs.FileTests.{AreDecided, passes_or_fails}
 use Rattle.gl_day_files.proofs.DayDecided.{score_decided}
 use Rattle.gl_day_files.proofs.Readings.{document_same}
 use Rattle.gl_day_files.proofs.TaskSame.{task_same}

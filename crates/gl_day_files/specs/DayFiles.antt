@@ -17,10 +17,10 @@ use Rattle.gl_task_file.specs.Reading.{IsReadFrom, IsRefusalOf}
 use Rattle.gl_task_file.specs.Values.{file_name}
 use Rattle.gl_task_file.specs.declared.error.TaskError.{TaskError}
 use Rattle.gl_task_file.specs.declared.error.TaskError.TheVariants as task
-use Rattle.gl_day_words.specs.DayWords.{DayNames}
-use Rattle.gl_refusals.specs.FileTests.{FileTest, IsProofOfText, Kind, Listed, ProofText, Unlisted, text_tests}
-use Rattle.gl_refusals.specs.declared.refusal.Cause.{Cause}
-use Rattle.gl_refusals.specs.declared.refusal.Cause.TheVariants.{NoKey, NotToml, NumberTwice, TooManyItems, TooMuchAirspace, WrongAirspace, WrongValue}
+use Rattle.gl_words.specs.DayWords.{DayNames}
+use Rattle.gl_answer.specs.FileTests.{FileTest, IsProofOfText, Kind, Listed, ProofText, Unlisted, text_tests}
+use Rattle.gl_answer.specs.declared.refusal.Cause.{Cause}
+use Rattle.gl_answer.specs.declared.refusal.Cause.TheVariants.{NoKey, NotToml, NumberTwice, TooManyItems, TooMuchAirspace, WrongAirspace, WrongValue}
 use Rattle.gl_day_files.specs.declared.day_files.DayFiles.{DayFiles}
 
 -- why a text gives no task

@@ -4,19 +4,19 @@ ghost use Rattle.gl_desk.specs.Answers.{OnlyReads};
 ghost use Rattle.gl_desk.specs.Desk.{HasFile, ListsNames};
 ghost use Rattle.gl_desk.specs.Limits.{most_bytes};
 ghost use Rattle.gl_task_file.specs.Reading.{IsReadFrom};
-ghost use Rattle.gl_day_words.specs.DayNames.{names_seen};
+ghost use Rattle.gl_words.specs.DayNames.{names_seen};
 ghost use Rattle.gl_day_files.specs.DayFiles.{AirspaceText, IsAirspaceRead, IsAirspaceSeen, IsCheckRead, IsDayRead, IsScoreRead, IsScoreSeen, IsTaskSeen, TaskText, airspace_cause, airspace_tests, check_tests, score_tests, task_cause, task_tests};
-ghost use Rattle.gl_refusals.specs.FileTests.{HasTested};
-ghost use Rattle.gl_refusals.specs.ReadFiles.{HasRead, HasReadFile};
-ghost use Rattle.gl_refusals.specs.Halts.{IsNoFault, halt_stop};
+ghost use Rattle.gl_answer.specs.FileTests.{HasTested};
+ghost use Rattle.gl_answer.specs.ReadFiles.{HasRead, HasReadFile};
+ghost use Rattle.gl_answer.specs.Halts.{IsNoFault, halt_stop};
 
 use gl_airspace::{AirError, Airspace, empty, read_openair};
-use gl_day_words::DayNames;
+use gl_answer::{Cause, Halt, need, need_unlisted, read_bytes, read_proof_file, refusing_for};
 use gl_desk::{Desk, MOST_BYTES, Name};
 use gl_proof::Proof;
-use gl_refusals::{Cause, Halt, need, need_unlisted, read_bytes, read_proof_file, refusing_for};
 use gl_task::Task;
 use gl_task_file::{TaskError, read_task};
+use gl_words::DayNames;
 use std::alloc::Global;
 
 /// The task of a day, and its airspace.

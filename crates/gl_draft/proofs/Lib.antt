@@ -1,3 +1,4 @@
 pub mod LineLemmas
 pub mod Runs
 pub mod ZoneLemmas
+pub mod Quarters

@@ -2,3 +2,4 @@
 -- caller
 -- cites them.
 pub mod Run
+pub mod Bearing

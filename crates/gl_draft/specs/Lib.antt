@@ -7,3 +7,6 @@ pub mod Sector
 pub mod Taken
 pub mod Turn
 pub mod Words
+pub mod Bearing
+pub mod Middle
+pub mod Opposite

@@ -1,7 +1,7 @@
 -- Which way a sector lies.
 use Rattle.std.specs.Prelude.{◌≡◌, ◌≢◌, ℕ, ◌+◌, ◌%◌, ◌<◌, Some, unsigned_abs}
-use Rattle.gl_bearing.specs.Bearing.{IsBearing}
-use Rattle.gl_bearing.specs.Middle.{outside_of, thousandths_of}
+use Rattle.gl_draft.specs.Bearing.{IsBearing}
+use Rattle.gl_draft.specs.Middle.{outside_of, thousandths_of}
 use Rattle.gl_cup.specs.declared.zone.Style as code_style
 use Rattle.gl_cup.specs.declared.zone.Style.TheVariants as style
 use Rattle.gl_sphere.specs.Sphere.{quarter_turn}

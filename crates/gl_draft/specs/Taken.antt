@@ -1,7 +1,7 @@
 -- What is taken from a task of a SeeYou file.
 use Rattle.std.specs.Prelude.{◌≡◌, ℕ, ◌≤◌, ◌+◌, List, [], ◌∷◌, length, slice_get, true, Option, None, Some, ℤ, pos, ◌+ℤ◌, ◌≤ℤ◌, ⊤, ◌||◌, is_some, Bool, false}
 use Rattle.std.specs.List.{list_any}
-use Rattle.gl_bearing.specs.Opposite.{IsOpposite}
+use Rattle.gl_draft.specs.Opposite.{IsOpposite}
 use Rattle.gl_sphere.specs.Distance.{squared_chord, written_distance}
 use Rattle.gl_sphere.specs.Place.{written_vector}
 use Rattle.gl_cup.specs.declared.point.CupPoint.{CupPoint}

@@ -3,9 +3,10 @@ ghost use Rattle.gl_sphere.specs.Sphere.{quarter_turn};
 ghost use Rattle.gl_draft.specs.Draft.{first_radial, second_radial};
 ghost use Rattle.gl_draft.specs.Sector.{IsAxisOf, IsOutside, IsWay, IsWayTo};
 
+use crate::angle::bearing;
 use crate::draft::Axis;
+use crate::middle::{outside, thousandths};
 use crate::turn::Turn;
-use gl_bearing::{bearing, outside, thousandths};
 use gl_cup::Style;
 use gl_sphere::{Grid, QUARTER_TURN};
 

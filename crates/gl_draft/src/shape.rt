@@ -2,10 +2,10 @@ ghost use Rattle.std.specs.Prelude.{◌≡◌, true, IfOk, IfSome};
 ghost use Rattle.gl_draft.specs.Taken.{ArePartsOf, IsFinishOf, IsPartOf, IsStartOf, IsZoneFor};
 
 use crate::draft::{Finish, Part, Sector, Start, Zone};
+use crate::far_side::opposite;
 use crate::place::{distance, rounded};
 use crate::sector::axis_of;
 use crate::turn::Turn;
-use gl_bearing::opposite;
 use gl_cup::{CupPoint, Field, Style};
 use std::alloc::{AllocError, Global};
 

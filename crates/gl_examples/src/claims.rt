@@ -4,13 +4,13 @@ ghost use Rattle.gl_goal.specs.Best.{IsSound};
 ghost use Rattle.gl_proof.specs.Claim.{IsWritable};
 
 use crate::drawn::wandering;
+use gl_box::Boxes;
 use gl_check::{Verdict, check_claim};
 use gl_desk::Name;
 use gl_goal::{FreeGoal, fix_numbers};
 use gl_igc::read_igc;
 use gl_plain::{Found, search_one};
 use gl_proof::{Claim, ClaimKind, read_proof, write_claim};
-use gl_walk::Boxes;
 use std::alloc::{AllocError, Global};
 use std::process::Abort;
 use std::test::Fail;

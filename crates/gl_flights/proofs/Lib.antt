@@ -6,3 +6,8 @@ pub mod OneSeries
 pub mod ReplayLaws
 pub mod Replays
 pub mod SeriesLaws
+pub mod BadgeTests
+pub mod FlightTests
+pub mod NearTests
+pub mod ReplayTests
+pub mod SeriesTests

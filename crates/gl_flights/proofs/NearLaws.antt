@@ -16,17 +16,17 @@ use Rattle.gl_near.specs.declared.found.NearWhy.{NearWhy}
 use Rattle.gl_words.specs.Words.{NearWords}
 use Rattle.gl_text.proofs.Forms.{is_unbroken}
 use Rattle.gl_words.proofs.Unbroken.{HasUnbrokenNear}
-use Rattle.gl_refusals.specs.declared.refusal.Refusal.{Refusal}
-use Rattle.gl_refusals.specs.FileTests.{AllPass, FirstFails, IsRecordingOf, most_proof_bytes}
-use Rattle.gl_files.specs.NearFiles.{AreNearRead, IsNearSeen, NearSeen, near_check_tests, near_tests}
-use Rattle.gl_refusals.proofs.FileTests.{AreNamed, none_fails}
-use Rattle.gl_refusals.proofs.SameFiles.{one_recording, still}
+use Rattle.gl_answer.specs.declared.refusal.Refusal.{Refusal}
+use Rattle.gl_answer.specs.FileTests.{AllPass, FirstFails, IsRecordingOf, most_proof_bytes}
+use Rattle.gl_flights.specs.NearFiles.{AreNearRead, IsNearSeen, NearSeen, near_check_tests, near_tests}
+use Rattle.gl_answer.proofs.FileTests.{AreNamed, none_fails}
+use Rattle.gl_answer.proofs.SameFiles.{one_recording, still}
 use Rattle.gl_answer.specs.declared.status.Status.{Status}
 use Rattle.gl_answer.specs.declared.status.Status.TheVariants as status
 use Rattle.gl_answer.specs.Answer.{Answer, refused}
 use Rattle.gl_flights.specs.Near.{IsNear, IsNearBegun, IsNearCheck, IsNearChecked, IsNearFolder, IsNearFound, IsNearestSaid, box_of_verdict, near_check_promise, near_promise, pairs_of, verdict_answer, word_of_verdict}
 use Rattle.gl_answer.specs.Texts.{IsLine, wrong_line}
-use Rattle.gl_files.proofs.NearTests.{near_check_decided, near_decided}
+use Rattle.gl_flights.proofs.NearTests.{near_check_decided, near_decided}
 use Rattle.gl_answer.proofs.ByTests.{by_tests_line, by_tests_passes, by_tests_result}
 use Rattle.gl_answer.proofs.LineTexts.{wrong_is_line}
 use Rattle.gl_answer.proofs.Promises.{IsLawful, IsPart, done_no_refusal, some_result}

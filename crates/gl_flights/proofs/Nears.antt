@@ -14,12 +14,12 @@ use Rattle.gl_near.specs.declared.found.NearWhy.{NearWhy}
 use Rattle.gl_sphere.specs.PlaceText.{place_of, place_of_text}
 use Rattle.gl_sphere.specs.declared.place.Grid.{Grid}
 use Rattle.gl_words.specs.Words.{NearWords, PointWords}
-use Rattle.gl_refusals.specs.declared.halt.Halt.{Halt}
-use Rattle.gl_refusals.specs.declared.halt.Halt.TheVariants.{Refused, Stopped}
-use Rattle.gl_refusals.specs.FileTests.{HasTested}
-use Rattle.gl_refusals.specs.Halts.{halt_stop}
-use Rattle.gl_files.specs.NearFiles.{AreNearCheckRead, AreNearRead, IsNearSeen, near_check_tests, near_tests}
-use Rattle.gl_refusals.proofs.ReadsTwice.{reads_twice}
+use Rattle.gl_answer.specs.declared.halt.Halt.{Halt}
+use Rattle.gl_answer.specs.declared.halt.Halt.TheVariants.{Refused, Stopped}
+use Rattle.gl_answer.specs.FileTests.{HasTested}
+use Rattle.gl_answer.specs.Halts.{halt_stop}
+use Rattle.gl_flights.specs.NearFiles.{AreNearCheckRead, AreNearRead, IsNearSeen, near_check_tests, near_tests}
+use Rattle.gl_answer.proofs.ReadsTwice.{reads_twice}
 use Rattle.gl_answer.specs.Appending.{HasAppended, HasAppendedPart, HasGiven}
 use Rattle.gl_answer.proofs.Appended.{HasAppended-none, HasAppended-reads, HasAppended-then}
 use Rattle.gl_answer.proofs.Appended.{part_after}

@@ -3,12 +3,12 @@ use Rattle.std.proofs.Common.{◌≡◌, refl, ap, ℕ, inl, true, List, Option,
 use Rattle.gl_desk.specs.Desk.{FilesByName, IsSeenIn}
 use Rattle.gl_igc.specs.declared.recording.Recording.{Recording}
 use Rattle.gl_text.proofs.Forms.{is_unbroken}
-use Rattle.gl_refusals.specs.FileTests.{HasTested}
-use Rattle.gl_files.specs.FlightFile.{IsFlightRead, flight_tests}
+use Rattle.gl_answer.specs.FileTests.{HasTested}
+use Rattle.gl_flights.specs.FlightFile.{IsFlightRead, flight_tests}
 use Rattle.gl_answer.specs.declared.status.Status.TheVariants.{Done}
 use Rattle.gl_answer.specs.Answer.{Answer, saying}
 use Rattle.gl_flights.specs.OfFile.{IsOfFile, IsSaidOf, of_file_promise}
-use Rattle.gl_files.proofs.FlightTests.{flight_decided}
+use Rattle.gl_flights.proofs.FlightTests.{flight_decided}
 use Rattle.gl_answer.proofs.ByTests.{by_tests_line, by_tests_passes, by_tests_result}
 use Rattle.gl_answer.proofs.Promises.{IsLawful, done_no_refusal, reading_lawful}
 

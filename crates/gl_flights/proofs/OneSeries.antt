@@ -16,13 +16,13 @@ use Rattle.gl_series.specs.declared.error.SheetError.{SheetError}
 use Rattle.gl_series.specs.declared.error.SheetError.TheVariants as sheet
 use Rattle.gl_series.specs.declared.series.Series.{Series}
 use Rattle.gl_words.specs.Words.{SeriesWords}
-use Rattle.gl_refusals.specs.declared.refusal.Cause.{Cause}
-use Rattle.gl_refusals.specs.declared.refusal.Refusal.{Refusal}
-use Rattle.gl_refusals.specs.FileTests.{AllPass, Fails, FileTest, FirstFails, IsNoText, Kind, Reads}
-use Rattle.gl_files.specs.SeriesFiles.{SeriesListText, SheetText, list_cause, sheet_cause}
-use Rattle.gl_files.specs.SeriesFiles.{AreDaysSeen, DaySeen, IsDaySeen, IsListRead, IsSeriesSeen, IsSheetRead, SeriesSeen, days_tests, series_tests}
-use Rattle.gl_refusals.proofs.FileTests.{AreDecided, none_fails}
-use Rattle.gl_files.proofs.SeriesTests.{days_fit, list_fits, series_decided}
+use Rattle.gl_answer.specs.declared.refusal.Cause.{Cause}
+use Rattle.gl_answer.specs.declared.refusal.Refusal.{Refusal}
+use Rattle.gl_answer.specs.FileTests.{AllPass, Fails, FileTest, FirstFails, IsNoText, Kind, Reads}
+use Rattle.gl_flights.specs.SeriesFiles.{SeriesListText, SheetText, list_cause, sheet_cause}
+use Rattle.gl_flights.specs.SeriesFiles.{AreDaysSeen, DaySeen, IsDaySeen, IsListRead, IsSeriesSeen, IsSheetRead, SeriesSeen, days_tests, series_tests}
+use Rattle.gl_answer.proofs.FileTests.{AreDecided, none_fails}
+use Rattle.gl_flights.proofs.SeriesTests.{days_fit, list_fits, series_decided}
 use Rattle.gl_answer.specs.declared.status.Status.TheVariants.{Done}
 use Rattle.gl_answer.specs.Answer.{Answer, refused, saying}
 use Rattle.gl_flights.specs.Series.{HasOneSeries, IsAddedUp}

@@ -3,12 +3,12 @@ use Rattle.std.proofs.Common.{◌≡◌, ap, inl, Option}
 use Rattle.gl_desk.specs.Desk.{FilesByName}
 use Rattle.gl_words.specs.Words.{ReplayWords}
 use Rattle.gl_words.proofs.Unbroken.{HasUnbrokenFiles}
-use Rattle.gl_files.specs.ReplayFiles.{IsReplaySeen, ReplaySeen, replay_tests}
-use Rattle.gl_refusals.proofs.FileTests.{AreNamed}
+use Rattle.gl_flights.specs.ReplayFiles.{IsReplaySeen, ReplaySeen, replay_tests}
+use Rattle.gl_answer.proofs.FileTests.{AreNamed}
 use Rattle.gl_answer.specs.declared.status.Status.TheVariants.{Done}
 use Rattle.gl_answer.specs.Answer.{Answer}
 use Rattle.gl_flights.specs.Replay.{IsReplay, IsReplayed, replay_promise}
-use Rattle.gl_files.proofs.ReplayTests.{replay_decided}
+use Rattle.gl_flights.proofs.ReplayTests.{replay_decided}
 use Rattle.gl_answer.proofs.ByTests.{by_tests_line, by_tests_passes, by_tests_result}
 use Rattle.gl_answer.proofs.Promises.{IsLawful, done_no_refusal, reading_lawful}
 

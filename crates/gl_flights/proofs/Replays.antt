@@ -7,11 +7,11 @@ use Rattle.gl_igc.specs.declared.recording.Recording.{Recording}
 use Rattle.gl_goal.specs.Goal.{HasNoLegal, IsLegal, Goal}
 use Rattle.gl_goal.specs.declared.best.Best.{Best}
 use Rattle.gl_replay.specs.declared.replayed.Replayed.{Replayed}
-use Rattle.gl_schedule.specs.declared.schedule.Step.{Step}
+use Rattle.gl_replay.specs.declared.schedule.Step.{Step}
 use Rattle.gl_replay.specs.Replayed.{IsReplay}
 use Rattle.gl_words.specs.Words.{ReplayWords}
-use Rattle.gl_refusals.specs.FileTests.{HasTested}
-use Rattle.gl_files.specs.ReplayFiles.{AreReplayRead, IsReplaySeen, replay_tests}
+use Rattle.gl_answer.specs.FileTests.{HasTested}
+use Rattle.gl_flights.specs.ReplayFiles.{AreReplayRead, IsReplaySeen, replay_tests}
 use Rattle.gl_answer.specs.declared.status.Status.TheVariants.{Done}
 use Rattle.gl_answer.specs.Answer.{saying}
 use Rattle.gl_flights.specs.Best.{IsBestText}

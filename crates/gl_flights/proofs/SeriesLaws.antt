@@ -10,14 +10,14 @@ use Rattle.gl_series.specs.declared.day.DaySheet.{DaySheet}
 use Rattle.gl_series.specs.declared.series.Series.{Series}
 use Rattle.gl_words.specs.Words.{SeriesWords}
 use Rattle.gl_text.proofs.Forms.{is_unbroken, is_unbroken-file}
-use Rattle.gl_refusals.specs.FileTests.{HasTested}
-use Rattle.gl_files.specs.SeriesFiles.{AreDaysSeen, AreSeriesRead, DaySeen, IsDaySeen, IsListRead, IsSeriesSeen, SeriesSeen, days_tests, series_tests}
-use Rattle.gl_refusals.proofs.FileTests.{AreNamed, refusal_named}
+use Rattle.gl_answer.specs.FileTests.{HasTested}
+use Rattle.gl_flights.specs.SeriesFiles.{AreDaysSeen, AreSeriesRead, DaySeen, IsDaySeen, IsListRead, IsSeriesSeen, SeriesSeen, days_tests, series_tests}
+use Rattle.gl_answer.proofs.FileTests.{AreNamed, refusal_named}
 use Rattle.gl_answer.specs.declared.status.Status.TheVariants.{Done}
 use Rattle.gl_answer.specs.Answer.{Answer, saying}
 use Rattle.gl_flights.specs.Series.{IsAddedUp, IsSeries, IsStandingText, series_promise}
 use Rattle.gl_answer.specs.Texts.{IsLine}
-use Rattle.gl_files.proofs.SeriesTests.{series_decided}
+use Rattle.gl_flights.proofs.SeriesTests.{series_decided}
 use Rattle.gl_answer.proofs.ByTests.{by_tests_passes, by_tests_result}
 use Rattle.gl_answer.proofs.LineTexts.{said_by}
 use Rattle.gl_answer.proofs.Promises.{IsLawful, done_no_refusal, reading_lawful}

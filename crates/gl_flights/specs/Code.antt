@@ -1,2 +1,3 @@
--- Definitions of the code alone. No promise to a caller cites them.
+-- Definitions of the code alone: what its functions share. No promise to a caller cites them.
 pub mod Near
+pub mod NearFiles

@@ -7,3 +7,8 @@ pub mod Question
 pub mod Replay
 pub mod Series
 pub mod Triangle
+pub mod BadgeFiles
+pub mod FlightFile
+pub mod NearFiles
+pub mod ReplayFiles
+pub mod SeriesFiles

@@ -16,8 +16,8 @@ use Rattle.gl_sphere.specs.Place.{written_vector}
 use Rattle.gl_sphere.specs.PlaceText.{place_of, place_of_text}
 use Rattle.gl_sphere.specs.declared.place.Grid.{Grid}
 use Rattle.gl_words.specs.Words.{NearWords, PointWords}
-use Rattle.gl_refusals.specs.FileTests.{most_proof_bytes}
-use Rattle.gl_files.specs.NearFiles.{AreNearCheckRead, AreNearRead, IsNearSeen, NearSeen, near_check_tests, near_tests}
+use Rattle.gl_answer.specs.FileTests.{most_proof_bytes}
+use Rattle.gl_flights.specs.NearFiles.{AreNearCheckRead, AreNearRead, IsNearSeen, NearSeen, near_check_tests, near_tests}
 use Rattle.gl_answer.specs.declared.status.Status.TheVariants as status
 use Rattle.gl_answer.specs.Answer.{Answer, saying}
 use Rattle.gl_answer.specs.ByTests.{IsByTests, PassByTests}

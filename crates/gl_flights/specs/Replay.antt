@@ -6,9 +6,9 @@ use Rattle.gl_desk.specs.Desk.{FilesByName}
 use Rattle.gl_goal.specs.Goal.{Goal}
 use Rattle.gl_igc.specs.declared.recording.Recording.{Recording}
 use Rattle.gl_replay.specs.Machine.{IsAfter, State, closed_in}
-use Rattle.gl_schedule.specs.declared.schedule.Step.{Step}
+use Rattle.gl_replay.specs.declared.schedule.Step.{Step}
 use Rattle.gl_words.specs.Words.{ReplayWords}
-use Rattle.gl_files.specs.ReplayFiles.{AreReplayRead, IsReplaySeen, ReplaySeen, replay_tests}
+use Rattle.gl_flights.specs.ReplayFiles.{AreReplayRead, IsReplaySeen, ReplaySeen, replay_tests}
 use Rattle.gl_answer.specs.declared.status.Status.TheVariants.{Done}
 use Rattle.gl_answer.specs.Answer.{Answer, saying}
 use Rattle.gl_flights.specs.Best.{IsBestText}

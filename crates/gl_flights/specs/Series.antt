@@ -8,7 +8,7 @@ use Rattle.gl_series.specs.declared.day.DaySheet.{DaySheet}
 use Rattle.gl_series.specs.declared.series.Series as list
 use Rattle.gl_series.specs.declared.standing.Standing.{Standing}
 use Rattle.gl_words.specs.Words.{SeriesWords}
-use Rattle.gl_files.specs.SeriesFiles.{IsListRead, IsSeriesSeen, IsSheetRead, SeriesSeen, series_tests}
+use Rattle.gl_flights.specs.SeriesFiles.{IsListRead, IsSeriesSeen, IsSheetRead, SeriesSeen, series_tests}
 use Rattle.gl_answer.specs.declared.status.Status.TheVariants.{Done}
 use Rattle.gl_answer.specs.Answer.{Answer, saying}
 use Rattle.gl_answer.specs.ByTests.{IsByTests, PassByTests}

@@ -5,9 +5,9 @@ ghost use Rattle.gl_answer.specs.declared.status.Status.TheVariants.{Done};
 ghost use Rattle.gl_flights.specs.Near.{IsNearestFix, IsNearestSaid, near_promise, pair_text, pairs_of};
 ghost use Rattle.gl_answer.specs.Given.{HasAnswered, IsStopped};
 
+use crate::near_files::test_near_files;
 use gl_answer::{Answer, Status, answer_halt, append_piece, distance_lines, no_pair};
 use gl_desk::{Desk, DeskError};
-use gl_files::test_near_files;
 use gl_igc::Recording;
 use gl_near::{NearBest, NearClaim, Pairs, nearest_fix, search_near, write_near};
 use gl_sphere::{Grid, vector};

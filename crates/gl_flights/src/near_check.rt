@@ -7,9 +7,9 @@ ghost use Rattle.gl_flights.specs.Code.Near.{IsClaimAnswered};
 ghost use Rattle.gl_flights.specs.Near.{IsNearCheck, box_of_verdict, pairs_of, verdict_answer, word_of_verdict};
 
 use crate::near::pairs_of;
+use crate::near_files::test_near_check_files;
 use gl_answer::{Answer, Status, accepted_line, answer_halt, wrong_line};
 use gl_desk::{Desk, DeskError};
-use gl_files::test_near_check_files;
 use gl_igc::Recording;
 use gl_near::{NearClaim, NearVerdict, check_near};
 use gl_words::{Apart, NearWords};

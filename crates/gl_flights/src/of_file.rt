@@ -4,12 +4,12 @@ ghost use Rattle.gl_answer.specs.Answer.{answer_of};
 ghost use Rattle.gl_flights.specs.Question.{IsTextOf};
 ghost use Rattle.gl_flights.specs.OfFile.{IsOfFile};
 
+use crate::flight_file::test_flight;
 use crate::free::free_of_recording;
 use crate::near::point_of_recording;
 use crate::triangle::triangle_of_recording;
 use gl_answer::{Answer, answer_halt, done};
 use gl_desk::{Desk, DeskError, Name};
-use gl_files::test_flight;
 use gl_igc::Recording;
 use gl_sphere::Grid;
 use std::alloc::{AllocError, Global};

@@ -6,15 +6,13 @@ ghost use Rattle.gl_flights.specs.Replay.{IsReplay, IsReplayOf, closed_line};
 
 use crate::best::best_lines;
 use crate::free::whole_free_goal;
+use crate::replay_files::test_replay_files;
 use gl_answer::{Answer, answer_halt, done};
-use gl_day_words::Workers;
 use gl_desk::{Desk, DeskError};
-use gl_files::test_replay_files;
 use gl_igc::Recording;
-use gl_replay::replay;
-use gl_schedule::Step;
+use gl_replay::{Step, replay};
 use gl_text::push_u64;
-use gl_words::ReplayWords;
+use gl_words::{ReplayWords, Workers};
 use std::alloc::{AllocError, Global};
 
 /// Appends the line with the number of boxes that workers closed by their steps.

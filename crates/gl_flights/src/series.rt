@@ -6,9 +6,9 @@ ghost use Rattle.gl_words.specs.SeriesWords.{series_seen};
 ghost use Rattle.gl_answer.specs.Answer.{answer_of};
 ghost use Rattle.gl_flights.specs.Series.{IsStandingText, IsSeries as IsRightSeries};
 
+use crate::series_files::test_series_files;
 use gl_answer::{Answer, answer_halt, done};
 use gl_desk::{Desk, DeskError};
-use gl_files::test_series_files;
 use gl_series::{DaySheet, Series, series_text, totals};
 use gl_words::SeriesWords;
 use std::alloc::{AllocError, Global};

@@ -1,18 +1,20 @@
 //! A run of the desk of the real system in a real folder, as a test. It says the name, the length
 //! and the SHA-1 digest of each file that the folder has, then what can't be read or appended to,
-//! then what it appended, and all files again. The gate runs it in a copy of `data/` and compares
-//! what it says with `stdout`.
+//! then what it appended, all files again, and how many more are listed after a thousand are made.
+//! The gate runs it in a copy of `data/` and compares what it says with `stdout`.
 #![tactic(auto)]
 
 use gl_desk::{Desk, DeskError, HostDesk, Name, ReadError, read_all};
 use sha1::Sha1;
 use std::alloc::{AllocError, Global};
+use std::fs;
+use std::os::unix::fs::symlink;
 
 /// How many bytes the longest file has.
 const LONGEST: u64 = 100_000;
 
 /// The desk of the current folder.
-type Folder = HostDesk<HostRuntime>;
+type Folder<'a> = HostDesk<&'a HostRuntime>;
 
 /// The length of a file and its digest, or why it wasn't read.
 fn describe(alloc: Global, read: Result<Vec<u8>, ReadError>) -> Result<String, AllocError> {
@@ -65,9 +67,36 @@ fn copy_longest(alloc: Global, desk: &mut Folder, name: &Name) -> Result<(), Des
     }
 }
 
+/// Makes a thousand empty files, and says how many more are listed then.
+fn make_a_thousand(alloc: Global, desk: &mut Folder) -> Result<(), DeskError> {
+    let before = desk.names(alloc)?.len();
+    for number in 0..1000 {
+        let name = format!(in alloc; "F{number:03}.BIN")?;
+        desk.append(alloc, &Name::from_text(alloc, name.as_str())?, b"")?;
+    }
+    let more = desk.names(alloc)?.len().saturating_sub(before);
+    let line = format!(in alloc; "{more} more files\n")?;
+    desk.say(alloc, line.as_bytes())
+}
+
+/// A link to a file, and one that leads nowhere.
+fn make_links(rt: &HostRuntime) -> Result<(), DeskError> {
+    symlink(rt, "ONE.BIN", "LINK.BIN").map_err(|_| DeskError::Failed)?;
+    symlink(rt, "NOWHERE.BIN", "LOOSE.BIN").map_err(|_| DeskError::Failed)
+}
+
+/// Appends two pieces to a file that is moved between them, and whose name another file takes.
+fn append_to_moved(rt: &HostRuntime, alloc: Global, desk: &mut Folder) -> Result<(), DeskError> {
+    append(alloc, desk, "GROWS.BIN", b"one")?;
+    fs::rename(rt, "GROWS.BIN", "MOVED.BIN").map_err(|_| DeskError::Failed)?;
+    append(alloc, &mut HostDesk::new(rt), "GROWS.BIN", b"x")?;
+    append(alloc, desk, "GROWS.BIN", b"two")
+}
+
 fn main(rt: HostRuntime) -> Result<(), DeskError> {
     let alloc = rt.alloc();
-    let mut desk = HostDesk::new(rt);
+    let mut desk = HostDesk::new(&rt);
+    make_links(&rt)?;
     show_all(alloc, &mut desk)?;
     let longest = Name::from_text(alloc, "LONG.BIN")?;
     show(alloc, &mut desk, &longest, LONGEST - 1)?;
@@ -78,12 +107,15 @@ fn main(rt: HostRuntime) -> Result<(), DeskError> {
         show(alloc, &mut desk, &name, LONGEST)?;
     }
     // Something stands under each of these names already, and is left as it is.
-    append(alloc, &mut desk, "SUB.DIR", b"x")?;
-    append(alloc, &mut desk, "ONE.BIN", b"x")?;
-    append(alloc, &mut desk, "/dev/null", b"x")?;
+    for name in ["SUB.DIR", "ONE.BIN", "LINK.BIN", "LOOSE.BIN", "/dev/null"] {
+        append(alloc, &mut desk, name, b"x")?;
+        append(alloc, &mut desk, name, b"x")?;
+    }
     append(alloc, &mut desk, "NEW.BIN", b"")?;
     append(alloc, &mut desk, "PARTS.BIN", b"one")?;
     append(alloc, &mut desk, "PARTS.BIN", b"two")?;
     copy_longest(alloc, &mut desk, &longest)?;
-    show_all(alloc, &mut desk)
+    append_to_moved(&rt, alloc, &mut desk)?;
+    show_all(alloc, &mut desk)?;
+    make_a_thousand(alloc, &mut desk)
 }

@@ -7,12 +7,12 @@ use Rattle.gl_sphere.proofs.Arcs.{written_distance-bound, written_distance-mono}
 use Rattle.gl_sphere.proofs.Chords.{squared_chord-bound}
 use Rattle.gl_sphere.specs.Distance.{squared_chord, squared_gap, written_distance}
 use Rattle.gl_igc.specs.declared.fix.Fix.{Fix}
-use Rattle.gl_hull.proofs.Spans.{fixes_in-single}
-use Rattle.gl_hull.specs.Box.{Box, IsBetween, fixes_in, hull_of}
-use Rattle.gl_hull.specs.Chords.{greatest_chord, reach, squared}
-use Rattle.gl_hull.specs.Near.{IsPlaceOf}
-use Rattle.gl_hull.proofs.ChordBounds.{squared_chord-at_most}
-use Rattle.gl_hull.proofs.Held.{IsHeld, fix_box, hull_of-holds, hull_of-single, named}
+use Rattle.gl_goal.specs.Lemmas.Spans.{fixes_in-single}
+use Rattle.gl_goal.specs.Box.{Box, IsBetween, fixes_in, hull_of}
+use Rattle.gl_goal.specs.Chords.{greatest_chord, reach, squared}
+use Rattle.gl_goal.specs.Near.{IsPlaceOf}
+use Rattle.gl_goal.specs.Lemmas.ChordBounds.{squared_chord-at_most}
+use Rattle.gl_goal.specs.Lemmas.Held.{IsHeld, fix_box, hull_of-holds, hull_of-single, named}
 use Rattle.gl_free.specs.Code.Places.{IsMost, altitude_at, altitude_of, chord, chord_of, leg}
 
 abbrev hull_at : List Fix → ℕ × ℕ → Box

@@ -5,7 +5,7 @@ use Rattle.std.proofs.lemmas.Int.{ints}
 use Rattle.gl_sphere.proofs.Arcs.{written_distance-mono}
 use Rattle.gl_sphere.specs.Distance.{written_distance}
 use Rattle.gl_igc.specs.declared.fix.Fix.{Fix}
-use Rattle.gl_hull.specs.Box.{IsBetween, fixes_in, hull_of}
+use Rattle.gl_goal.specs.Box.{IsBetween, fixes_in, hull_of}
 use Rattle.gl_free.specs.declared.ends.Ends.{Ends}
 use Rattle.gl_free.specs.declared.far.Far.{Far}
 use Rattle.gl_free.specs.declared.side.Side.{Side}

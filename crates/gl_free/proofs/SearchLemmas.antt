@@ -5,7 +5,7 @@ use Rattle.std.proofs.lemmas.Bool.{both_ways, cases_lt}
 use Rattle.std.proofs.lemmas.List.{length-take, take-take, take_all}
 use Rattle.gl_igc.specs.declared.fix.Fix.{Fix}
 use Rattle.gl_goal.specs.declared.best.Best.{Best}
-use Rattle.gl_hull.specs.Near.{IsPlaceOf}
+use Rattle.gl_goal.specs.Near.{IsPlaceOf}
 use Rattle.gl_free.specs.declared.arm.Arm.{Arm}
 use Rattle.gl_free.specs.declared.arm.Arms.{Arms}
 use Rattle.gl_free.specs.declared.arm.Part.{Part}

@@ -6,7 +6,7 @@ use Rattle.std.proofs.lemmas.List.{get_or-take, get_or_default, length-take, tak
 use Rattle.std.proofs.Math.Seq.{get_or-append_seam, take-append_seam}
 use Rattle.gl_igc.specs.declared.fix.Fix.{Fix}
 use Rattle.gl_box.specs.Cell.{ends}
-use Rattle.gl_hull.specs.Near.{IsPlaceOf}
+use Rattle.gl_goal.specs.Near.{IsPlaceOf}
 use Rattle.gl_free.specs.declared.arm.Arm.{Arm}
 use Rattle.gl_free.specs.declared.candidate.Candidate.{Candidate}
 use Rattle.gl_free.specs.declared.ends.Ends.{Ends}

@@ -10,9 +10,9 @@ use Rattle.gl_sphere.proofs.Arcs.{arc_over-two, second_term_of-mono, second_term
 use Rattle.gl_sphere.proofs.Roots.{IsRoot-floor_root}
 use Rattle.gl_igc.specs.declared.fix.Fix.{Fix}
 use Rattle.gl_box.specs.Cell.{ends}
-use Rattle.gl_hull.specs.Box.{Box, IsInside, fixes_in, hull_of, point_box}
-use Rattle.gl_hull.specs.Chords.{IsGreatestChord}
-use Rattle.gl_hull.proofs.Held.{named, point_box-inside}
+use Rattle.gl_goal.specs.Box.{Box, IsInside, fixes_in, hull_of, point_box}
+use Rattle.gl_goal.specs.Chords.{IsGreatestChord}
+use Rattle.gl_goal.specs.Lemmas.Held.{named, point_box-inside}
 use Rattle.gl_places.specs.declared.by_place.ByPlace.{ByPlace}
 use Rattle.gl_places.specs.ByPlace.{IsByPlace}
 use Rattle.gl_places.proofs.Orders.{hulls_long, numbered_fix, numbers_below, numbers_long, placed}

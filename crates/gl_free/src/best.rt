@@ -12,8 +12,7 @@ use crate::ranges::advance;
 use crate::search::Search;
 use crate::warm::warm_start;
 use gl_box::Span;
-use gl_goal::{Best, FreeGoal};
-use gl_hull::Hulls;
+use gl_goal::{Best, FreeGoal, Hulls};
 use std::alloc::{AllocError, Global};
 
 /// Room for ranges of altitudes.

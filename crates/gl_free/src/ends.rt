@@ -1,7 +1,7 @@
 ghost use Rattle.std.specs.Prelude.{◌↔◌, ◌≤ℤ◌, IsTrue};
 
 use crate::side::Side;
-use gl_hull::Hull;
+use gl_goal::Hull;
 
 /// The fixes that may end a choice on one side: those from the lowest to the highest altitude.
 #[derive(Clone, Copy, PartialEq, Eq)]

@@ -7,7 +7,7 @@ ghost use Rattle.gl_free.specs.Code.Reach.{IsReach, Raises};
 use crate::ends::Ends;
 use crate::node::{Node, halves};
 use gl_box::Span;
-use gl_hull::{Hulls, max_sq};
+use gl_goal::{Hulls, max_sq};
 use gl_sphere::{GREATEST_SQUARE, dist};
 
 /// A place, and one more than how far it is, by a distance or by a squared chord: 0 where there is

@@ -1,7 +1,7 @@
 ghost use Rattle.std.specs.Prelude.{◌≡◌, ◌+◌, ◌*◌, ◌<◌, ◌≤◌, ◌^◌, [], ◌∷◌, ◌++◌, List, max, length, take, IfOk, OnOk};
 ghost use Rattle.gl_box.specs.Cell.{ends};
 ghost use Rattle.gl_igc.specs.declared.fix.Fix.{Fix};
-ghost use Rattle.gl_hull.specs.Near.{IsPlaceOf};
+ghost use Rattle.gl_goal.specs.Near.{IsPlaceOf};
 ghost use Rattle.gl_free.specs.Code.Arms.{IsTop};
 ghost use Rattle.gl_free.specs.Code.Candidates.{IsAmong, IsCandidate, IsFlank, IsPart, Sifts, Starts};
 ghost use Rattle.gl_free.specs.Code.Farthest.{IsBeyond, IsFarthest, IsNode};
@@ -14,7 +14,7 @@ use crate::known::Known;
 use crate::node::{Node, halves};
 use crate::side::Side;
 use gl_box::Span;
-use gl_hull::Hulls;
+use gl_goal::Hulls;
 use std::alloc::{AllocError, Global};
 
 /// More than any two legs.

@@ -10,7 +10,7 @@ use crate::far::Far;
 use crate::side::Side;
 use crate::tree::Tree;
 use crate::way::Target;
-use gl_hull::Hulls;
+use gl_goal::Hulls;
 use gl_igc::Fix;
 use gl_places::ByPlace;
 use std::alloc::{AllocError, Global};

@@ -9,8 +9,7 @@ use crate::choice::choose;
 use crate::ends::Sides;
 use crate::half::Half;
 use crate::pair::Pair;
-use gl_goal::{Best, FreeGoal};
-use gl_hull::Hulls;
+use gl_goal::{Best, FreeGoal, Hulls};
 use gl_places::ByPlace;
 use std::alloc::{AllocError, Global};
 

@@ -4,7 +4,7 @@ ghost use Rattle.gl_free.specs.Code.Farthest.{IsNode};
 ghost use Rattle.gl_free.specs.Code.Places.{IsMost, chord, leg};
 
 use gl_box::Span;
-use gl_hull::{Hull, Hulls, max_sq};
+use gl_goal::{Hull, Hulls, max_sq};
 use gl_sphere::{GREATEST_SQUARE, dist};
 
 /// A span of places and the hull of the fixes there.

@@ -7,8 +7,7 @@ ghost use Rattle.gl_free.specs.Code.Search.{AreFlanks, IsValid};
 use crate::altitudes::Altitudes;
 use crate::pair::Pair;
 use crate::search::Search;
-use gl_goal::FreeGoal;
-use gl_hull::Hulls;
+use gl_goal::{FreeGoal, Hulls};
 use std::alloc::{AllocError, Global};
 
 /// An altitude halfway between two.

@@ -12,8 +12,7 @@ use crate::search::Search;
 use crate::side::Side;
 use crate::stop::Stop;
 use gl_box::Span;
-use gl_goal::FreeGoal;
-use gl_hull::Hulls;
+use gl_goal::{FreeGoal, Hulls};
 use std::alloc::{AllocError, Global};
 
 /// More metres than any two altitudes differ by.

@@ -13,8 +13,7 @@ use crate::flank::Flank;
 use crate::node::{Node, halves};
 use crate::stop::Stop;
 use gl_box::Span;
-use gl_goal::{Best, FreeGoal};
-use gl_hull::Hulls;
+use gl_goal::{Best, FreeGoal, Hulls};
 use std::alloc::AllocError;
 
 /// What a search has found so far, what it keeps of both sides of the middle fix, and how many

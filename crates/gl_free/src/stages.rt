@@ -1,6 +1,6 @@
 ghost use Rattle.std.specs.Prelude.{◌≡◌, ◌≤◌, vec_len};
 
-use gl_hull::Hulls;
+use gl_goal::Hulls;
 use gl_sphere::{dist, sq};
 use std::alloc::{AllocError, Global};
 

@@ -8,7 +8,7 @@ use crate::branch::Branch;
 use crate::node::halves;
 use crate::way::{Longest, Most, Target};
 use gl_box::Span;
-use gl_hull::{Hull, Hulls, max_sq};
+use gl_goal::{Hull, Hulls, max_sq};
 use gl_places::ByPlace;
 use gl_sphere::{GREATEST_SQUARE, dist, sq};
 use std::alloc::{AllocError, Global};

@@ -9,9 +9,9 @@ use Rattle.std.proofs.Math.Seq.{get_or-append_seam}
 use Rattle.gl_sphere.specs.declared.place.Vec3.{Vec3}
 use Rattle.gl_sphere.specs.Distance.{arc_over, floor_root, fourth_term_of, second_term_of, squared_chord, squared_gap, third_term_of, written_distance, distance}
 use Rattle.gl_igc.specs.declared.fix.Fix.{Fix}
-use Rattle.gl_hull.specs.Box.{Box, IsInside, fixes_in, hull_of}
-use Rattle.gl_hull.proofs.Held.{hull_of-holds, named}
-use Rattle.gl_hull.specs.Near.{IsLastNear, IsLastNearBox, IsNear, IsNearBox, IsNoneNear, IsNoneNearBox}
+use Rattle.gl_goal.specs.Box.{Box, IsInside, fixes_in, hull_of}
+use Rattle.gl_goal.specs.Lemmas.Held.{hull_of-holds, named}
+use Rattle.gl_goal.specs.Near.{IsLastNear, IsLastNearBox, IsNear, IsNearBox, IsNoneNear, IsNoneNearBox}
 use Rattle.gl_goal.specs.Reach.{Closes, IsReach}
 use Rattle.gl_goal.specs.Code.Round.{IsNoneBehind}
 use Rattle.gl_goal.proofs.Reaches.{Closes-mono}

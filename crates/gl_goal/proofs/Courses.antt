@@ -3,7 +3,7 @@ use Rattle.std.proofs.Common.{◌≡◌, ◌∙◌, sym, ap, refl, ℕ, suc, ◌
 use Rattle.std.proofs.lemmas.List.{take_all}
 use Rattle.gl_sphere.specs.declared.place.Vec3.{Vec3}
 use Rattle.gl_igc.specs.declared.fix.Fix.{Fix}
-use Rattle.gl_hull.specs.Box.{Box, point_box}
+use Rattle.gl_goal.specs.Box.{Box, point_box}
 use Rattle.gl_box.specs.Cell.{Covers}
 use Rattle.gl_box.proofs.Held.{length-covers}
 use Rattle.gl_goal.specs.Goal.{IsTuple, chosen, whole_cell}

@@ -4,7 +4,7 @@ use Rattle.gl_box.specs.Cell.{Covers, ends, spans_of}
 use Rattle.gl_box.specs.declared.cell.Cell.{Cell}
 use Rattle.gl_box.specs.declared.span.Span.{Span}
 use Rattle.gl_igc.specs.declared.fix.Fix.{Fix}
-use Rattle.gl_hull.specs.Box.{Box, fixes_in, hull_of}
+use Rattle.gl_goal.specs.Box.{Box, fixes_in, hull_of}
 use Rattle.gl_goal.specs.declared.free.FreeGoal.{FreeGoal}
 use Rattle.gl_goal.specs.Goal.{whole_cell}
 use Rattle.gl_goal.specs.Chain.{fixes_at, hulls_of}

@@ -13,3 +13,10 @@ pub mod Reaches
 pub mod Seen
 pub mod Totals
 pub mod Tuples
+pub mod Attained
+pub mod Ends
+pub mod Entries
+pub mod Gaps
+pub mod Kept
+pub mod LeastBoxes
+pub mod Nearest

@@ -8,7 +8,7 @@ use Rattle.std.proofs.lemmas.List.Elements.{All-append, All-nil, All-tail}
 use Rattle.std.proofs.lemmas.Option.{get_or_from_slice_get, slice_get-get_or, slice_get_within}
 use Rattle.gl_sphere.specs.declared.place.Vec3.{Vec3}
 use Rattle.gl_igc.specs.declared.fix.Fix.{Fix}
-use Rattle.gl_hull.specs.Box.{Box, fixes_in, hull_of}
+use Rattle.gl_goal.specs.Box.{Box, fixes_in, hull_of}
 use Rattle.gl_box.specs.Cell.{Covers, ends, spans_of}
 use Rattle.gl_box.specs.Halves.{span_at}
 use Rattle.gl_box.specs.Tuple.{places_of}

@@ -11,7 +11,7 @@ use Rattle.gl_box.proofs.Held.{length-covers}
 use Rattle.gl_box.specs.declared.cell.Cell.{Cell}
 use Rattle.gl_box.specs.declared.span.Span.{Span}
 use Rattle.gl_box.specs.declared.tuple.Tuple.{Tuple}
-use Rattle.gl_hull.specs.Box.{Box}
+use Rattle.gl_goal.specs.Box.{Box}
 use Rattle.gl_igc.specs.declared.fix.Fix.{Fix}
 use Rattle.gl_goal.specs.Chain.{hulls_of}
 use Rattle.gl_goal.specs.Goal.{IsTuple, chosen, whole_cell}

@@ -2,7 +2,7 @@
 use Rattle.std.specs.Prelude.{ℕ, ◌-◌, true, false, List, [], ◌∷◌, ◌++◌}
 use Rattle.gl_sphere.specs.declared.place.Vec3.{Vec3}
 use Rattle.gl_igc.specs.declared.fix.Fix.{Fix}
-use Rattle.gl_hull.specs.Box.{point_box}
+use Rattle.gl_goal.specs.Box.{point_box}
 use Rattle.gl_goal.specs.Chain.{fixes_at, greatest_legs, hulls_of, legs, points_of}
 use Rattle.gl_goal.specs.Goal.{Goal}
 

@@ -6,8 +6,8 @@ use Rattle.std.specs.List.{filter_map}
 use Rattle.gl_sphere.specs.declared.place.Vec3.{Vec3}
 use Rattle.gl_sphere.specs.Distance.{written_distance, distance}
 use Rattle.gl_igc.specs.declared.fix.Fix.{Fix}
-use Rattle.gl_hull.specs.Box.{Box, fixes_in, hull_of}
-use Rattle.gl_hull.specs.Chords.{greatest_chord, least_chord}
+use Rattle.gl_goal.specs.Box.{Box, fixes_in, hull_of}
+use Rattle.gl_goal.specs.Chords.{greatest_chord, least_chord}
 
 -- the last of a first one and others
 abbrev pub last_of : {X : Type 0} → X → List X → X

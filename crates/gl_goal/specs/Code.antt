@@ -3,3 +3,4 @@
 -- cites them.
 pub mod Lists
 pub mod Round
+pub mod Boxes

@@ -2,7 +2,7 @@
 use Rattle.std.specs.Prelude.{◌≡◌, ℕ, List}
 use Rattle.gl_box.specs.Cell.{ends}
 use Rattle.gl_igc.specs.declared.fix.Fix.{Fix}
-use Rattle.gl_hull.specs.Box.{fixes_in, hull_of}
+use Rattle.gl_goal.specs.Box.{fixes_in, hull_of}
 use Rattle.gl_goal.specs.declared.free.FreeGoal.{FreeGoal}
 use Rattle.gl_goal.specs.declared.leg.Leg.{Leg}
 use Rattle.gl_goal.specs.Chain.{greatest_distance}

@@ -18,3 +18,8 @@ pub mod OutGoal
 pub mod Reach
 pub mod Triangle
 pub mod TriangleGoal
+pub mod Box
+pub mod Chords
+pub mod Hull
+pub mod Near
+pub mod Table

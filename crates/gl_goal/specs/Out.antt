@@ -3,7 +3,7 @@
 use Rattle.std.specs.Prelude.{ℕ, ◌+◌, ◌-◌, true, false, List, ◌∷◌, length, take}
 use Rattle.gl_sphere.specs.declared.place.Vec3.{Vec3}
 use Rattle.gl_igc.specs.declared.fix.Fix.{Fix}
-use Rattle.gl_hull.specs.Box.{Box, point_box}
+use Rattle.gl_goal.specs.Box.{Box, point_box}
 use Rattle.gl_sphere.specs.Distance.{distance}
 use Rattle.gl_goal.specs.Chain.{fixes_at, greatest_distance, greatest_legs, hulls_of, last_of, least_distance, legs, points_of}
 use Rattle.gl_goal.specs.Goal.{Goal}

@@ -7,11 +7,11 @@ ghost use Rattle.gl_goal.specs.Lemmas.Area.{area_goal-is_goal};
 
 use crate::area::AreaGoal;
 use crate::goal::Goal;
+use crate::hull::Hull;
 use crate::leg::Leg;
 use crate::legs::{leg, leg_at_most};
 use crate::lists::Lists;
 use gl_box::{Cell, Tuple};
-use gl_hull::Hull;
 use gl_igc::Fix;
 use gl_sphere::Vec3;
 use std::alloc::{AllocError, Global};

@@ -1,4 +1,4 @@
-use gl_hull::Hulls;
+use crate::hulls::Hulls;
 use std::alloc::Global;
 use std::sync::Arc;
 

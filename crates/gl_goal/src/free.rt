@@ -2,7 +2,7 @@ ghost use Rattle.std.specs.Prelude.{◌≡◌, ◌<◌, ◌≤◌, ◌≤ℤ◌,
 ghost use Rattle.std.specs.Coded.{Coded-set};
 ghost use Rattle.gl_goal.specs.Free.{fixes_between};
 
-use gl_hull::Hulls;
+use crate::hulls::Hulls;
 use gl_igc::Fix;
 
 /// The free distance over some fixes of a recording: five fixes in time order, worth the four legs

@@ -1,7 +1,7 @@
 ghost use Rattle.std.specs.Prelude.{◌≡◌, ◌^◌, ◌≤◌, ◌<◌, ◌≤ℤ◌, ◌-ℤ◌, ◌↔◌, pos, [], ◌∷◌, length, map, IfOk, IsTrue, Some, All, slice_get};
 ghost use Rattle.gl_box.specs.Cell.{Covers, ends, spans_of};
 ghost use Rattle.gl_box.specs.Tuple.{places_of};
-ghost use Rattle.gl_hull.specs.Hull.{box_of};
+ghost use Rattle.gl_goal.specs.Hull.{box_of};
 ghost use Rattle.gl_goal.specs.Chain.{hulls_of};
 ghost use Rattle.gl_goal.specs.Free.{five_axes, fixes_between, free_goal};
 ghost use Rattle.gl_goal.specs.Goal.{IsGoal, IsInTimeOrder, IsLegal, IsTuple, chosen, whole_cell};
@@ -11,11 +11,12 @@ ghost use Rattle.gl_goal.specs.Lemmas.Free.{free_goal-is_goal};
 
 use crate::free::FreeGoal;
 use crate::goal::Goal;
+use crate::hull::Hull;
+use crate::hulls::Hulls;
 use crate::leg::Leg;
 use crate::legs::{leg, leg_at_most};
 use crate::numbers::numbers_between;
 use gl_box::{Cell, Span, Tuple};
-use gl_hull::{Hull, Hulls};
 use gl_igc::Fix;
 use std::alloc::{AllocError, Global};
 

@@ -1,9 +1,10 @@
 ghost use Rattle.std.specs.Prelude.{◌≡◌, ◌<◌, ◌^◌};
-ghost use Rattle.gl_hull.specs.Hull.{box_of};
+ghost use Rattle.gl_goal.specs.Hull.{box_of};
 ghost use Rattle.gl_sphere.specs.Distance.{distance};
 ghost use Rattle.gl_goal.specs.Chain.{greatest_distance, least_distance};
 
-use gl_hull::{Hull, max_sq, min_sq};
+use crate::chords::{max_sq, min_sq};
+use crate::hull::Hull;
 use gl_sphere::{Vec3, dist, sq};
 
 /// The distance between two points, in centimetres.

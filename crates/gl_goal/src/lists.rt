@@ -1,8 +1,9 @@
 use crate::axis::Axis;
+use crate::hull::Hull;
+use crate::hulls::Hulls;
 use crate::legs::{leg, leg_at_most};
 use crate::way::{GreatestWay, Way};
 use gl_box::{Cell, Span, Tuple};
-use gl_hull::{Hull, Hulls};
 use gl_igc::Fix;
 use gl_sphere::Vec3;
 use std::alloc::{AllocError, Global};
@@ -69,8 +70,8 @@ impl Lists {
     ghost use Rattle.std.specs.Prelude.{◌≡◌, ◌≤◌, ◌<◌, ◌↔◌, [], ◌∷◌, length, map, take, IfOk, IsTrue, Some, slice_get, slice_index_or};
     ghost use Rattle.gl_box.specs.Cell.{Covers, ends, spans_of};
     ghost use Rattle.gl_box.specs.Tuple.{places_of};
-    ghost use Rattle.gl_hull.specs.Box.{fixes_in, hull_of};
-    ghost use Rattle.gl_hull.specs.Hull.{box_of};
+    ghost use Rattle.gl_goal.specs.Box.{fixes_in, hull_of};
+    ghost use Rattle.gl_goal.specs.Hull.{box_of};
     ghost use Rattle.gl_goal.specs.Chain.{fixes_at, greatest_legs, hulls_of, last_of, legs, points_of};
     ghost use Rattle.std.specs.List.Sorted.{IsStrictlyIncreasing};
     ghost use Rattle.gl_goal.specs.Lists.{AreLists, AreNamed};

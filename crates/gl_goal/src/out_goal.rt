@@ -6,12 +6,12 @@ ghost use Rattle.gl_goal.specs.Goal.{IsGoal};
 ghost use Rattle.gl_goal.specs.Lemmas.Out.{out_goal-is_goal};
 
 use crate::goal::Goal;
+use crate::hull::Hull;
 use crate::leg::Leg;
 use crate::legs::{leg, leg_at_least, leg_at_most};
 use crate::lists::Lists;
 use crate::outlanding::OutGoal;
 use gl_box::{Cell, Tuple};
-use gl_hull::Hull;
 use gl_igc::Fix;
 use gl_sphere::Vec3;
 use std::alloc::{AllocError, Global};

@@ -2,8 +2,8 @@ ghost use Rattle.std.specs.Prelude.{ℕ, ◌≡◌, ◌-◌, ◌≤◌, ◌<◌,
 ghost use Rattle.gl_goal.specs.Code.Round.{AreReaches, IsNoneBehind};
 ghost use Rattle.gl_goal.specs.Reach.{IsReach};
 
+use crate::hulls::Hulls;
 use gl_box::Span;
-use gl_hull::Hulls;
 use std::alloc::{AllocError, Global};
 
 /// How many places a stretch has: what is too far from all of them is found once for all.

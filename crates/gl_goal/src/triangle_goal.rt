@@ -1,7 +1,7 @@
 ghost use Rattle.std.specs.Prelude.{◌≡◌, ◌-◌, ◌≤◌, ◌<◌, [], ◌∷◌, length, map, IfOk};
 ghost use Rattle.gl_box.specs.Cell.{Covers, spans_of};
 ghost use Rattle.gl_box.specs.Tuple.{places_of};
-ghost use Rattle.gl_hull.specs.Hull.{box_of};
+ghost use Rattle.gl_goal.specs.Hull.{box_of};
 ghost use Rattle.gl_sphere.specs.Distance.{distance};
 ghost use Rattle.gl_goal.specs.Chain.{fixes_at, greatest_distance, hulls_of, least_distance, points_of};
 ghost use Rattle.gl_goal.specs.Free.{fixes_between};
@@ -13,6 +13,8 @@ ghost use Rattle.gl_goal.specs.TriangleGoal.{triangle_rule};
 ghost use Rattle.gl_goal.specs.Lemmas.Triangle.{triangle_goal-is_goal};
 
 use crate::goal::Goal;
+use crate::hull::Hull;
+use crate::hulls::Hulls;
 use crate::leg::Leg;
 use crate::leg_rule::{are_fair, are_none_fair, most_of_fair};
 use crate::legs::{leg, leg_at_least, leg_at_most};
@@ -22,7 +24,6 @@ use crate::reach::reaches;
 use crate::round::Round;
 use crate::triangle::TriangleGoal;
 use gl_box::{Cell, Tuple};
-use gl_hull::{Hull, Hulls};
 use gl_igc::Fix;
 use gl_sphere::Vec3;
 use std::alloc::{AllocError, Global};

@@ -1,6 +1,6 @@
 ghost use Rattle.std.specs.Prelude.{◌<◌, ◌^◌};
 
-use gl_hull::Hull;
+use crate::hull::Hull;
 use gl_sphere::Vec3;
 
 /// The legs along some points: how long they are, in centimetres, and where they end.

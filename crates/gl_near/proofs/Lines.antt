@@ -6,11 +6,11 @@ use Rattle.std.specs.Fmt.{decimal}
 use Rattle.std.specs.Prelude.{All, codes}
 use Rattle.std.proofs.lemmas.List.{append-nil, append_cancel_left}
 use Rattle.std.proofs.lemmas.List.Elements.{All-head, All-tail}
-use Rattle.gl_lines.specs.Fronts.{IsNumberAt, IsSpanAt, IsTotalAt, Reads, Stops}
-use Rattle.gl_lines.specs.Code.Grammar.{IsPlain}
-use Rattle.gl_lines.specs.Words.{IsSpan, spaced, span_word, total_word}
-use Rattle.gl_lines.proofs.Codes.{number_unique, span_unique, words_front}
-use Rattle.gl_lines.proofs.Words.{feed_first, no_word, span_once, total_there, total_unique}
+use Rattle.gl_proof.specs.Fronts.{IsNumberAt, IsSpanAt, IsTotalAt, Reads, Stops}
+use Rattle.gl_proof.specs.Code.Grammar.{IsPlain}
+use Rattle.gl_proof.specs.Words.{IsSpan, spaced, span_word, total_word}
+use Rattle.gl_proof.proofs.Codes.{number_unique, span_unique, words_front}
+use Rattle.gl_proof.proofs.Words.{feed_first, no_word, span_once, total_there, total_unique}
 use Rattle.gl_near.specs.declared.found.NearWhy.{NearWhy}
 use Rattle.gl_near.specs.declared.found.NearWhy.TheVariants.{Time, Near}
 use Rattle.gl_near.specs.Code.Fronts.{IsBoxAt, IsLeastAt, IsPairAt, IsReasonAt}

@@ -3,7 +3,7 @@ use Rattle.std.proofs.Common.{◌≡◌, ◌∙◌, sym, ap, refl, ℕ, ◌<◌,
 use Rattle.std.proofs.lemmas.List.{map-append, take_more}
 use Rattle.std.proofs.lemmas.Option.{get_or_from_slice_get}
 use Rattle.gl_igc.specs.declared.fix.Fix.{Fix}
-use Rattle.gl_hull.proofs.Held.{named}
+use Rattle.gl_goal.specs.Lemmas.Held.{named}
 
 -- one number more names one fix more
 pub one_more : (fixes : List Fix) (numbers pushed : List ℕ) (number : ℕ) → number < length fixes → pushed ≡ numbers ++ number ∷ [] → map (slice_get fixes) numbers ≡ map Some (take number fixes)

@@ -11,11 +11,11 @@ use Rattle.gl_sphere.specs.declared.place.Vec3.{Vec3}
 use Rattle.gl_sphere.specs.Distance.{squared_chord, written_distance, distance}
 use Rattle.gl_igc.specs.declared.fix.Fix.{Fix}
 use Rattle.gl_igc.proofs.SecondsLemmas.{later}
-use Rattle.gl_hull.specs.Box.{Box, IsInside, fixes_in, hull_of, point_box}
-use Rattle.gl_hull.specs.Chords.{least_chord}
-use Rattle.gl_hull.proofs.Spans.{fixes_in-single}
-use Rattle.gl_hull.proofs.ChordBounds.{gap-at, squared_chord-at_least}
-use Rattle.gl_hull.proofs.Held.{fix_box, hull_of-holds, hull_of-single, named, point_box-inside}
+use Rattle.gl_goal.specs.Box.{Box, IsInside, fixes_in, hull_of, point_box}
+use Rattle.gl_goal.specs.Chords.{least_chord}
+use Rattle.gl_goal.specs.Lemmas.Spans.{fixes_in-single}
+use Rattle.gl_goal.specs.Lemmas.ChordBounds.{gap-at, squared_chord-at_least}
+use Rattle.gl_goal.specs.Lemmas.Held.{fix_box, hull_of-holds, hull_of-single, named, point_box-inside}
 use Rattle.gl_box.specs.Cell.{Covers, Holds, point}
 use Rattle.gl_box.specs.Halves.{span_at}
 use Rattle.gl_box.proofs.Held.{covers_at, holds_at, holds_whole, length-covers}

@@ -5,12 +5,12 @@ use Rattle.std.proofs.lemmas.Bool.{false≢true}
 use Rattle.std.proofs.lemmas.List.{append-nil, length-append, length-map}
 use Rattle.std.proofs.lemmas.List.Concat.{flat_map-append}
 use Rattle.std.proofs.lemmas.List.Elements.{All-head, All-tail}
-use Rattle.gl_lines.specs.declared.error.ProofError.{ProofError}
-use Rattle.gl_lines.specs.declared.error.ProofError.TheVariants.{Line as WrongLine, Memory}
-use Rattle.gl_lines.specs.Misfit.{IsMisfit}
-use Rattle.gl_lines.specs.Refusal.{Follow, IsRefusal, NoneFollows, RunsThrough, last_line}
-use Rattle.gl_lines.proofs.Pieces.{pieces_push}
-use Rattle.gl_lines.proofs.Refused.{IsFull, after_refused, follow_append, full_refused, full_unique, last-append, misfit_refused, refused_once, runs_more}
+use Rattle.gl_proof.specs.declared.error.ProofError.{ProofError}
+use Rattle.gl_proof.specs.declared.error.ProofError.TheVariants.{Line as WrongLine, Memory}
+use Rattle.gl_proof.specs.Misfit.{IsMisfit}
+use Rattle.gl_proof.specs.LineRefusal.{Follow, IsRefusal, NoneFollows, RunsThrough, last_line}
+use Rattle.gl_proof.proofs.Pieces.{pieces_push}
+use Rattle.gl_proof.proofs.Refused.{IsFull, after_refused, follow_append, full_refused, full_unique, last-append, misfit_refused, refused_once, runs_more}
 use Rattle.gl_near.specs.declared.found.NearBest.{NearBest}
 use Rattle.gl_near.specs.declared.found.NearWhy.{NearWhy}
 use Rattle.gl_near.specs.Code.Fronts.{LacksBest, NoBox, NoLeast, NoPair}

@@ -1,7 +1,7 @@
 -- The verdicts, from what is said of the boxes.
 use Rattle.std.proofs.Common.{◌≡◌, ℕ, List, length, Option, arith}
 use Rattle.std.proofs.lemmas.List.{length-map}
-use Rattle.gl_walk.specs.Boxes.{Said, NoneWrong, ExtraBox, StrayBox, UnclosedBox, Unfinished}
+use Rattle.gl_box.specs.Boxes.{Said, NoneWrong, ExtraBox, StrayBox, UnclosedBox, Unfinished}
 use Rattle.gl_near.specs.declared.found.NearBest.{NearBest}
 use Rattle.gl_near.specs.declared.found.NearWhy.{NearWhy}
 use Rattle.gl_near.specs.Pairing.{Pairing}

@@ -10,9 +10,9 @@ use Rattle.gl_box.specs.Halves.{span_at}
 use Rattle.gl_box.specs.declared.cell.Cell.{Cell}
 use Rattle.gl_box.specs.declared.span.Span.{Span}
 use Rattle.gl_box.proofs.Spans.{length-spans_of, span_at-spans_of}
-use Rattle.gl_lines.specs.Kept.{Keeps}
-use Rattle.gl_lines.specs.Words.{IsSpan, span_word, total_word}
-use Rattle.gl_lines.proofs.Pieces.{pieces_more}
+use Rattle.gl_proof.specs.Kept.{Keeps}
+use Rattle.gl_proof.specs.Words.{IsSpan, span_word, total_word}
+use Rattle.gl_proof.proofs.Pieces.{pieces_more}
 use Rattle.gl_near.specs.declared.found.NearBest.{NearBest}
 use Rattle.gl_near.specs.declared.found.NearClosed.{NearClosed}
 use Rattle.gl_near.specs.declared.found.NearWhy.{NearWhy}

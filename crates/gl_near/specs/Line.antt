@@ -2,8 +2,8 @@
 use Rattle.std.specs.Prelude.{◌≡◌, ℕ, ◌^◌, ◌<◌, Bool, true, false, List, [], ◌∷◌, ◌++◌, length, map, Option, None, Some, IfSome, codes, All}
 use Rattle.std.specs.Fmt.{decimal}
 use Rattle.std.specs.List.{flat_map}
-use Rattle.gl_lines.specs.Grammar.{Grammar}
-use Rattle.gl_lines.specs.Words.{IsSpan, spaced, span_word, total_word}
+use Rattle.gl_proof.specs.Grammar.{Grammar}
+use Rattle.gl_proof.specs.Words.{IsSpan, spaced, span_word, total_word}
 use Rattle.gl_near.specs.declared.claim.NearClaim.{NearClaim}
 use Rattle.gl_near.specs.declared.found.NearBest.{NearBest}
 use Rattle.gl_near.specs.declared.found.NearWhy.{NearWhy}

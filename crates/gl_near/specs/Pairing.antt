@@ -5,8 +5,8 @@ use Rattle.gl_sphere.specs.declared.place.Vec3.{Vec3}
 use Rattle.gl_sphere.specs.Distance.{written_distance, distance}
 use Rattle.gl_igc.specs.declared.fix.Fix.{Fix}
 use Rattle.gl_igc.specs.Seconds.{is_rising}
-use Rattle.gl_hull.specs.Box.{Box, fixes_in, hull_of, point_box}
-use Rattle.gl_hull.specs.Chords.{least_chord}
+use Rattle.gl_goal.specs.Box.{Box, fixes_in, hull_of, point_box}
+use Rattle.gl_goal.specs.Chords.{least_chord}
 use Rattle.gl_box.specs.Halves.{span_at}
 
 -- what the pairs are of: two flights, with the seconds that the fixes of a pair may be apart at

@@ -1,7 +1,7 @@
 -- What a checker says of a claim: that it is a certificate, or the first thing that is wrong.
 use Rattle.std.specs.Prelude.{◌≢◌, ℕ, List, map, Option, IsSomeAnd}
 use Rattle.std.specs.List.{HoldsAt}
-use Rattle.gl_walk.specs.Boxes.{IsSaid, Said, ExtraBox, StrayBox, UnclosedBox, Unfinished}
+use Rattle.gl_box.specs.Boxes.{IsSaid, Said, ExtraBox, StrayBox, UnclosedBox, Unfinished}
 use Rattle.gl_near.specs.declared.claim.NearClaim.{NearClaim}
 use Rattle.gl_near.specs.declared.found.NearBest.{NearBest}
 use Rattle.gl_near.specs.declared.found.NearWhy.{NearWhy}

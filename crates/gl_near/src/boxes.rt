@@ -9,7 +9,7 @@ ghost use Rattle.gl_near.specs.Verdict.{IsClosedAt, IsVerdict};
 use crate::answer::NearVerdict;
 use crate::found::{NearBest, NearClosed, NearWhy};
 use crate::pairs::Pairs;
-use gl_walk::{WalkEnd, number_of, walk_along};
+use gl_box::{WalkEnd, number_of, walk_along};
 use std::alloc::{AllocError, Global};
 
 /// Whether a box is closed for the total by its reason.

@@ -1,7 +1,6 @@
 ghost use Rattle.gl_box.specs.Cell.{spans_of};
 
-use gl_box::Cell;
-use gl_walk::Boxed;
+use gl_box::{Boxed, Cell};
 
 /// The least distance that was found, in centimetres, and a pair that has it: the number of the
 /// fix of the first flight, and that of the fix of the second, or 0 for a place.

@@ -24,7 +24,7 @@ pub use answer::NearVerdict;
 pub use check::check_near;
 pub use claim::NearClaim;
 pub use found::{NearBest, NearClosed, NearFound, NearWhy};
-pub use gl_lines::ProofError as NearError;
+pub use gl_proof::ProofError as NearError;
 pub use nearest::nearest_fix;
 pub use pairs::{FlightAndPlace, Pairs, TwoFlights};
 pub use read::read_near;

@@ -1,12 +1,12 @@
 ghost use Rattle.std.specs.Prelude.{◌≡◌, ◌∷◌, []};
 ghost use Rattle.gl_box.specs.Cell.{ends, spans_of};
-ghost use Rattle.gl_lines.specs.Fronts.{Reads};
+ghost use Rattle.gl_proof.specs.Fronts.{Reads};
 ghost use Rattle.gl_near.specs.Certificate.{box_of};
 ghost use Rattle.gl_near.specs.Code.Fronts.{IsBoxAt, IsLeastAt, IsPairAt, IsReasonAt};
 
 use crate::found::{NearClosed, NearWhy};
 use gl_box::{Cell, Span, Tuple};
-use gl_lines::{behind, short_number_at, span_at, total_at};
+use gl_proof::{behind, short_number_at, span_at, total_at};
 
 /// The reason of a box whose line stands at the front of a text, and what follows it and its space.
 fn reason_at(text: &[u8]) -> Option<(NearWhy, &[u8])>

@@ -1,14 +1,14 @@
 ghost use Rattle.std.specs.Prelude.{◌≡◌, ◌≤◌, ◌<◌, ◌↔◌, length, pos, ◌<ℤ◌, ◌-ℤ◌, IsTrue, MatchOption, ℕ};
 ghost use Rattle.gl_box.specs.Cell.{Covers, ends, spans_of};
 ghost use Rattle.gl_box.specs.Halves.{span_at};
-ghost use Rattle.gl_hull.specs.Hull.{box_of};
+ghost use Rattle.gl_goal.specs.Hull.{box_of};
 ghost use Rattle.gl_sphere.specs.Distance.{distance};
 ghost use Rattle.gl_near.specs.Pairing.{AreApart, AreFixesAt, Fits, IsAfter, IsApart, IsFixAt, IsReached, least, least_distance, whole_cell};
 ghost use Rattle.gl_near.specs.Pairs.{pairing_of};
 
 use crate::pairs::{FlightAndPlace, Pairs, TwoFlights};
 use gl_box::{Cell, Span};
-use gl_hull::{Hull, min_sq};
+use gl_goal::{Hull, min_sq};
 use gl_sphere::{Vec3, dist};
 
 /// Whether a second is more than so many seconds after another.

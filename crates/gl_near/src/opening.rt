@@ -5,7 +5,7 @@ ghost use Rattle.gl_near.specs.Pairs.{pairing_of};
 
 use crate::pairs::{FlightAndPlace, Pairs, TwoFlights};
 use gl_box::{Cell, Span, Tuple};
-use gl_hull::Hulls;
+use gl_goal::Hulls;
 use gl_igc::Fix;
 use gl_sphere::Vec3;
 use std::alloc::{AllocError, Global};

@@ -1,7 +1,7 @@
 ghost use Rattle.std.specs.Prelude.{◌<◌, ◌≤◌, length};
 ghost use Rattle.gl_near.specs.Pairing.{AreRising};
 
-use gl_hull::Hulls;
+use gl_goal::Hulls;
 use gl_sphere::Vec3;
 
 /// Two flights. A pair of their fixes fits where the seconds differ by at most `apart`.

@@ -1,7 +1,7 @@
 ghost use Rattle.std.specs.Prelude.{◌≡◌, ◌≢◌, ◌⊎◌, ℕ, List, Option, map, IfOk, IfErr, IsErrOf, MatchResult};
-ghost use Rattle.gl_lines.specs.declared.error.ProofError.{ProofError};
-ghost use Rattle.gl_lines.specs.declared.error.ProofError.TheVariants.{Memory};
-ghost use Rattle.gl_lines.specs.Refusal.{IsRefusal};
+ghost use Rattle.gl_proof.specs.declared.error.ProofError.{ProofError};
+ghost use Rattle.gl_proof.specs.declared.error.ProofError.TheVariants.{Memory};
+ghost use Rattle.gl_proof.specs.LineRefusal.{IsRefusal};
 ghost use Rattle.gl_near.specs.declared.found.NearBest.{NearBest as Best};
 ghost use Rattle.gl_near.specs.declared.found.NearWhy.{NearWhy};
 ghost use Rattle.gl_near.specs.Certificate.{box_of};
@@ -11,7 +11,7 @@ ghost use Rattle.gl_near.specs.Line.{IsTextOf, near_grammar};
 use crate::claim::NearClaim;
 use crate::found::{NearBest, NearClosed};
 use crate::line::{box_at, least_at, pair_at};
-use gl_lines::{ProofError, behind, later, misfit};
+use gl_proof::{ProofError, behind, later, misfit};
 use std::alloc::{AllocError, Global};
 
 /// The heading of such a proof, which tells the version of the format.

@@ -1,14 +1,14 @@
 ghost use Rattle.std.specs.Prelude.{◌≡◌, [], ◌∷◌, ◌++◌, map, codes, All, IfSome, OnOk, OnErr};
 ghost use Rattle.gl_box.specs.Cell.{ends, spans_of};
 ghost use Rattle.gl_near.specs.Certificate.{box_of};
-ghost use Rattle.gl_lines.specs.Kept.{Keeps};
-ghost use Rattle.gl_lines.specs.Words.{IsSpan, span_word};
+ghost use Rattle.gl_proof.specs.Kept.{Keeps};
+ghost use Rattle.gl_proof.specs.Words.{IsSpan, span_word};
 ghost use Rattle.gl_near.specs.Line.{AreTwoSpans, BoxLine, IsBest, IsTextOf, IsWritable, LeastLine, PairLine, box_line, ended, front_lines, reason_word, spelled, text_of};
 
 use crate::claim::NearClaim;
 use crate::found::{NearBest, NearClosed, NearWhy};
 use gl_box::Span;
-use gl_lines::{push_number, push_total};
+use gl_proof::{push_number, push_total};
 use std::alloc::AllocError;
 
 /// The words with which the line of a box begins, for a reason.

@@ -5,7 +5,7 @@ use Rattle.gl_box.specs.declared.cell.Cell.{Cell}
 use Rattle.gl_box.specs.declared.closed.Closed.{Closed}
 use Rattle.gl_box.specs.Cell.{spans_of}
 use Rattle.gl_box.specs.Frontier.{IsFrontier}
-use Rattle.gl_walk.specs.Walk.{AreFrontiers, open_cells}
+use Rattle.gl_box.specs.Walk.{AreFrontiers, open_cells}
 use Rattle.gl_order.specs.Order.{cells_of}
 use Rattle.gl_order.specs.Runs.{Lead}
 

@@ -20,7 +20,7 @@ use Rattle.gl_box.proofs.Nodes.{covers_lower, covers_node, covers_upper, holds_t
 use Rattle.gl_box.proofs.Parts.{halves_parted, mult-append, mult-held}
 use Rattle.gl_box.proofs.Singles.{AreOrdered, ordered-set}
 use Rattle.gl_box.proofs.Spans.{single-narrow}
-use Rattle.gl_walk.proofs.Frontiers.{lower_unique, upper_unique, widest_unique}
+use Rattle.gl_box.proofs.Frontiers.{lower_unique, upper_unique, widest_unique}
 use Rattle.gl_order.specs.Code.Ends.{EachBetween, EndsBy}
 use Rattle.gl_order.specs.Order.{AreParts}
 

@@ -4,7 +4,7 @@ use Rattle.std.specs.Prelude.{ℕ, List, ◌++◌, All, map}
 use Rattle.gl_box.specs.declared.cell.Cell.{Cell}
 use Rattle.gl_box.specs.declared.closed.Closed.{Closed}
 use Rattle.gl_box.specs.Cell.{spans_of}
-use Rattle.gl_walk.specs.Walk.{AreFrontiers, open_cells}
+use Rattle.gl_box.specs.Walk.{AreFrontiers, open_cells}
 use Rattle.gl_order.specs.declared.run.Run.{Run}
 
 -- Boxes lead from some open cells to others: whatever is made of frontiers of the cells that are

@@ -5,12 +5,11 @@ ghost use Rattle.gl_box.specs.Frontier.{IsFrontier};
 ghost use Rattle.gl_order.specs.InRuns.{boxes_in_runs};
 ghost use Rattle.gl_order.specs.Order.{AreParts, cells_of};
 ghost use Rattle.gl_order.specs.Runs.{ArePassed};
-ghost use Rattle.gl_walk.specs.InLists.{boxes_in};
+ghost use Rattle.gl_box.specs.InLists.{boxes_in};
 
 use crate::run::Run;
 use crate::sorting::sorted;
-use gl_box::{Cell, Closed, covers};
-use gl_walk::Boxes;
+use gl_box::{Boxes, Cell, Closed, covers};
 use std::alloc::{AllocError, Global};
 
 /// Whether two lists have the same cells.

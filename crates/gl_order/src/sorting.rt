@@ -5,8 +5,7 @@ ghost use Rattle.gl_order.specs.Code.Ends.{EachBetween, EndsBy};
 ghost use Rattle.gl_order.specs.Order.{AreParts};
 
 use crate::stretches::bring_stretches;
-use gl_box::{Cell, halve, widest};
-use gl_walk::{Boxed, go_down};
+use gl_box::{Boxed, Cell, go_down, halve, widest};
 use std::alloc::{AllocError, Global};
 
 /// Room for open cells: each cut adds one, and a cell can be cut at most 32 times on each axis.

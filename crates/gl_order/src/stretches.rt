@@ -1,7 +1,6 @@
 ghost use Rattle.std.specs.Prelude.{◌≡◌, ◌+◌, ◌^◌, ◌<◌, ◌≤◌, length, IfOk, IsPermutation, OnOk};
 
-use gl_box::{Cell, covers, halve};
-use gl_walk::Boxed;
+use gl_box::{Boxed, Cell, covers, halve};
 use std::alloc::{AllocError, Global};
 
 /// How many stretches are put into order at most. Where there are more, they stay as they are.

@@ -3,7 +3,7 @@ ghost use Rattle.gl_goal.specs.Free.{numbers_from};
 ghost use Rattle.gl_places.specs.ByPlace.{IsByPlace};
 
 use gl_box::Span;
-use gl_hull::Hulls;
+use gl_goal::Hulls;
 use gl_igc::Fix;
 use std::alloc::{AllocError, Global};
 

@@ -16,7 +16,7 @@ use Rattle.gl_goal.specs.Certificate.{IsClosedFor}
 use Rattle.gl_goal.specs.Best.{IsNoLess, IsSound, total_of}
 use Rattle.gl_goal.specs.declared.best.Best.{Best}
 use Rattle.gl_goal.proofs.Totals.{less_self, less_through}
-use Rattle.gl_walk.specs.Walk.{AreFrontiers}
+use Rattle.gl_box.specs.Walk.{AreFrontiers}
 use Rattle.gl_plain.specs.declared.part.Part.{Part}
 use Rattle.gl_plain.specs.declared.part.Part.TheVariants.{Open, Done}
 use Rattle.gl_plain.specs.declared.search.Finished.{Finished}

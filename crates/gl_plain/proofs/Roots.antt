@@ -6,7 +6,7 @@ use Rattle.std.proofs.lemmas.List.Elements.{All-from_get_or}
 use Rattle.gl_box.specs.Frontier.{IsFrontier, IsNode}
 use Rattle.gl_box.specs.Frontier.IsFrontier.{alone, parted}
 use Rattle.gl_box.proofs.Nodes.{member_node}
-use Rattle.gl_walk.specs.Walk.{AreFrontiers}
+use Rattle.gl_box.specs.Walk.{AreFrontiers}
 
 -- a single root gave way to a frontier of it
 one_frontier : (root : List (ℕ × ℕ)) (cells : List (List (ℕ × ℕ))) → AreFrontiers (root ∷ []) cells → IsFrontier root cells

@@ -5,7 +5,7 @@ use Rattle.gl_box.specs.Closed.{box_of}
 use Rattle.gl_box.specs.Frontier.{mult}
 use Rattle.gl_goal.specs.Goal.{Goal, whole_cell}
 use Rattle.gl_goal.specs.Certificate.{IsCertificate}
-use Rattle.gl_walk.specs.InLists.{boxes_in}
+use Rattle.gl_box.specs.InLists.{boxes_in}
 use Rattle.gl_plain.specs.declared.found.Found.{Found}
 use Rattle.gl_goal.specs.Best.{fixes_of, total_of}
 use Rattle.gl_plain.specs.Search.{IsNeeded}

@@ -1,5 +1,5 @@
+use gl_box::Boxes;
 use gl_goal::Best;
-use gl_walk::Boxes;
 
 /// The optimum of a goal, `None` where no tuple is legal, and the boxes that show that no legal
 /// tuple is worth more: in the order of the split tree they part all tuples.

@@ -1,7 +1,6 @@
 ghost use Rattle.gl_plain.specs.Parts.{cell_of};
 
-use gl_box::{Cell, Closed};
-use gl_walk::Boxed;
+use gl_box::{Boxed, Cell, Closed};
 
 /// A cell as it was left.
 #[derive(Clone, Copy)]

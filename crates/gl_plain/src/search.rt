@@ -12,9 +12,8 @@ use crate::found::Found;
 use crate::part::Part;
 use crate::verdict::{CellVerdict, test};
 use crate::warm::warm_start;
-use gl_box::{Cell, Closed, Why, halve};
+use gl_box::{Boxes, Cell, Closed, Why, halve};
 use gl_goal::{Best, Goal, Leg, better, measured_legs, whole};
-use gl_walk::Boxes;
 use std::alloc::{AllocError, Global};
 
 /// Room for open cells: each cut adds one, and a cell can be cut at most 32 times on each axis.

@@ -30,7 +30,7 @@ use Rattle.gl_pool.specs.Code.Many.{ComesToAll}
 use Rattle.gl_pool.specs.Code.Tally.{IsTally, word_of}
 use Rattle.gl_pool.proofs.Hearing.{closed_longer}
 use Rattle.gl_pool.proofs.Together.{closed_needed, closed_parts}
-use Rattle.gl_walk.specs.InLists.{boxes_in}
+use Rattle.gl_box.specs.InLists.{boxes_in}
 use Rattle.gl_order.specs.InRuns.{boxes_in_runs}
 
 -- the word for what was found says its total

@@ -7,8 +7,8 @@ use Rattle.gl_box.specs.declared.closed.Why.{Why}
 use Rattle.gl_box.specs.Cell.{spans_of}
 use Rattle.gl_box.specs.Halves.{AreHalves}
 use Rattle.gl_box.specs.Frontier.IsFrontier.{parted}
-use Rattle.gl_walk.specs.Walk.{AreFrontiers, open_cells}
-use Rattle.gl_walk.proofs.Frontiers.{open_push, passed_on}
+use Rattle.gl_box.specs.Walk.{AreFrontiers, open_cells}
+use Rattle.gl_box.proofs.Frontiers.{open_push, passed_on}
 use Rattle.gl_pool.specs.declared.trail.Trail.{Trail}
 use Rattle.gl_order.specs.Runs.{Lead}
 use Rattle.gl_pool.specs.Code.Trail.{IsTrail}

@@ -1,13 +1,12 @@
 ghost use Rattle.std.specs.Prelude.{◌≡◌, [], ◌∷◌, ◌++◌, false, IfOk, IsTrue, OnOk};
-ghost use Rattle.gl_walk.specs.Walk.{open_cells};
+ghost use Rattle.gl_box.specs.Walk.{open_cells};
 ghost use Rattle.gl_order.specs.Runs.{ArePassed, IsPassed};
 ghost use Rattle.gl_order.specs.InRuns.{boxes_in_runs};
 ghost use Rattle.gl_pool.specs.Code.Trail.{IsTrail};
 ghost use Rattle.gl_pool.specs.Trail.{boxes_in};
 
-use gl_box::{Cell, Closed, covers};
+use gl_box::{Cell, Closed, all_boxes, covers};
 use gl_order::Run;
-use gl_walk::all_boxes;
 use std::alloc::{AllocError, Global};
 use std::mem;
 

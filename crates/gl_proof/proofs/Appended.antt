@@ -8,9 +8,9 @@ use Rattle.std.proofs.lemmas.List.Concat.{flat_map-append}
 use Rattle.gl_box.specs.declared.closed.Closed.{Closed}
 use Rattle.gl_box.specs.declared.closed.Why.{Why}
 use Rattle.gl_box.specs.Closed.{box_of}
-use Rattle.gl_lines.specs.Kept.{Keeps}
-use Rattle.gl_lines.specs.Words.{spaced, total_word}
-use Rattle.gl_lines.proofs.Pieces.{pieces_more}
+use Rattle.gl_proof.specs.Kept.{Keeps}
+use Rattle.gl_proof.specs.Words.{spaced, total_word}
+use Rattle.gl_proof.proofs.Pieces.{pieces_more}
 use Rattle.gl_proof.specs.Claim.{Statement, box_line, claim_text, fix_lines, front_text, spelled}
 use Rattle.gl_proof.proofs.Lines.{claim_is}
 use Rattle.gl_proof.specs.Line.{ClaimLine, FixLine, ended, kind_word}

@@ -9,11 +9,11 @@ use Rattle.std.proofs.lemmas.List.Elements.{All-head, All-tail}
 use Rattle.gl_box.specs.declared.closed.Why.{Why}
 use Rattle.gl_proof.specs.declared.claim.ClaimKind.{ClaimKind}
 use Rattle.gl_proof.specs.declared.version.Version.{Version}
-use Rattle.gl_lines.specs.declared.error.ProofError.{ProofError}
-use Rattle.gl_lines.specs.declared.error.ProofError.TheVariants.{Heading, Line as WrongLine, Cut, Memory}
-use Rattle.gl_lines.specs.Misfit.{OrMemory}
-use Rattle.gl_lines.specs.Refusal.{Follow, NoneFollows, RunsThrough, last_line}
-use Rattle.gl_lines.proofs.Refused.{follow_append, last-append, runs_more, told_on}
+use Rattle.gl_proof.specs.declared.error.ProofError.{ProofError}
+use Rattle.gl_proof.specs.declared.error.ProofError.TheVariants.{Heading, Line as WrongLine, Cut, Memory}
+use Rattle.gl_proof.specs.Misfit.{OrMemory}
+use Rattle.gl_proof.specs.LineRefusal.{Follow, NoneFollows, RunsThrough, last_line}
+use Rattle.gl_proof.proofs.Refused.{follow_append, last-append, runs_more, told_on}
 use Rattle.gl_proof.specs.Claim.{IsStatement, Statement, box_line, claim_lines, claim_text, fix_lines, spelled}
 use Rattle.gl_proof.specs.Code.Fronts.{IsClaimAt}
 use Rattle.gl_proof.specs.Line.{AreFixes, AreSpans, Line, HeadingLine, ClaimLine, FixLine, BoxLine, EndLine, IsLine, ended, goes_on, may_follow, proof_grammar}

@@ -4,8 +4,8 @@ use Rattle.std.specs.Char.{is_ascii_alphanumeric}
 use Rattle.std.specs.List.{list_all}
 use Rattle.std.specs.Prelude.{nat_le}
 use Rattle.std.proofs.lemmas.Bool.{and_parts, and_from, le-leb, leb-true}
-use Rattle.gl_lines.specs.Fronts.{Stops}
-use Rattle.gl_lines.proofs.Codes.{front_unique}
+use Rattle.gl_proof.specs.Fronts.{Stops}
+use Rattle.gl_proof.proofs.Codes.{front_unique}
 use Rattle.gl_proof.specs.Code.Fronts.{IsEntrantAt}
 use Rattle.gl_text.specs.Forms.{is_number}
 

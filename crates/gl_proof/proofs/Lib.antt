@@ -4,3 +4,7 @@ pub mod Entrants
 pub mod Lines
 pub mod More
 pub mod Unique
+pub mod Codes
+pub mod Pieces
+pub mod Refused
+pub mod Words

@@ -8,10 +8,10 @@ use Rattle.std.proofs.lemmas.List.{append-nil, append_cancel_left, length-map, l
 use Rattle.gl_box.specs.declared.closed.Why.{Why}
 use Rattle.gl_box.specs.declared.span.Span.{Span}
 use Rattle.gl_box.specs.Cell.{ends}
-use Rattle.gl_lines.specs.Fronts.{Stops}
-use Rattle.gl_lines.specs.Words.{IsSpan, spaced, span_word, total_word}
-use Rattle.gl_lines.proofs.Codes.{Continues, front_unique, words_front}
-use Rattle.gl_lines.proofs.Words.{number_once, span_once}
+use Rattle.gl_proof.specs.Fronts.{Stops}
+use Rattle.gl_proof.specs.Words.{IsSpan, spaced, span_word, total_word}
+use Rattle.gl_proof.proofs.Codes.{Continues, front_unique, words_front}
+use Rattle.gl_proof.proofs.Words.{number_once, span_once}
 use Rattle.gl_proof.specs.declared.claim.ClaimKind.{ClaimKind}
 use Rattle.gl_proof.specs.declared.claim.ClaimKind.TheVariants.{Area, Out, Free, Triangle}
 use Rattle.gl_proof.specs.Code.Fronts.{AreFixesAt, AreSpansAt, IsEntrantAt}

@@ -13,14 +13,14 @@ use Rattle.gl_box.specs.declared.closed.Why.TheVariants.{Disordered, Shut, Bound
 use Rattle.gl_proof.specs.declared.claim.ClaimKind.{ClaimKind}
 use Rattle.gl_proof.specs.declared.version.Version.{Version}
 use Rattle.gl_proof.specs.declared.version.Version.TheVariants.{One, Two}
-use Rattle.gl_lines.specs.declared.error.ProofError.{ProofError}
-use Rattle.gl_lines.specs.declared.error.ProofError.TheVariants.{Heading, Line as WrongLine, Cut, Memory}
-use Rattle.gl_lines.specs.Code.Grammar.{IsPlain}
-use Rattle.gl_lines.specs.Refusal.{IsRefusal, RunsThrough}
-use Rattle.gl_lines.specs.Words.{IsSpan, spaced, span_word, total_word}
-use Rattle.gl_lines.proofs.Codes.{words_front}
-use Rattle.gl_lines.proofs.Refused.{IsFull, follow_append, full_refused, full_unique, last-append, refused_once}
-use Rattle.gl_lines.proofs.Words.{feed_first, no_word, number_once, span_once, total_there, total_unique}
+use Rattle.gl_proof.specs.declared.error.ProofError.{ProofError}
+use Rattle.gl_proof.specs.declared.error.ProofError.TheVariants.{Heading, Line as WrongLine, Cut, Memory}
+use Rattle.gl_proof.specs.Code.Grammar.{IsPlain}
+use Rattle.gl_proof.specs.LineRefusal.{IsRefusal, RunsThrough}
+use Rattle.gl_proof.specs.Words.{IsSpan, spaced, span_word, total_word}
+use Rattle.gl_proof.proofs.Codes.{words_front}
+use Rattle.gl_proof.proofs.Refused.{IsFull, follow_append, full_refused, full_unique, last-append, refused_once}
+use Rattle.gl_proof.proofs.Words.{feed_first, no_word, number_once, span_once, total_there, total_unique}
 use Rattle.gl_proof.specs.Claim.{IsStatement, Statement, box_line, claim_lines, fix_lines, spelled}
 use Rattle.gl_proof.specs.Code.Fronts.{Adds, AddsBox, AreSpansAt}
 use Rattle.gl_proof.specs.Line.{AreFixes, Line, HeadingLine, ClaimLine, FixLine, BoxLine, EndLine, IsLine, ended, kind_word, proof_grammar, reason_word}

@@ -3,3 +3,4 @@
 -- cites them.
 pub mod Fronts
 pub mod Passage
+pub mod Grammar

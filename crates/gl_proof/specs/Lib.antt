@@ -4,3 +4,9 @@ pub mod Line
 pub mod Reading
 pub mod Refusal
 pub mod Text
+pub mod Fronts
+pub mod Grammar
+pub mod Kept
+pub mod Misfit
+pub mod LineRefusal
+pub mod Words

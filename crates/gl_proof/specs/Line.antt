@@ -3,8 +3,8 @@ use Rattle.std.specs.Prelude.{ℕ, ◌^◌, ◌<◌, ◌≤◌, Bool, true, fals
 use Rattle.std.specs.Fmt.{decimal}
 use Rattle.gl_box.specs.declared.closed.Why.{Why}
 use Rattle.gl_box.specs.declared.closed.Why.TheVariants.{Disordered, Shut, Bound}
-use Rattle.gl_lines.specs.Grammar.{Grammar}
-pub use Rattle.gl_lines.specs.Words.{IsSpan, spaced, span_word, total_word}
+use Rattle.gl_proof.specs.Grammar.{Grammar}
+pub use Rattle.gl_proof.specs.Words.{IsSpan, spaced, span_word, total_word}
 use Rattle.gl_proof.specs.declared.claim.ClaimKind.{ClaimKind}
 use Rattle.gl_proof.specs.declared.claim.ClaimKind.TheVariants.{Area, Out, Free, Triangle}
 use Rattle.gl_proof.specs.declared.version.Version.{Version}

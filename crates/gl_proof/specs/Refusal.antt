@@ -1,8 +1,8 @@
 -- What is no text of a proof, and what is told of it.
 use Rattle.std.specs.Prelude.{ℕ, List, ⊤}
-use Rattle.gl_lines.specs.declared.error.ProofError.{ProofError}
-use Rattle.gl_lines.specs.declared.error.ProofError.TheVariants.{Heading, Line as WrongLine, Cut, Memory}
-use Rattle.gl_lines.specs.Refusal.{IsHeadless, IsRefusal}
+use Rattle.gl_proof.specs.declared.error.ProofError.{ProofError}
+use Rattle.gl_proof.specs.declared.error.ProofError.TheVariants.{Heading, Line as WrongLine, Cut, Memory}
+use Rattle.gl_proof.specs.LineRefusal.{IsHeadless, IsRefusal}
 use Rattle.gl_proof.specs.declared.version.Version.{Version}
 use Rattle.gl_proof.specs.Line.{proof_grammar}
 

@@ -1,7 +1,7 @@
 ghost use Rattle.std.specs.Prelude.{◌≡◌, ◌↔◌, IsNone, length};
 
+use gl_box::Boxes;
 use gl_desk::Name;
-use gl_walk::Boxes;
 
 /// What is the greatest of a flight.
 #[derive(Clone, Copy, Debug, PartialEq, Eq)]

@@ -2,15 +2,16 @@ ghost use Rattle.std.specs.Prelude.{◌≡◌, ◌+◌, ℕ, List, length, map, 
 ghost use Rattle.gl_box.specs.Closed.{box_of};
 ghost use Rattle.gl_proof.specs.Claim.{fix_lines, statement_of};
 ghost use Rattle.gl_text.specs.Forms.{is_number};
-ghost use Rattle.gl_lines.specs.Misfit.{OrMemory};
+ghost use Rattle.gl_proof.specs.Misfit.{OrMemory};
 ghost use Rattle.gl_proof.specs.Code.Passage.{AreBoxesAt, AreClaimedAt, IsClaimRead, LacksClaim, LacksFixes, AddsBoxes};
 
 use crate::claim::Claim;
+use crate::error::ProofError;
+use crate::front::behind;
 use crate::line::{add_box_at, claim_line_at, fixes_at};
-use gl_box::Closed;
+use crate::told::{later, misfit};
+use gl_box::{Boxes, Closed};
 use gl_desk::Name;
-use gl_lines::{ProofError, behind, later, misfit};
-use gl_walk::Boxes;
 use std::alloc::{AllocError, Global};
 use std::str::from_utf8;
 

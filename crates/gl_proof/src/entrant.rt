@@ -1,9 +1,9 @@
 ghost use Rattle.std.specs.Prelude.{◌≡◌, ◌≤◌, length, take_while};
 ghost use Rattle.std.specs.Char.{is_ascii_alphanumeric};
-ghost use Rattle.gl_lines.specs.Fronts.{Reads};
+ghost use Rattle.gl_proof.specs.Fronts.{Reads};
 ghost use Rattle.gl_proof.specs.Code.Fronts.{IsEntrantAt};
 
-use gl_lines::behind;
+use crate::front::behind;
 
 /// How many letters and digits stand at the front of a text.
 fn count_alphanumerics(text: &[u8]) -> usize

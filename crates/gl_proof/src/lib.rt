@@ -1,21 +1,33 @@
 //! Proofs as text: what is claimed of flights, with the boxes that show that no choice is longer.
 //! A proof has one spelling; docs/proof-file.md explains it line by line.
+//!
+//! Other proofs use parts of it: lines that end in LF, words parted by one space, numbers and spans
+//! with one spelling, and what is told of a text with a line that may not stand where it stands.
 #![tactic(auto)]
 
+mod backwards;
 mod claim;
 mod claim_lines;
 mod entrant;
+mod error;
+mod front;
 mod line;
 mod proof;
+mod push;
 mod read;
 mod reader;
+mod told;
 mod version;
 mod write;
 
+pub use backwards::{SPAN_ROOM, write_spans};
 pub use claim::{Claim, ClaimKind};
-pub use gl_lines::ProofError;
+pub use error::ProofError;
+pub use front::{behind, short_number_at, span_at, total_at};
 pub use proof::Proof;
+pub use push::{push_number, push_total, push_word};
 pub use read::read_proof;
 pub use reader::ProofReader;
+pub use told::{later, misfit};
 pub use version::Version;
 pub use write::{write_boxes, write_claim, write_front};

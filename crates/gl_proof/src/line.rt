@@ -1,11 +1,11 @@
 ghost use Rattle.std.specs.Prelude.{◌≡◌, ◌≢◌, ◌≤◌, ℕ, List, [], ◌∷◌, ◌++◌, length, IfOk, OnOk, MatchOption, codes};
-ghost use Rattle.gl_lines.specs.Fronts.{Reads};
+ghost use Rattle.gl_proof.specs.Fronts.{Reads};
 ghost use Rattle.gl_proof.specs.Code.Fronts.{AreFixesAt, Adds, AddsBox, AreSpansAt, IsClaimAt, IsKindAt, IsReasonAt, said_of};
 
 use crate::claim::ClaimKind;
 use crate::entrant::entrant_at;
+use crate::front::{behind, short_number_at, span_at, total_at};
 use gl_box::{Cell, Closed, MOST_AXES, Span, Why};
-use gl_lines::{behind, short_number_at, span_at, total_at};
 use std::alloc::{AllocError, Global};
 
 /// A full list of boxes gets room for so many more, and for a quarter of those that it has.

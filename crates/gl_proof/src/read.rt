@@ -1,7 +1,7 @@
 ghost use Rattle.std.specs.Prelude.{◌≡◌, ◌≢◌, ◌↔◌, ◌⊎◌, ◌++◌, ◌<◌, ℕ, List, length, map, IfOk, IfErr, IsErrOf, IsTrue, MatchResult};
-ghost use Rattle.gl_lines.specs.Fronts.{Reads};
-ghost use Rattle.gl_lines.specs.declared.error.ProofError.{ProofError};
-ghost use Rattle.gl_lines.specs.declared.error.ProofError.TheVariants.{Memory};
+ghost use Rattle.gl_proof.specs.Fronts.{Reads};
+ghost use Rattle.gl_proof.specs.declared.error.ProofError.{ProofError};
+ghost use Rattle.gl_proof.specs.declared.error.ProofError.TheVariants.{Memory};
 ghost use Rattle.gl_proof.specs.Claim.{Statement, statement_of};
 ghost use Rattle.gl_proof.specs.Code.Fronts.{IsHeadingAt};
 ghost use Rattle.gl_proof.specs.Line.{EndLine, ended};
@@ -13,9 +13,11 @@ ghost use Rattle.gl_proof.specs.declared.version.Version.{Version};
 
 use crate::claim::Claim;
 use crate::claim_lines::claim_at;
+use crate::error::ProofError;
+use crate::front::behind;
 use crate::proof::Proof;
+use crate::told::later;
 use crate::version::Version;
-use gl_lines::{ProofError, behind, later};
 use std::alloc::Global;
 
 /// The line with which a proof ends.

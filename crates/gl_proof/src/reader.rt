@@ -8,10 +8,11 @@ ghost use Rattle.gl_proof.specs.declared.version.Version.{Version};
 
 use crate::claim::Claim;
 use crate::claim_lines::{add_boxes_at, claim_at};
+use crate::error::ProofError;
 use crate::proof::Proof;
 use crate::read::{heading_at, read_claims, read_lines};
+use crate::told::later;
 use crate::version::Version;
-use gl_lines::{ProofError, later};
 use std::alloc::{AllocError, Global};
 
 /// More bytes than any line of a proof has, and than the two lines with which a claim begins: where

@@ -3,14 +3,15 @@ ghost use Rattle.std.specs.Fmt.{decimal};
 ghost use Rattle.std.specs.List.{flat_map};
 ghost use Rattle.gl_box.specs.Cell.{spans_of};
 ghost use Rattle.gl_box.specs.Closed.{box_of};
-ghost use Rattle.gl_lines.specs.Kept.{Keeps};
-ghost use Rattle.gl_lines.specs.Words.{spaced, span_word, total_word};
+ghost use Rattle.gl_proof.specs.Kept.{Keeps};
+ghost use Rattle.gl_proof.specs.Words.{spaced, span_word, total_word};
 ghost use Rattle.gl_proof.specs.Claim.{IsWritable, box_line, claim_text, front_text, spelled, statement_of};
 ghost use Rattle.gl_proof.specs.Line.{BoxLine, ClaimLine, FixLine, ended, kind_word, reason_word};
 
+use crate::backwards::{SPAN_ROOM, write_spans};
 use crate::claim::{Claim, ClaimKind};
+use crate::push::{push_number, push_total, push_word};
 use gl_box::{Closed, MOST_AXES, Why};
-use gl_lines::{SPAN_ROOM, push_number, push_total, push_word, write_spans};
 use std::alloc::AllocError;
 
 /// Room for the spans of a box and LF behind them.

@@ -5,3 +5,4 @@ pub mod Machines
 pub mod Outcome
 pub mod Replays
 pub mod Turns
+pub mod StepLines

@@ -18,8 +18,8 @@ use Rattle.gl_box.specs.Frontier.IsNode.{whole, half}
 use Rattle.gl_box.proofs.Parts.{mult-append, mult-halves, mult-held}
 use Rattle.gl_goal.specs.Goal.{Goal, whole_cell}
 use Rattle.gl_goal.specs.Certificate.{IsClosedFor}
-use Rattle.gl_schedule.specs.declared.schedule.Step.{Step}
-use Rattle.gl_schedule.specs.declared.schedule.Step.TheVariants.{Take, Steal, Split, Close, Look, Raise}
+use Rattle.gl_replay.specs.declared.schedule.Step.{Step}
+use Rattle.gl_replay.specs.declared.schedule.Step.TheVariants.{Take, Steal, Split, Close, Look, Raise}
 use Rattle.gl_replay.specs.Machine.{Acts, Closes, IsFirstReason, Keeps, Looks, Makes, Moves, Runs, Splits, State, Steals, Takes, Worker, closed_in, greater, idle, open_cells, start}
 use Rattle.gl_replay.specs.Safe.{IsKept, IsSafe, IsSafeWorker, worker_cells}
 use Rattle.gl_goal.specs.Best.{IsNoLess}

@@ -7,9 +7,9 @@ use Rattle.gl_box.specs.declared.closed.Why.TheVariants.{Disordered, Shut, Bound
 use Rattle.gl_box.specs.Cell.{point}
 use Rattle.gl_box.specs.Halves.{AreHalves}
 use Rattle.gl_goal.specs.Goal.{Goal, value}
-use Rattle.gl_walk.proofs.Frontiers.{lower_unique, upper_unique}
-use Rattle.gl_schedule.specs.declared.schedule.Step.{Step}
-use Rattle.gl_schedule.specs.declared.schedule.Step.TheVariants.{Take, Steal, Split, Close, Look, Raise}
+use Rattle.gl_box.proofs.Frontiers.{lower_unique, upper_unique}
+use Rattle.gl_replay.specs.declared.schedule.Step.{Step}
+use Rattle.gl_replay.specs.declared.schedule.Step.TheVariants.{Take, Steal, Split, Close, Look, Raise}
 use Rattle.gl_replay.specs.Machine.{Acts, Closes, IsFirstReason, Keeps, Looks, Makes, Moves, Runs, Splits, State, Steals, Takes, Worker, greater}
 use Rattle.gl_text.proofs.Lists.{one_some}
 

@@ -18,13 +18,13 @@ use Rattle.gl_box.specs.Frontier.{IsNode, mult}
 use Rattle.gl_box.proofs.Parts.{mult-append}
 use Rattle.gl_goal.specs.Goal.{Goal, IsReached, whole_cell}
 use Rattle.gl_goal.specs.Certificate.{IsClosedFor}
-use Rattle.gl_walk.specs.InLists.{boxes_in}
+use Rattle.gl_box.specs.InLists.{boxes_in}
 use Rattle.gl_goal.specs.declared.best.Best.{Best}
 use Rattle.gl_plain.specs.declared.search.Finished.{Finished}
 use Rattle.gl_replay.specs.declared.machine.Machine.{Machine}
 use Rattle.gl_replay.specs.declared.replayed.Left.{Left}
 use Rattle.gl_replay.specs.declared.replayed.Replayed.{Replayed}
-use Rattle.gl_schedule.specs.declared.schedule.Step.{Step}
+use Rattle.gl_replay.specs.declared.schedule.Step.{Step}
 use Rattle.gl_replay.specs.declared.worker.Worker as code
 use Rattle.gl_plain.specs.declared.part.Part.{Part}
 use Rattle.gl_plain.specs.declared.part.Part.TheVariants.{Open, Done}

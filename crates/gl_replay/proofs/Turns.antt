@@ -12,7 +12,7 @@ use Rattle.gl_box.specs.Frontier.{IsNode}
 use Rattle.gl_box.proofs.Nodes.{covers_node}
 use Rattle.gl_goal.specs.Goal.{Goal, whole_cell}
 use Rattle.gl_replay.specs.declared.worker.Worker as code
-use Rattle.gl_schedule.specs.declared.schedule.Step.TheVariants.{Raise}
+use Rattle.gl_replay.specs.declared.schedule.Step.TheVariants.{Raise}
 use Rattle.gl_replay.specs.Machine.{Acts, Keeps, Moves, State, Steals, Tries, Worker, idle}
 use Rattle.gl_replay.specs.Safe.{IsSafe, IsSafeWorker}
 use Rattle.gl_replay.specs.Code.Workers.{AreCovered, Raises, worker_of, workers_of}

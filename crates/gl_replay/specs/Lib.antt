@@ -2,3 +2,4 @@ pub mod Code
 pub mod Machine
 pub mod Replayed
 pub mod Safe
+pub mod Schedule

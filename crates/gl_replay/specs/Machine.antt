@@ -8,8 +8,8 @@ use Rattle.gl_box.specs.declared.closed.Why.TheVariants.{Disordered, Shut, Bound
 use Rattle.gl_box.specs.Cell.{point}
 use Rattle.gl_box.specs.Halves.{AreHalves}
 use Rattle.gl_goal.specs.Goal.{Goal, IsDisordered, IsOpen, IsReached, whole_cell}
-use Rattle.gl_schedule.specs.declared.schedule.Step.{Step}
-use Rattle.gl_schedule.specs.declared.schedule.Step.TheVariants.{Take, Steal, Split, Close, Look, Raise}
+use Rattle.gl_replay.specs.declared.schedule.Step.{Step}
+use Rattle.gl_replay.specs.declared.schedule.Step.TheVariants.{Take, Steal, Split, Close, Look, Raise}
 
 -- A worker: the cells of its deque, the first one first; the cell in its hand, if there is one; the
 -- cells that it closed, each with its reason; the best total that it has seen; and the legal tuple

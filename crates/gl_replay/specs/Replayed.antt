@@ -4,9 +4,9 @@ use Rattle.gl_box.specs.declared.closed.Why.{Why}
 use Rattle.gl_box.specs.Cell.{Covers}
 use Rattle.gl_box.specs.Closed.{box_of}
 use Rattle.gl_goal.specs.Goal.{Goal}
-use Rattle.gl_walk.specs.InLists.{boxes_in}
+use Rattle.gl_box.specs.InLists.{boxes_in}
 use Rattle.gl_replay.specs.declared.replayed.Replayed.{Replayed}
-use Rattle.gl_schedule.specs.declared.schedule.Step.{Step}
+use Rattle.gl_replay.specs.declared.schedule.Step.{Step}
 use Rattle.gl_replay.specs.Machine.{IsAfter, State, closed_in, open_in}
 use Rattle.gl_replay.specs.Safe.{IsSafe}
 

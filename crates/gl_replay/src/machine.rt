@@ -3,9 +3,9 @@ ghost use Rattle.gl_replay.specs.Machine.{Acts, Closes, Keeps, Looks, Moves, Run
 ghost use Rattle.gl_replay.specs.Safe.{IsSafe};
 ghost use Rattle.gl_replay.specs.Code.Workers.{AreCovered, Raises, state_of, workers_of};
 
+use crate::schedule::Step;
 use crate::worker::{Room, Worker, greater};
 use gl_goal::{Goal, whole};
-use gl_schedule::Step;
 use std::alloc::{AllocError, Global};
 
 /// The room of a worker that cuts and closes nothing.

@@ -9,13 +9,12 @@ ghost use Rattle.gl_replay.specs.Replayed.{IsReplay};
 ghost use Rattle.gl_goal.specs.Best.{IsNoLess, IsSound, total_of};
 
 use crate::machine::Machine;
+use crate::schedule::Step;
 use crate::worker::Worker;
-use gl_box::{Cell, Closed};
+use gl_box::{Boxes, Cell, Closed};
 use gl_goal::{Best, Goal, better, whole};
 use gl_order::sorted;
 use gl_plain::{Finished, Found, Part, finish};
-use gl_schedule::Step;
-use gl_walk::Boxes;
 use std::alloc::{AllocError, Global};
 
 /// What a search by a written order of steps answers.

@@ -3,7 +3,7 @@ use anyhow::{Context, Result};
 use gl_app::Status;
 use gl_desk::{MemDesk, Name};
 use gl_pool::OpenGate;
-use gl_steward::{Ceiling, EngineNoise, Steward};
+use gl_task::{Ceiling, EngineNoise, Steward};
 use std::alloc::{AllocError, Global};
 use std::sync::Wait;
 use std::thread::Threads;

@@ -1,8 +1,7 @@
 ghost use Rattle.std.specs.Prelude.{[]};
 
 use gl_igc::Fix;
-use gl_steward::Steward;
-use gl_task::LocalRules;
+use gl_task::{LocalRules, Steward};
 
 /// A steward that owes the greatest number there is for each flight.
 #[derive(Drop)]

@@ -1,5 +1,5 @@
 use gl_box::Span;
-use gl_hull::{Hull, Hulls, max_sq, min_sq};
+use gl_goal::{Hull, Hulls, max_sq, min_sq};
 use gl_igc::Fix;
 use gl_sphere::{Grid, Vec3, vector};
 use std::process::Abort;

@@ -1,7 +1,6 @@
-use gl_box::{Cell, Closed, Tuple, Why};
+use gl_box::{Boxes, Cell, Closed, Tuple, Why};
 use gl_desk::Name;
 use gl_proof::*;
-use gl_walk::Boxes;
 use std::alloc::{AllocError, Global};
 use std::process::Abort;
 use std::test::Fail;

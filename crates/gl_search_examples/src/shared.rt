@@ -1,6 +1,5 @@
 use gl_box::{Cell, Closed, Span, Tuple};
-use gl_goal::{AnyGoal, AreaGoal, FreeGoal, Leg, OutGoal, TriangleGoal};
-use gl_hull::{Hull, Hulls};
+use gl_goal::{AnyGoal, AreaGoal, FreeGoal, Hull, Hulls, Leg, OutGoal, TriangleGoal};
 use gl_igc::{Fix, Recording};
 use gl_sphere::{Grid, Vec3};
 

@@ -1,6 +1,6 @@
 // What one worker of a search by several does, with nobody beside it.
 use gl_best::BestWord;
-use gl_box::Closed;
+use gl_box::{Boxes, Closed};
 use gl_check::{Verdict, check_claim};
 use gl_deal::{Place, deal};
 use gl_desk::Name;
@@ -9,7 +9,6 @@ use gl_igc::Fix;
 use gl_pool::{OpenGate, Share, work};
 use gl_proof::{Claim, ClaimKind};
 use gl_sphere::{Grid, vector};
-use gl_walk::Boxes;
 use std::alloc::{AllocError, Global};
 use std::sync::Wait;
 use std::test::Fail;

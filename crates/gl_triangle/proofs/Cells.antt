@@ -8,7 +8,7 @@ use Rattle.gl_box.specs.Halves.{IsSingle, span_at}
 use Rattle.gl_box.proofs.Nodes.{single_is_point}
 use Rattle.gl_igc.specs.declared.fix.Fix.{Fix}
 use Rattle.gl_box.proofs.Held.{holds_at}
-use Rattle.gl_hull.specs.Box.{IsInside}
+use Rattle.gl_goal.specs.Box.{IsInside}
 use Rattle.gl_goal.specs.declared.triangle.TriangleGoal.{TriangleGoal}
 use Rattle.gl_sphere.specs.Distance.{distance}
 use Rattle.gl_goal.specs.Free.{numbers_between}

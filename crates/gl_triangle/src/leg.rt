@@ -1,6 +1,6 @@
 ghost use Rattle.std.specs.Prelude.{◌<◌, ◌^◌};
 
-use gl_hull::{Hull, max_sq, min_sq};
+use gl_goal::{Hull, max_sq, min_sq};
 use gl_sphere::dist;
 
 /// How long a leg is at least and at most, in centimetres.
@@ -13,7 +13,7 @@ pub(crate) struct Leg {
 }
 
 impl Leg {
-    ghost use Rattle.gl_hull.specs.Hull.{box_of};
+    ghost use Rattle.gl_goal.specs.Hull.{box_of};
     ghost use Rattle.gl_triangle.specs.Code.Legs.{IsLeg};
 
     /// The leg between two points, one in each hull.

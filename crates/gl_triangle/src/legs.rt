@@ -1,6 +1,6 @@
 use crate::leg::Leg;
 use crate::spans::{Corner, Spans};
-use gl_hull::Hulls;
+use gl_goal::Hulls;
 
 /// How much of all three legs each leg of a triangle has to be at least, in percent.
 const LEAST_SHARE: u64 = 28;

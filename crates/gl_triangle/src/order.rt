@@ -5,8 +5,7 @@ ghost use Rattle.gl_triangle.specs.Code.Places.{AreAmong, places_in};
 
 use crate::places::Places;
 use gl_box::Span;
-use gl_goal::TriangleGoal;
-use gl_hull::Hulls;
+use gl_goal::{Hulls, TriangleGoal};
 use gl_places::ByPlace;
 
 /// An order of the fixes of a flight, whose spans a search halves.

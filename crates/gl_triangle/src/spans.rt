@@ -2,7 +2,7 @@ ghost use Rattle.std.specs.Prelude.{◌<◌, ◌↔◌, length};
 
 use crate::places::Places;
 use gl_box::Span;
-use gl_hull::{Hulls, max_sq};
+use gl_goal::{Hulls, max_sq};
 
 /// A corner of a triangle.
 #[derive(Clone, Copy, PartialEq, Eq)]

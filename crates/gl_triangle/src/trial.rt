@@ -3,8 +3,7 @@ ghost use Rattle.gl_triangle.specs.Code.Node.{fixes_of};
 ghost use Rattle.gl_triangle.specs.Code.Places.{AreAmong, AreChoices};
 
 use crate::places::Places;
-use gl_goal::{TriangleGoal, fair};
-use gl_hull::Hulls;
+use gl_goal::{Hulls, TriangleGoal, fair};
 use gl_sphere::{dist, sq};
 use std::alloc::{AllocError, Global};
 

@@ -7,7 +7,7 @@ use Rattle.std.specs.Option.{option_or}
 use Rattle.gl_sphere.specs.PlaceText.{place_of_text}
 use Rattle.gl_text.specs.Forms.{is_file_name, is_text}
 use Rattle.gl_words.specs.Words.{Badge, BadgeCheck, BadgeWords, Command, Demo, Free, Near, NearCheck, NearWords, Point, Replay, ReplayWords, Series, SeriesWords, Triangle, badge_form, command_of, demo_form, file_form, near_form, near_words, number_within, point_form, replay_form, replay_words, series_form, series_words}
-use Rattle.gl_day_words.specs.DayWords.{is_worker_count}
+use Rattle.gl_words.specs.DayWords.{is_worker_count}
 use Rattle.gl_text.proofs.Forms.{is_unbroken, is_unbroken-file}
 use Rattle.gl_words.proofs.Unbroken.{HasUnbrokenBadge, HasUnbrokenNear, HasUnbrokenFiles}
 

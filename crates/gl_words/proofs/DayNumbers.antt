@@ -5,7 +5,7 @@ use Rattle.std.specs.Fmt.{decimal}
 use Rattle.std.specs.Str.Parse.{digits_value}
 use Rattle.std.proofs.lemmas.Bool.{le-leb}
 use Rattle.std.proofs.lemmas.Fmt.{digits_value-decimal}
-use Rattle.gl_day_words.proofs.WorkerCounts.{digits_numerals, text_is}
+use Rattle.gl_words.proofs.WorkerCounts.{digits_numerals, text_is}
 use Rattle.gl_words.specs.Words.{number_within}
 
 all_three : (a b c : Bool) (n m : ℕ) → a ≡ true → b ≡ true → c ≡ true → n ≡ m → (if a && b && c then Some n else None) ≡ Some m

@@ -4,3 +4,6 @@ pub mod NearWords
 pub mod ReplayWords
 pub mod SeriesWords
 pub mod Words
+pub mod DayCommand
+pub mod DayNames
+pub mod DayWords

@@ -4,7 +4,7 @@ use Rattle.std.specs.Fmt.{decimal}
 use Rattle.std.specs.Option.{option_or}
 use Rattle.std.specs.Str.Parse.{digits_value}
 use Rattle.gl_sphere.specs.PlaceText.{place_of_text}
-use Rattle.gl_day_words.specs.DayWords.{is_worker_count}
+use Rattle.gl_words.specs.DayWords.{is_worker_count}
 use Rattle.gl_text.specs.Forms.{is_text, is_file_name}
 
 -- the names of a recording and of a schedule, and how many workers follow it

@@ -2,7 +2,7 @@ ghost use Rattle.std.specs.Prelude.{◌≡◌, option_map};
 ghost use Rattle.gl_words.specs.ReplayWords.{replay_seen};
 ghost use Rattle.gl_words.specs.Words.{replay_form, replay_words};
 
-use gl_day_words::{Workers, read_workers};
+use crate::day_names::{Workers, read_workers};
 use gl_desk::Name;
 use gl_text::is_file_name;
 

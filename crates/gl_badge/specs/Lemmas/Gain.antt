@@ -5,7 +5,7 @@ use Rattle.std.specs.List.{AllZip}
 use Rattle.std.specs.List.Sorted.{IsStrictlyIncreasing}
 use Rattle.std.proofs.lemmas.Int.{clamps, ints}
 use Rattle.gl_igc.specs.declared.fix.Fix.{Fix}
-use Rattle.gl_hull.specs.Box.{Box}
+use Rattle.gl_goal.specs.Box.{Box}
 use Rattle.gl_goal.specs.Goal.{IsGoal, chosen}
 use Rattle.gl_goal.specs.Chain.{fixes_at, last_of}
 use Rattle.gl_goal.specs.Free.{numbers_from}

@@ -2,7 +2,7 @@
 use Rattle.std.specs.Prelude.{◌≡◌, ℕ, ◌+◌, ◌*◌, ◌<◌, ◌≤◌, ◌^◌, List, length, take, slice_index_or, All}
 use Rattle.gl_box.specs.Cell.{ends}
 use Rattle.gl_igc.specs.declared.fix.Fix.{Fix}
-use Rattle.gl_hull.specs.Near.{IsPlaceOf}
+use Rattle.gl_goal.specs.Near.{IsPlaceOf}
 use Rattle.gl_free.specs.declared.candidate.Candidate.{Candidate}
 use Rattle.gl_free.specs.declared.ends.Ends.{Ends}
 use Rattle.gl_free.specs.declared.flank.Flank.{Flank}

@@ -2,9 +2,9 @@
 use Rattle.std.specs.Prelude.{◌≡◌, ℕ, suc, ◌<◌, ◌≤◌, ◌^◌, List, length}
 use Rattle.gl_box.specs.Cell.{ends}
 use Rattle.gl_igc.specs.declared.fix.Fix.{Fix}
-use Rattle.gl_hull.specs.Box.{fixes_in, hull_of}
-use Rattle.gl_hull.specs.Hull.{box_of}
-use Rattle.gl_hull.specs.Near.{IsPlaceOf}
+use Rattle.gl_goal.specs.Box.{fixes_in, hull_of}
+use Rattle.gl_goal.specs.Hull.{box_of}
+use Rattle.gl_goal.specs.Near.{IsPlaceOf}
 use Rattle.gl_free.specs.declared.ends.Ends.{Ends}
 use Rattle.gl_free.specs.declared.far.Far.{Far}
 use Rattle.gl_free.specs.declared.node.Node.{Node}

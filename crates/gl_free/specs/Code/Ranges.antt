@@ -2,7 +2,7 @@
 -- it stopped is split in two.
 use Rattle.std.specs.Prelude.{ℕ, suc, ◌+◌, ◌*◌, ◌<◌, ◌⊎◌, ℤ, ◌+ℤ◌, ◌-ℤ◌, ◌<ℤ◌, ◌≤ℤ◌, List, length, Any, Option, MatchOption, unsigned_abs}
 use Rattle.gl_igc.specs.declared.fix.Fix.{Fix}
-use Rattle.gl_hull.specs.Box.{IsBetween}
+use Rattle.gl_goal.specs.Box.{IsBetween}
 use Rattle.gl_free.specs.declared.altitudes.Altitudes.{Altitudes}
 use Rattle.gl_free.specs.declared.pair.Pair.{Pair}
 use Rattle.gl_free.specs.Code.Arms.{arm_length}

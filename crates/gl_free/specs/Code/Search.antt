@@ -3,7 +3,7 @@
 use Rattle.std.specs.Prelude.{◌≡◌, ℕ, ◌+◌, ◌-◌, ◌<◌, ◌≤◌, ◌^◌, ◌⊎◌, ℤ, ◌-ℤ◌, ◌<ℤ◌, List, length, take, Option, MatchOption, None, Some}
 use Rattle.gl_igc.specs.declared.fix.Fix.{Fix}
 use Rattle.gl_box.specs.Tuple.{places_of}
-use Rattle.gl_hull.specs.Near.{IsPlaceOf}
+use Rattle.gl_goal.specs.Near.{IsPlaceOf}
 use Rattle.gl_goal.specs.Goal.{Goal, IsReached}
 use Rattle.gl_goal.specs.declared.best.Best.{Best}
 use Rattle.gl_free.specs.Code.Arms.{IsArm, IsTop, arm_length}

@@ -1,7 +1,7 @@
 -- A way round: its legs, and how far it can reach.
 use Rattle.std.specs.Prelude.{◌≡◌, ℕ, ◌<◌, List, length, Some, slice_get, slice_index, [], ◌∷◌}
 use Rattle.gl_igc.specs.declared.fix.Fix.{Fix}
-use Rattle.gl_hull.specs.Near.{IsNear}
+use Rattle.gl_goal.specs.Near.{IsNear}
 use Rattle.gl_goal.specs.Reach.{IsReach}
 use Rattle.gl_goal.specs.declared.round.Round.{Round}
 

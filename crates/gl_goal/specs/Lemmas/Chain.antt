@@ -10,11 +10,11 @@ use Rattle.gl_sphere.proofs.Chords.{squared_chord-bound}
 use Rattle.gl_sphere.specs.declared.place.Vec3.{Vec3}
 use Rattle.gl_sphere.specs.Distance.{squared_chord, squared_gap, written_distance, distance}
 use Rattle.gl_igc.specs.declared.fix.Fix.{Fix}
-use Rattle.gl_hull.proofs.Spans.{fixes_in-single}
-use Rattle.gl_hull.specs.Box.{Box, IsInside, fixes_in, hull_of, point_box}
-use Rattle.gl_hull.specs.Chords.{greatest_chord, least_chord, reach, squared}
-use Rattle.gl_hull.proofs.ChordBounds.{gap-at, squared_chord-at_least, squared_chord-at_most}
-pub use Rattle.gl_hull.proofs.Held.{IsHeld, fix_box, hull_of-holds, hull_of-single, named, point_box-inside}
+use Rattle.gl_goal.specs.Lemmas.Spans.{fixes_in-single}
+use Rattle.gl_goal.specs.Box.{Box, IsInside, fixes_in, hull_of, point_box}
+use Rattle.gl_goal.specs.Chords.{greatest_chord, least_chord, reach, squared}
+use Rattle.gl_goal.specs.Lemmas.ChordBounds.{gap-at, squared_chord-at_least, squared_chord-at_most}
+pub use Rattle.gl_goal.specs.Lemmas.Held.{IsHeld, fix_box, hull_of-holds, hull_of-single, named, point_box-inside}
 use Rattle.gl_box.specs.Cell.{Covers, Holds, point}
 use Rattle.gl_box.proofs.Held.{holds_parts}
 use Rattle.gl_goal.specs.Goal.{IsTuple, chosen, whole_cell}

@@ -7,7 +7,7 @@ use Rattle.std.proofs.lemmas.Int.{ints}
 use Rattle.std.proofs.lemmas.Bool.{cases_Bool}
 use Rattle.std.proofs.lemmas.List.{length-map}
 use Rattle.gl_igc.specs.declared.fix.Fix.{Fix}
-use Rattle.gl_hull.specs.Box.{Box}
+use Rattle.gl_goal.specs.Box.{Box}
 use Rattle.gl_goal.specs.Goal.{IsGoal, chosen}
 use Rattle.gl_goal.specs.Chain.{fixes_at, greatest_legs, last_of, points_of}
 use Rattle.gl_goal.specs.Free.{five_axes, free_goal, least_loss, loss_over, numbers_between, numbers_from}

@@ -4,7 +4,7 @@ use Rattle.std.specs.List.{AllZip}
 use Rattle.std.proofs.lemmas.List.{length-take}
 use Rattle.gl_sphere.specs.declared.place.Vec3.{Vec3}
 use Rattle.gl_igc.specs.declared.fix.Fix.{Fix}
-use Rattle.gl_hull.specs.Box.{Box, IsInside, point_box}
+use Rattle.gl_goal.specs.Box.{Box, IsInside, point_box}
 use Rattle.gl_goal.specs.Goal.{IsGoal, chosen}
 use Rattle.gl_goal.specs.Chain.{fixes_at, last_of, points_of}
 use Rattle.gl_goal.specs.Out.{all_but_last, greatest_way_out, out_goal, way_out}

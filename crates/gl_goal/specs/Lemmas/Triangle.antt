@@ -8,7 +8,7 @@ use Rattle.gl_igc.specs.declared.fix.Fix.{Fix}
 use Rattle.gl_box.specs.Cell.{Covers, Holds, point}
 use Rattle.gl_box.specs.Halves.{span_at}
 use Rattle.gl_box.proofs.Held.{holds_at, length-covers}
-use Rattle.gl_hull.specs.Box.{Box, IsInside}
+use Rattle.gl_goal.specs.Box.{Box, IsInside}
 use Rattle.gl_goal.specs.Goal.{IsGoal, IsTuple, chosen, whole_cell}
 use Rattle.gl_sphere.specs.Distance.{distance}
 use Rattle.gl_goal.specs.Chain.{fixes_at, greatest_distance, hulls_of, least_distance, points_of}

@@ -1,7 +1,7 @@
 -- What stands at the front of a text, and where it can't stand.
 use Rattle.std.specs.Prelude.{◌≡◌, ℕ, ◌+◌, List, ◌∷◌, ◌++◌, length, map, Option, Some, IfSome, All, codes, ◌⊎◌}
-use Rattle.gl_lines.specs.declared.error.ProofError.{ProofError}
-use Rattle.gl_lines.specs.Misfit.{IsMisfit}
+use Rattle.gl_proof.specs.declared.error.ProofError.{ProofError}
+use Rattle.gl_proof.specs.Misfit.{IsMisfit}
 use Rattle.gl_near.specs.declared.found.NearBest.{NearBest}
 use Rattle.gl_near.specs.declared.found.NearWhy.{NearWhy}
 use Rattle.gl_near.specs.Line.{AreTwoSpans, IsBest, IsLine, LeastLine, PairLine, box_line, ended, front_lines, reason_word, spelled}

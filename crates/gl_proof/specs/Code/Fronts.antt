@@ -7,7 +7,7 @@ use Rattle.gl_box.specs.Closed.{box_of}
 use Rattle.gl_box.specs.declared.cell.Cell.{Cell}
 use Rattle.gl_box.specs.declared.closed.Closed.{Closed}
 use Rattle.gl_box.specs.declared.closed.Why.{Why}
-use Rattle.gl_lines.specs.Words.{spaced, span_word}
+use Rattle.gl_proof.specs.Words.{spaced, span_word}
 use Rattle.gl_proof.specs.Claim.{box_line}
 use Rattle.gl_proof.specs.Line.{AreFixes, AreSpans, ClaimLine, HeadingLine, IsLine, ended, kind_word, reason_word}
 use Rattle.gl_text.specs.Forms.{is_number}

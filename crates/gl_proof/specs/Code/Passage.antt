@@ -3,8 +3,8 @@ use Rattle.std.specs.Prelude.{◌≡◌, ℕ, ◌+◌, ◌<◌, min, List, [], �
 use Rattle.gl_box.specs.Closed.{box_of}
 use Rattle.gl_box.specs.declared.closed.Closed.{Closed}
 use Rattle.gl_box.specs.declared.closed.Why.{Why}
-use Rattle.gl_lines.specs.Misfit.{IsMisfit}
-use Rattle.gl_lines.specs.declared.error.ProofError.{ProofError}
+use Rattle.gl_proof.specs.Misfit.{IsMisfit}
+use Rattle.gl_proof.specs.declared.error.ProofError.{ProofError}
 use Rattle.gl_proof.specs.Claim.{IsStatement, Statement, box_line, claim_lines, claim_text, fix_lines, spelled}
 use Rattle.gl_proof.specs.Code.Fronts.{IsBoxAt, IsClaimAt}
 use Rattle.gl_proof.specs.Line.{AreFixes, AreSpans, FixLine, ended}

@@ -10,7 +10,7 @@ use Rattle.gl_goal.specs.Best.{IsNoLess, IsSound, total_of}
 use Rattle.gl_goal.specs.declared.best.Best.{Best}
 use Rattle.gl_replay.specs.declared.machine.Machine.{Machine}
 use Rattle.gl_replay.specs.declared.replayed.Left.{Left}
-use Rattle.gl_schedule.specs.declared.schedule.Step.{Step}
+use Rattle.gl_replay.specs.declared.schedule.Step.{Step}
 use Rattle.gl_replay.specs.declared.worker.Worker as code
 
 -- what workers left after some steps: their open and their closed cells, and a legal tuple that is

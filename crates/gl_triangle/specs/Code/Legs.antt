@@ -3,7 +3,7 @@ use Rattle.std.specs.Prelude.{◌≡◌, ℕ, ◌+◌, ◌≤◌, Bool, IsTrue, 
 use Rattle.gl_box.specs.declared.span.Span.{Span}
 use Rattle.gl_box.specs.Cell.{ends}
 use Rattle.gl_igc.specs.declared.fix.Fix.{Fix}
-use Rattle.gl_hull.specs.Box.{Box, fixes_in, hull_of}
+use Rattle.gl_goal.specs.Box.{Box, fixes_in, hull_of}
 use Rattle.gl_goal.specs.Chain.{greatest_distance, least_distance}
 use Rattle.gl_goal.specs.Fair.{is_fair}
 use Rattle.gl_triangle.specs.declared.leg.Leg.{Leg}

@@ -1,8 +1,8 @@
 use Rattle.std.proofs.Common.{◌≡◌, ◌∙◌, subst, refl, ℕ, List}
 use Rattle.gl_desk.specs.Desk.{Told}
 use Rattle.gl_day.specs.Flight.{StewardRules, steward_rules}
-use Rattle.gl_steward.specs.Ceiling.{ceiling_fed, ceiling_opening, ceiling_owed}
-use Rattle.gl_steward.specs.EngineNoise.{noise_fed, noise_opening, noise_owed}
+use Rattle.gl_task.specs.Ceiling.{ceiling_fed, ceiling_opening, ceiling_owed}
+use Rattle.gl_task.specs.EngineNoise.{noise_fed, noise_opening, noise_owed}
 use Rattle.gl_answer.specs.declared.status.Status.{Status}
 use Rattle.gl_day_app.proofs.Stewards.{at_place, two_rules}
 use Rattle.gl_app.specs.Run.{IsRun}

@@ -2,12 +2,12 @@ use Rattle.gl_words.specs.BadgeWords.{badge_seen}
 use Rattle.gl_words.specs.NearWords.{near_seen, point_seen}
 use Rattle.gl_words.specs.ReplayWords.{replay_seen}
 use Rattle.gl_words.specs.SeriesWords.{series_seen}
-use Rattle.gl_claims.specs.Demo.{demo_promise}
+use Rattle.gl_app.specs.Demo.{demo_promise}
 use Rattle.gl_flights.specs.Free.{free_promise}
 use Rattle.gl_flights.specs.Replay.{replay_promise}
 use Rattle.gl_flights.specs.Series.{series_promise}
 use Rattle.gl_flights.specs.Triangle.{triangle_promise}
-use Rattle.gl_claims.proofs.Badges.{badge_checked}
+use Rattle.gl_app.proofs.Badges.{badge_checked}
 use Rattle.gl_answer.proofs.Answered.{reads_right, unread_right}
 use Rattle.gl_flights.proofs.Nears.{near_checked, pointed}
 use Rattle.gl_app.proofs.running.answer_to_command.Goals as goal

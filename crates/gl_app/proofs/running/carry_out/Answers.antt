@@ -1,5 +1,5 @@
 use Rattle.std.specs.Prelude.{IsNone}
-use Rattle.gl_day_words.specs.DayWords.{day_command_of}
+use Rattle.gl_words.specs.DayWords.{day_command_of}
 use Rattle.gl_words.specs.Words.{command_of}
 use Rattle.gl_words.proofs.CommandNames.{command_names}
 use Rattle.gl_answer.proofs.Runs.{delivered_run}

@@ -1,4 +1,4 @@
-use Rattle.gl_day_words.specs.DayWords.{day_command_of}
+use Rattle.gl_words.specs.DayWords.{day_command_of}
 use Rattle.gl_words.specs.Words.{command_of}
 use Rattle.gl_app.proofs.Rights.{day_is_run}
 use Rattle.gl_app.proofs.running.carry_out_day_alone.Goals as goal

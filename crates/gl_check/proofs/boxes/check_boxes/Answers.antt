@@ -1,7 +1,7 @@
 use Rattle.std.proofs.Common.{◌≡◌, ◌∙◌, sym, ap, subst, ℕ, List, [], ◌∷◌, ◌++◌}
 use Rattle.gl_box.specs.declared.cell.Cell.{Cell}
-use Rattle.gl_walk.specs.Walk.{IsWalked, open_cells}
-use Rattle.gl_walk.proofs.Frontiers.{walked_start}
+use Rattle.gl_box.specs.Walk.{IsWalked, open_cells}
+use Rattle.gl_box.proofs.Frontiers.{walked_start}
 use Rattle.gl_goal.specs.Goal.{whole_cell}
 use Rattle.gl_check.proofs.boxes.check_boxes.Goals as goal
 

@@ -5,7 +5,7 @@ use Rattle.std.proofs.lemmas.List.{nil_from_length}
 use Rattle.std.proofs.lemmas.Result.{IfOk-weaker}
 use Rattle.gl_box.specs.declared.closed.Closed.{Closed}
 use Rattle.gl_box.specs.Closed.{box_of}
-use Rattle.gl_walk.specs.InLists.{boxes_in}
+use Rattle.gl_box.specs.InLists.{boxes_in}
 use Rattle.gl_check.specs.Verdict.{IsVerdict}
 use Rattle.gl_check.proofs.boxes.check_lists.Goals as goal
 

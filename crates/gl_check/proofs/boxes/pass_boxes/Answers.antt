@@ -4,10 +4,10 @@ use Rattle.std.proofs.lemmas.List.{take_all}
 use Rattle.gl_box.specs.declared.closed.Why.{Why}
 use Rattle.gl_box.specs.Closed.{box_of}
 use Rattle.gl_box.specs.Frontier.{IsFrontier}
-use Rattle.gl_walk.specs.Boxes.{AreRight, AreWhole, IsRight, NoneWrong}
-use Rattle.gl_walk.specs.Walk.{open_cells}
-use Rattle.gl_walk.proofs.Frontiers.{walked_open, walked_whole}
-use Rattle.gl_walk.proofs.Passed.{held_at, holds_at, no_cell, some_cell}
+use Rattle.gl_box.specs.Boxes.{AreRight, AreWhole, IsRight, NoneWrong}
+use Rattle.gl_box.specs.Walk.{open_cells}
+use Rattle.gl_box.proofs.Frontiers.{walked_open, walked_whole}
+use Rattle.gl_box.proofs.Passed.{held_at, holds_at, no_cell, some_cell}
 use Rattle.gl_goal.specs.Goal.{whole_cell}
 use Rattle.gl_goal.specs.Certificate.{IsClosedFor}
 use Rattle.gl_check.specs.Verdict.{IsClosedAt, cells_of}

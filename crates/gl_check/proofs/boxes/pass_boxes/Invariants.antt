@@ -1,7 +1,7 @@
 use Rattle.std.proofs.Common.{map, take}
 use Rattle.gl_box.specs.Closed.{box_of}
-use Rattle.gl_walk.specs.Boxes.{AreRight}
-use Rattle.gl_walk.specs.Walk.{IsWalked, open_cells}
+use Rattle.gl_box.specs.Boxes.{AreRight}
+use Rattle.gl_box.specs.Walk.{IsWalked, open_cells}
 use Rattle.gl_goal.specs.Goal.{whole_cell}
 use Rattle.gl_check.specs.Verdict.{IsClosedAt, cells_of}
 use Rattle.gl_check.proofs.boxes.pass_boxes.Given as goal

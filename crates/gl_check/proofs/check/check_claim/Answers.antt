@@ -1,7 +1,7 @@
 use Rattle.std.proofs.lemmas.Result.{IfOk-weaker}
 use Rattle.std.proofs.Common.{map}
 use Rattle.gl_box.specs.Closed.{box_of}
-use Rattle.gl_walk.specs.InLists.{boxes_in}
+use Rattle.gl_box.specs.InLists.{boxes_in}
 use Rattle.gl_box.proofs.Parts.{mult-held}
 use Rattle.gl_goal.specs.Goal.{whole_cell}
 use Rattle.gl_goal.proofs.Optimum.{certificate_optimum}

@@ -1,7 +1,7 @@
 use Rattle.std.proofs.Common.{refl, subst, ℕ, List, map}
 use Rattle.std.proofs.lemmas.Result.{IfOk-weaker}
 use Rattle.gl_box.specs.Closed.{box_of}
-use Rattle.gl_walk.specs.InLists.{boxes_in}
+use Rattle.gl_box.specs.InLists.{boxes_in}
 use Rattle.gl_goal.specs.Certificate.{IsClaimed}
 use Rattle.gl_check.specs.Verdict.{IsVerdict}
 use Rattle.gl_check.proofs.check.verdict_of.Goals as goal

@@ -1,4 +1,4 @@
-use Rattle.gl_day_words.specs.DayNames.{names_seen}
+use Rattle.gl_words.specs.DayNames.{names_seen}
 use Rattle.gl_day_claims.proofs.Commanded.{check_right}
 use Rattle.gl_day_app.proofs.running.answer_to_command.Goals as goal
 

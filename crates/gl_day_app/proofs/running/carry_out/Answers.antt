@@ -1,6 +1,6 @@
 use Rattle.std.specs.Prelude.{IsNone}
-use Rattle.gl_day_words.specs.DayWords.{day_command_of}
-use Rattle.gl_day_words.proofs.CommandNames.{day_command_names}
+use Rattle.gl_words.specs.DayWords.{day_command_of}
+use Rattle.gl_words.proofs.DayCommandNames.{day_command_names}
 use Rattle.gl_answer.proofs.Runs.{delivered_run}
 use Rattle.gl_day_app.specs.DayRun.{day_promise_of}
 use Rattle.gl_day_app.proofs.DayRights.{day_runs}

@@ -2,10 +2,10 @@ use Rattle.std.proofs.Common.{◌∙◌, map, subst, Option, Ok}
 use Rattle.std.specs.Prelude.{IfOk}
 use Rattle.gl_desk.specs.Desk.{FilesByName}
 use Rattle.gl_proof.specs.Claim.{statement_of}
-use Rattle.gl_day_words.specs.DayNames.{names_seen}
+use Rattle.gl_words.specs.DayNames.{names_seen}
 use Rattle.gl_day_files.specs.DayFiles.{IsCheckRead, IsScoreSeen, check_tests}
-use Rattle.gl_refusals.specs.FileTests.{HasTested}
-use Rattle.gl_tally.specs.DayChecked.{IsDayChecked}
+use Rattle.gl_answer.specs.FileTests.{HasTested}
+use Rattle.gl_day_claims.specs.DayChecked.{IsDayChecked}
 use Rattle.gl_day_claims.proofs.Commanded.{claims_read, claims_said}
 use Rattle.gl_day_claims.proofs.check.check_proof.Goals as goal
 

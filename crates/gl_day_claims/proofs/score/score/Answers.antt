@@ -1,5 +1,5 @@
 use Rattle.std.proofs.lemmas.Result.{err_from_is_err_and}
-use Rattle.gl_day_words.specs.DayNames.{names_seen}
+use Rattle.gl_words.specs.DayNames.{names_seen}
 use Rattle.gl_day_claims.proofs.Commanded.{score_refused, score_right, score_stopped}
 use Rattle.gl_day_claims.proofs.score.score.Goals as goal
 

@@ -2,7 +2,7 @@ use Rattle.std.proofs.Common.{List, Option, Err, sym, subst, ℕ}
 use Rattle.std.proofs.lemmas.Result.{err_from_is_err_and}
 use Rattle.gl_airspace.specs.declared.volume.Airspace.{Airspace}
 use Rattle.gl_day_files.specs.DayFiles.{IsAirspaceRead, IsAirspaceSeen, airspace_tests}
-use Rattle.gl_refusals.specs.FileTests.{HasTested}
+use Rattle.gl_answer.specs.FileTests.{HasTested}
 use Rattle.gl_day_files.proofs.DayTests.{airspace_missing, airspace_tested}
 use Rattle.gl_day_files.proofs.day_files.read_airspace.Goals as goal
 

@@ -3,7 +3,7 @@ use Rattle.std.proofs.lemmas.Result.{err_from_is_err_and}
 use Rattle.gl_airspace.specs.declared.volume.Airspace.{Airspace}
 use Rattle.gl_desk.specs.Desk.{FilesByName}
 use Rattle.gl_day_files.specs.DayFiles.{IsAirspaceRead, IsAirspaceSeen, airspace_tests}
-use Rattle.gl_refusals.specs.FileTests.{HasTested}
+use Rattle.gl_answer.specs.FileTests.{HasTested}
 use Rattle.gl_day_files.proofs.DayTests.{day_read, day_refused, task_refused}
 use Rattle.gl_day_files.proofs.day_files.read_day.Goals as goal
 

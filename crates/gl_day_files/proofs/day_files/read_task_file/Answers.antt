@@ -1,9 +1,9 @@
 use Rattle.std.proofs.Common.{List, subst, ℕ}
 use Rattle.gl_desk.specs.Limits.{most_bytes}
 use Rattle.gl_task_file.specs.Reading.{IsReadFrom}
-use Rattle.gl_refusals.specs.ReadFiles.{HasRead}
+use Rattle.gl_answer.specs.ReadFiles.{HasRead}
 use Rattle.gl_day_files.specs.DayFiles.{TaskText}
-use Rattle.gl_refusals.proofs.FileTests.{bytes_read}
+use Rattle.gl_answer.proofs.FileTests.{bytes_read}
 use Rattle.gl_day_files.proofs.day_files.read_task_file.Goals as goal
 
 pub returns-clause-read : goal.returns-clause-read

@@ -2,9 +2,9 @@ use Rattle.std.proofs.Common.{subst, sym, Option, Ok, Err}
 use Rattle.std.proofs.lemmas.Result.{err_from_is_err_and}
 use Rattle.gl_desk.specs.Desk.{FilesByName, HasFile}
 use Rattle.gl_proof.specs.declared.proof.Proof.{Proof}
-use Rattle.gl_day_words.specs.DayNames.{names_seen}
-use Rattle.gl_refusals.specs.ReadFiles.{HasReadFile}
-use Rattle.gl_refusals.specs.FileTests.{IsProofOfText, ProofText}
+use Rattle.gl_words.specs.DayNames.{names_seen}
+use Rattle.gl_answer.specs.ReadFiles.{HasReadFile}
+use Rattle.gl_answer.specs.FileTests.{IsProofOfText, ProofText}
 use Rattle.gl_day_files.proofs.DayTests.{check_day_refused, check_passed, check_proof_missing, check_proof_refused, check_task_missing}
 use Rattle.gl_day_files.proofs.day_files.test_check_files.Goals as goal
 use Rattle.gl_desk.proofs.DeskLemmas.{HasFile-from_names}

@@ -1,5 +1,5 @@
 use Rattle.std.proofs.lemmas.Result.{err_from_is_err_and}
-use Rattle.gl_day_words.specs.DayNames.{names_seen}
+use Rattle.gl_words.specs.DayNames.{names_seen}
 use Rattle.gl_day_files.proofs.DayTests.{score_proof_listed, score_task_missing, score_tested}
 use Rattle.gl_day_files.proofs.day_files.test_score_files.Goals as goal
 use Rattle.gl_desk.proofs.DeskLemmas.{HasFile-from_names}

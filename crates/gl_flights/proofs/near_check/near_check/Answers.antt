@@ -2,8 +2,8 @@ use Rattle.std.proofs.Common.{subst, Option, Ok}
 use Rattle.std.proofs.lemmas.Result.{IfOk-weaker}
 use Rattle.gl_desk.specs.Desk.{FilesByName}
 use Rattle.gl_words.specs.NearWords.{near_seen}
-use Rattle.gl_refusals.specs.FileTests.{HasTested}
-use Rattle.gl_files.specs.NearFiles.{AreNearCheckRead, IsNearSeen, near_check_tests}
+use Rattle.gl_answer.specs.FileTests.{HasTested}
+use Rattle.gl_flights.specs.NearFiles.{AreNearCheckRead, IsNearSeen, near_check_tests}
 use Rattle.gl_answer.specs.Answer.{answer_of}
 use Rattle.gl_answer.proofs.Answered.{only_read}
 use Rattle.gl_flights.specs.Near.{IsNearCheck}

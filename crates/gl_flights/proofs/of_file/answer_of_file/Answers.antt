@@ -1,8 +1,8 @@
 use Rattle.std.proofs.Common.{subst, Option, Ok}
 use Rattle.std.proofs.lemmas.Result.{IfOk-weaker}
 use Rattle.gl_desk.specs.Desk.{FilesByName, IsSeenIn}
-use Rattle.gl_refusals.specs.FileTests.{HasTested}
-use Rattle.gl_files.specs.FlightFile.{IsFlightRead, flight_tests}
+use Rattle.gl_answer.specs.FileTests.{HasTested}
+use Rattle.gl_flights.specs.FlightFile.{IsFlightRead, flight_tests}
 use Rattle.gl_answer.specs.declared.status.Status.TheVariants.{Done}
 use Rattle.gl_answer.specs.Answer.{saying}
 use Rattle.gl_answer.proofs.Answered.{done_right, done_stopped, only_read}

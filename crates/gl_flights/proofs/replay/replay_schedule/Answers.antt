@@ -1,10 +1,10 @@
 use Rattle.std.proofs.Common.{subst, List, Option, Ok}
 use Rattle.std.proofs.lemmas.Result.{IfOk-weaker}
 use Rattle.gl_desk.specs.Desk.{FilesByName}
-use Rattle.gl_schedule.specs.declared.schedule.Step.{Step}
+use Rattle.gl_replay.specs.declared.schedule.Step.{Step}
 use Rattle.gl_words.specs.ReplayWords.{replay_seen}
-use Rattle.gl_refusals.specs.FileTests.{HasTested}
-use Rattle.gl_files.specs.ReplayFiles.{AreReplayRead, IsReplaySeen, replay_tests}
+use Rattle.gl_answer.specs.FileTests.{HasTested}
+use Rattle.gl_flights.specs.ReplayFiles.{AreReplayRead, IsReplaySeen, replay_tests}
 use Rattle.gl_answer.specs.declared.status.Status.TheVariants.{Done}
 use Rattle.gl_answer.specs.Answer.{saying}
 use Rattle.gl_answer.proofs.Answered.{done_right, done_stopped, only_read}

@@ -3,8 +3,8 @@ use Rattle.std.proofs.lemmas.Result.{IfOk-weaker}
 use Rattle.gl_desk.specs.Desk.{FilesByName}
 use Rattle.gl_series.specs.declared.day.DaySheet.{DaySheet}
 use Rattle.gl_words.specs.SeriesWords.{series_seen}
-use Rattle.gl_refusals.specs.FileTests.{HasTested}
-use Rattle.gl_files.specs.SeriesFiles.{AreSeriesRead, IsSeriesSeen, series_tests}
+use Rattle.gl_answer.specs.FileTests.{HasTested}
+use Rattle.gl_flights.specs.SeriesFiles.{AreSeriesRead, IsSeriesSeen, series_tests}
 use Rattle.gl_answer.specs.declared.status.Status.TheVariants.{Done}
 use Rattle.gl_answer.specs.Answer.{saying}
 use Rattle.gl_answer.proofs.Answered.{done_right, done_stopped, halt_answered, only_read}

@@ -1,6 +1,6 @@
 use Rattle.std.proofs.Common.{◌-◌, ap, arith}
 use Rattle.std.proofs.lemmas.Int.{ints}
-use Rattle.gl_hull.specs.Box.{Box}
+use Rattle.gl_goal.specs.Box.{Box}
 use Rattle.gl_free.proofs.PlaceLemmas.{altitude-between}
 use Rattle.gl_free.proofs.best.all_altitudes.Goals as goal
 

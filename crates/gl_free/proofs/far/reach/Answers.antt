@@ -1,7 +1,7 @@
 use Rattle.std.proofs.Common.{◌∙◌, ap, arith}
 use Rattle.gl_box.specs.Cell.{ends}
-use Rattle.gl_hull.specs.Box.{Box}
-use Rattle.gl_hull.specs.Chords.{greatest_chord}
+use Rattle.gl_goal.specs.Box.{Box}
+use Rattle.gl_goal.specs.Chords.{greatest_chord}
 use Rattle.gl_free.proofs.PlaceLemmas.{chord-most}
 use Rattle.gl_free.proofs.ReachLemmas.{reach-met, reach-missed}
 use Rattle.gl_free.proofs.far.reach.Goals as goal

@@ -1,5 +1,5 @@
 use Rattle.std.proofs.Common.{◌-◌, sym, subst, ℕ, arith}
-use Rattle.gl_hull.specs.Hull.{box_of}
+use Rattle.gl_goal.specs.Hull.{box_of}
 use Rattle.gl_goal.specs.Code.Round.{IsNoneBehind}
 use Rattle.gl_goal.proofs.Closing.{found-within, none_behind-found, none_behind-last}
 use Rattle.gl_goal.proofs.reach.end_of_near.Goals as goal

@@ -4,11 +4,11 @@ use Rattle.gl_near.specs.declared.found.NearClosed.{NearClosed}
 use Rattle.gl_near.specs.Certificate.{IsSound, box_of}
 use Rattle.gl_near.specs.declared.found.NearWhy.{NearWhy}
 use Rattle.gl_box.specs.Cell.{spans_of}
-use Rattle.gl_walk.specs.declared.passage.Walked.{Walked}
-use Rattle.gl_walk.specs.declared.passage.WalkEnd.{WalkEnd}
-use Rattle.gl_walk.specs.declared.passage.WalkEnd.TheVariants.{Whole, Extra, Place, Open}
-use Rattle.gl_walk.specs.Boxes.{EndsAt, NumbersBox}
-use Rattle.gl_walk.proofs.Passed.{count_within, end_said, map_twice, passed_covered, passed_said, unclosed_said}
+use Rattle.gl_box.specs.declared.passage.Walked.{Walked}
+use Rattle.gl_box.specs.declared.passage.WalkEnd.{WalkEnd}
+use Rattle.gl_box.specs.declared.passage.WalkEnd.TheVariants.{Whole, Extra, Place, Open}
+use Rattle.gl_box.specs.Boxes.{EndsAt, NumbersBox}
+use Rattle.gl_box.proofs.Passed.{count_within, end_said, map_twice, passed_covered, passed_said, unclosed_said}
 use Rattle.gl_near.specs.Pairing.{Pairing, whole_cell}
 use Rattle.gl_near.specs.Pairs.{pairing_of}
 use Rattle.gl_near.specs.declared.found.NearBest.{NearBest}

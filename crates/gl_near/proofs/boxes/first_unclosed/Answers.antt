@@ -2,7 +2,7 @@ use Rattle.std.proofs.Common.{◌∙◌, sym, ℕ, List, map, arith, below_more}
 use Rattle.std.proofs.lemmas.Bool.{false≢true}
 use Rattle.gl_near.specs.declared.found.NearWhy.{NearWhy}
 use Rattle.gl_box.specs.Cell.{Covers}
-use Rattle.gl_walk.proofs.Passed.{held_at, holds_at}
+use Rattle.gl_box.proofs.Passed.{held_at, holds_at}
 use Rattle.gl_near.specs.Pairing.{whole_cell}
 use Rattle.gl_near.specs.Pairs.{pairing_of}
 use Rattle.gl_near.specs.Certificate.{IsClosedFor, box_of, total_of}

@@ -1,7 +1,7 @@
 use Rattle.std.proofs.Common.{◌∙◌, sym, refl, [], ◌∷◌, ◌++◌}
 use Rattle.std.proofs.lemmas.List.{append_cancel_left}
 use Rattle.gl_box.specs.Cell.{ends}
-use Rattle.gl_lines.specs.Words.{span_word}
+use Rattle.gl_proof.specs.Words.{span_word}
 use Rattle.gl_near.proofs.Lines.{box_parts, reason_passed, span_passed}
 use Rattle.gl_near.proofs.line.box_at.Goals as goal
 

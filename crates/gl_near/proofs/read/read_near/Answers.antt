@@ -1,9 +1,9 @@
 use Rattle.std.proofs.Common.{◌≡◌, refl, ap, inl, inr, ℕ, List, Result, Ok, Err, map}
 use Rattle.std.specs.Prelude.{◌⊎◌, IfErr, IfOk, IsErrOf}
 use Rattle.std.proofs.lemmas.Result.{MatchResult-from_both, IfErr-weaker, IfOk-weaker}
-use Rattle.gl_lines.specs.declared.error.ProofError.{ProofError}
-use Rattle.gl_lines.specs.declared.error.ProofError.TheVariants.{Heading, Line as WrongLine, Cut, Memory}
-use Rattle.gl_lines.specs.Refusal.{IsRefusal}
+use Rattle.gl_proof.specs.declared.error.ProofError.{ProofError}
+use Rattle.gl_proof.specs.declared.error.ProofError.TheVariants.{Heading, Line as WrongLine, Cut, Memory}
+use Rattle.gl_proof.specs.LineRefusal.{IsRefusal}
 use Rattle.gl_near.specs.declared.claim.NearClaim.{NearClaim}
 use Rattle.gl_near.specs.Certificate.{box_of}
 use Rattle.gl_near.specs.Line.{IsTextOf, near_grammar}

@@ -1,7 +1,7 @@
 use Rattle.std.proofs.Common.{get_or, ◌∙◌, ap, List, ◌++◌, ℕ}
 use Rattle.gl_box.specs.Cell.{ends, spans_of}
-use Rattle.gl_lines.specs.Kept.{Keeps}
-use Rattle.gl_lines.proofs.Pieces.{keeps_behind}
+use Rattle.gl_proof.specs.Kept.{Keeps}
+use Rattle.gl_proof.proofs.Pieces.{keeps_behind}
 use Rattle.gl_near.proofs.Written.{at_err, box_spans, box_written, keeps_same, two_spans}
 use Rattle.gl_near.proofs.write.push_box_line.Goals as goal
 

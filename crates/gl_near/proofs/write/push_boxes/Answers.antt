@@ -2,8 +2,8 @@ use Rattle.std.proofs.Common.{ℕ, List, map, arith, below_more}
 use Rattle.std.specs.List.{HoldsAt}
 use Rattle.std.proofs.lemmas.List.{length-map}
 use Rattle.std.proofs.lemmas.Result.{err_from_is_err_and}
-use Rattle.gl_lines.proofs.Pieces.{keeps_behind}
-use Rattle.gl_walk.proofs.Passed.{holds_at}
+use Rattle.gl_proof.proofs.Pieces.{keeps_behind}
+use Rattle.gl_box.proofs.Passed.{holds_at}
 use Rattle.gl_near.specs.declared.found.NearWhy.{NearWhy}
 use Rattle.gl_near.specs.Certificate.{box_of}
 use Rattle.gl_near.specs.Line.{AreTwoSpans}

@@ -2,8 +2,8 @@ use Rattle.std.proofs.Common.{◌∙◌, ap, List, ◌++◌, map}
 use Rattle.gl_near.specs.declared.found.NearClosed.{NearClosed}
 use Rattle.gl_near.specs.Certificate.{box_of}
 use Rattle.gl_near.specs.Line.{box_line, spelled}
-use Rattle.gl_lines.specs.Kept.{Keeps}
-use Rattle.gl_lines.proofs.Pieces.{keeps_behind}
+use Rattle.gl_proof.specs.Kept.{Keeps}
+use Rattle.gl_proof.proofs.Pieces.{keeps_behind}
 use Rattle.gl_near.proofs.Written.{at_err, claim_written, keeps_same}
 use Rattle.gl_near.proofs.write.push_claim.Goals as goal
 

@@ -1,5 +1,5 @@
-use Rattle.gl_lines.specs.Kept.{Keeps}
-use Rattle.gl_lines.proofs.Pieces.{keeps_behind}
+use Rattle.gl_proof.specs.Kept.{Keeps}
+use Rattle.gl_proof.proofs.Pieces.{keeps_behind}
 use Rattle.gl_near.proofs.Written.{at_err, keeps_same, least_written}
 use Rattle.gl_near.proofs.write.push_least_line.Goals as goal
 

@@ -1,7 +1,7 @@
 use Rattle.std.proofs.Common.{◌∙◌, ap, ℕ, ◌∷◌, ◌++◌}
 use Rattle.std.specs.Fmt.{decimal}
-use Rattle.gl_lines.specs.Kept.{Keeps}
-use Rattle.gl_lines.proofs.Pieces.{keeps_behind}
+use Rattle.gl_proof.specs.Kept.{Keeps}
+use Rattle.gl_proof.proofs.Pieces.{keeps_behind}
 use Rattle.gl_near.proofs.Written.{at_err, keeps_same, pair_written}
 use Rattle.gl_near.proofs.write.push_pair_line.Goals as goal
 

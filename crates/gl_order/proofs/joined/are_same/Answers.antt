@@ -2,7 +2,7 @@ use Rattle.std.proofs.Common.{◌≡◌, ◌∙◌, sym, ap, subst, ◌<◌, [],
 use Rattle.std.proofs.lemmas.List.{get_or_default, get_or-map, get_or_read, length-map, same_lists}
 use Rattle.gl_box.specs.declared.cell.Cell.{Cell}
 use Rattle.gl_box.specs.Cell.{Covers, spans_of}
-use Rattle.gl_walk.proofs.Frontiers.{covers_both}
+use Rattle.gl_box.proofs.Frontiers.{covers_both}
 use Rattle.gl_order.proofs.joined.are_same.Goals as goal
 
 pub loop-index-preserved : goal.loop-index-preserved

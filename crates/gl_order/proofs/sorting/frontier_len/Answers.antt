@@ -2,9 +2,9 @@ use Rattle.std.proofs.Common.{◌≡◌, ◌∙◌, sym, ap, subst, ◌+◌, Lis
 use Rattle.std.proofs.lemmas.Bool.{eqb-true}
 use Rattle.gl_box.specs.declared.cell.Cell.{Cell}
 use Rattle.gl_box.specs.Cell.{spans_of}
-use Rattle.gl_walk.specs.Walk.{IsWalked, open_cells}
-use Rattle.gl_walk.proofs.Frontiers.{walked_start, walked_whole}
-use Rattle.gl_walk.proofs.Passed.{no_cell, walked_more}
+use Rattle.gl_box.specs.Walk.{IsWalked, open_cells}
+use Rattle.gl_box.proofs.Frontiers.{walked_start, walked_whole}
+use Rattle.gl_box.proofs.Passed.{no_cell, walked_more}
 use Rattle.gl_order.proofs.sorting.frontier_len.Goals as goal
 
 pub loop-count-init : goal.loop-count-init

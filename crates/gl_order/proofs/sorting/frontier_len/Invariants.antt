@@ -1,6 +1,6 @@
 use Rattle.std.proofs.Common.{map, take}
 use Rattle.gl_box.specs.Cell.{spans_of}
-use Rattle.gl_walk.specs.Walk.{IsWalked, open_cells}
+use Rattle.gl_box.specs.Walk.{IsWalked, open_cells}
 use Rattle.gl_order.proofs.sorting.frontier_len.Given as goal
 
 -- the boxes so far are passed

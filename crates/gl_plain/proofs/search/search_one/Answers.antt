@@ -4,7 +4,7 @@ use Rattle.gl_box.proofs.Parts.{mult-held}
 use Rattle.gl_goal.specs.Goal.{whole_cell}
 use Rattle.gl_goal.proofs.Optimum.{certificate_optimum}
 use Rattle.gl_goal.proofs.Totals.{none_exactly}
-use Rattle.gl_walk.specs.InLists.{boxes_in}
+use Rattle.gl_box.specs.InLists.{boxes_in}
 use Rattle.gl_plain.specs.declared.part.Part.TheVariants.{Open}
 use Rattle.gl_plain.proofs.GivenWay.{whole_done, whole_frontier, whole_needed, whole_node}
 use Rattle.gl_plain.proofs.Certified.{certified}

@@ -1,7 +1,7 @@
 use Rattle.std.proofs.Common.{◌∙◌, sym, ap, ℕ, List, ◌∷◌}
 use Rattle.gl_box.specs.Cell.{spans_of}
-use Rattle.gl_walk.specs.Walk.{open_cells}
-use Rattle.gl_walk.proofs.Frontiers.{covers_both, open_push}
+use Rattle.gl_box.specs.Walk.{open_cells}
+use Rattle.gl_box.proofs.Frontiers.{covers_both, open_push}
 use Rattle.gl_pool.proofs.trail.resume.Goals as goal
 
 pub returns-then-covers-2-clause-first : goal.returns-then-covers-2-clause-first

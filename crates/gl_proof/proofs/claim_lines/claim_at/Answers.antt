@@ -4,7 +4,7 @@ use Rattle.gl_box.specs.declared.closed.Closed.{Closed}
 use Rattle.gl_box.specs.Closed.{box_of}
 use Rattle.gl_proof.specs.Code.Fronts.{said_of}
 use Rattle.gl_proof.specs.Code.Passage.{IsClaimRead, LacksClaim, LacksFixes}
-use Rattle.gl_lines.proofs.Refused.{or_weaker}
+use Rattle.gl_proof.proofs.Refused.{or_weaker}
 use Rattle.gl_proof.proofs.Chain.{claim_read}
 use Rattle.gl_proof.proofs.claim_lines.claim_at.Goals as goal
 

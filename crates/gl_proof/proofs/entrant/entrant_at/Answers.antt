@@ -1,7 +1,7 @@
 use Rattle.std.proofs.Common.{◌≡◌, ◌∙◌, refl, ap, ℕ, List, ◌++◌, length, take, drop, arith}
 use Rattle.std.specs.Char.{is_ascii_alphanumeric}
 use Rattle.std.proofs.lemmas.List.{length-take-le}
-use Rattle.gl_lines.proofs.Codes.{cut_front}
+use Rattle.gl_proof.proofs.Codes.{cut_front}
 use Rattle.gl_proof.proofs.Entrants.{entrant_front, is_number_from}
 use Rattle.gl_proof.proofs.entrant.entrant_at.Goals as goal
 

@@ -5,8 +5,8 @@ use Rattle.std.proofs.lemmas.List.Elements.{All-push, All-rest}
 use Rattle.gl_box.specs.declared.closed.Closed.{Closed}
 use Rattle.gl_box.specs.declared.span.Span.{Span}
 use Rattle.gl_box.specs.Cell.{ends}
-use Rattle.gl_lines.specs.Words.{IsSpan, spaced, span_word}
-use Rattle.gl_lines.proofs.Words.{next_word, no_word, span_next_stops, word_taken}
+use Rattle.gl_proof.specs.Words.{IsSpan, spaced, span_word}
+use Rattle.gl_proof.proofs.Words.{next_word, no_word, span_next_stops, word_taken}
 use Rattle.gl_proof.proofs.Lines.{ends_more, length-read, spans_on}
 use Rattle.gl_proof.proofs.line.add_spans_at.Goals as goal
 

@@ -2,8 +2,8 @@ use Rattle.std.proofs.Common.{◌≡◌, ◌-◌, ◌<◌, ◌≤◌, ◌++◌, 
 use Rattle.std.specs.Char.{is_ascii_digit}
 use Rattle.std.specs.Prelude.{All}
 use Rattle.gl_box.specs.Cell.{ends}
-use Rattle.gl_lines.specs.Fronts.{Stops}
-use Rattle.gl_lines.specs.Words.{IsSpan, spaced, span_word}
+use Rattle.gl_proof.specs.Fronts.{Stops}
+use Rattle.gl_proof.specs.Words.{IsSpan, spaced, span_word}
 use Rattle.gl_proof.proofs.line.add_spans_at.Given as goal
 
 -- the spans so far are read, and the others are those of no axis

@@ -1,7 +1,7 @@
 use Rattle.std.proofs.Common.{◌∙◌, sym, ◌∷◌, ◌++◌}
-use Rattle.gl_lines.specs.Words.{total_word}
+use Rattle.gl_proof.specs.Words.{total_word}
 use Rattle.gl_proof.specs.Line.{kind_word}
-use Rattle.gl_lines.proofs.Words.{total_there}
+use Rattle.gl_proof.proofs.Words.{total_there}
 use Rattle.gl_proof.proofs.Lines.{claim_tail, entrant_unique, kind_unique}
 use Rattle.gl_proof.proofs.line.claim_line_at.Goals as goal
 

@@ -1,7 +1,7 @@
 use Rattle.std.proofs.Common.{ℕ, ◌^◌, ◌<◌, ◌∷◌, ◌++◌, map, arith}
 use Rattle.std.specs.Fmt.{decimal}
-use Rattle.gl_lines.specs.Words.{spaced}
-use Rattle.gl_lines.proofs.Words.{next_word, no_word, number_next}
+use Rattle.gl_proof.specs.Words.{spaced}
+use Rattle.gl_proof.proofs.Words.{next_word, no_word, number_next}
 use Rattle.gl_proof.proofs.Lines.{fixes_on}
 use Rattle.gl_proof.proofs.line.fixes_at.Goals as goal
 

@@ -2,8 +2,8 @@ use Rattle.std.proofs.Common.{◌≡◌, ◌-◌, ◌^◌, ◌<◌, ◌≤◌, �
 use Rattle.std.specs.Char.{is_ascii_digit}
 use Rattle.std.specs.Fmt.{decimal}
 use Rattle.std.specs.Prelude.{All}
-use Rattle.gl_lines.specs.Fronts.{Stops}
-use Rattle.gl_lines.specs.Words.{spaced}
+use Rattle.gl_proof.specs.Fronts.{Stops}
+use Rattle.gl_proof.specs.Words.{spaced}
 use Rattle.gl_proof.proofs.line.fixes_at.Given as goal
 
 -- the fixes so far are read

@@ -1,8 +1,8 @@
 use Rattle.std.proofs.Common.{◌≡◌, refl, ap, inl, inr, ℕ, List, Result, Ok, Err}
 use Rattle.std.specs.Prelude.{◌⊎◌, IfErr, IfOk, IsErrOf}
 use Rattle.std.proofs.lemmas.Result.{MatchResult-from_both, IfErr-weaker, IfOk-weaker}
-use Rattle.gl_lines.specs.declared.error.ProofError.{ProofError}
-use Rattle.gl_lines.specs.declared.error.ProofError.TheVariants.{Heading, Line as WrongLine, Cut, Memory}
+use Rattle.gl_proof.specs.declared.error.ProofError.{ProofError}
+use Rattle.gl_proof.specs.declared.error.ProofError.TheVariants.{Heading, Line as WrongLine, Cut, Memory}
 use Rattle.gl_proof.specs.declared.proof.Proof.{Proof}
 use Rattle.gl_proof.specs.Refusal.{IsRefused}
 use Rattle.gl_proof.specs.Text.{IsTextOf, statements_of}

@@ -1,5 +1,5 @@
 use Rattle.std.proofs.lemmas.Result.{err_from_is_err_and, on_err_weaker}
-use Rattle.gl_lines.proofs.Pieces.{keeps_behind}
+use Rattle.gl_proof.proofs.Pieces.{keeps_behind}
 use Rattle.gl_proof.proofs.write.push_claim.Goals as goal
 
 pub returns-in_err-write_front-clause-err : goal.returns-in_err-write_front-clause-err

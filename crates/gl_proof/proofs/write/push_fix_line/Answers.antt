@@ -1,5 +1,5 @@
 use Rattle.std.proofs.lemmas.Result.{err_from_is_err_and}
-use Rattle.gl_lines.proofs.Pieces.{keeps_behind}
+use Rattle.gl_proof.proofs.Pieces.{keeps_behind}
 use Rattle.gl_proof.proofs.Appended.{fix_line_made, kept}
 use Rattle.gl_proof.proofs.write.push_fix_line.Goals as goal
 

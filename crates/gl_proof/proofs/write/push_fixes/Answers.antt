@@ -1,5 +1,5 @@
 use Rattle.std.proofs.lemmas.Result.{err_from_is_err_and}
-use Rattle.gl_lines.proofs.Pieces.{keeps_behind}
+use Rattle.gl_proof.proofs.Pieces.{keeps_behind}
 use Rattle.gl_proof.proofs.write.push_fixes.Goals as goal
 
 pub returns-in_err-push_number-clause-err : goal.returns-in_err-push_number-clause-err

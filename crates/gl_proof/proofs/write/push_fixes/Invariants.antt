@@ -1,6 +1,6 @@
 use Rattle.std.proofs.Common.{◌≡◌, ◌++◌, map, take}
 use Rattle.std.specs.Fmt.{decimal}
-use Rattle.gl_lines.specs.Words.{spaced}
+use Rattle.gl_proof.specs.Words.{spaced}
 use Rattle.gl_proof.proofs.write.push_fixes.Given as goal
 
 -- the fixes so far are written

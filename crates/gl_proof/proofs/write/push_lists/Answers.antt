@@ -1,6 +1,6 @@
 use Rattle.std.proofs.lemmas.Result.{err_from_is_err_and}
 use Rattle.std.proofs.Common.{ap}
-use Rattle.gl_lines.proofs.Pieces.{keeps_behind}
+use Rattle.gl_proof.proofs.Pieces.{keeps_behind}
 use Rattle.gl_proof.proofs.Appended.{boxes_text, list_more}
 use Rattle.gl_proof.proofs.write.push_lists.Goals as goal
 

@@ -1,5 +1,5 @@
 use Rattle.std.proofs.lemmas.Result.{err_from_is_err_and}
-use Rattle.gl_lines.proofs.Pieces.{keeps_behind}
+use Rattle.gl_proof.proofs.Pieces.{keeps_behind}
 use Rattle.gl_proof.proofs.Appended.{box_more}
 use Rattle.gl_proof.proofs.write.write_boxes.Goals as goal
 

@@ -6,7 +6,7 @@ use Rattle.gl_box.proofs.Parts.{mult-held}
 use Rattle.gl_goal.specs.Goal.{whole_cell}
 use Rattle.gl_goal.proofs.Optimum.{certificate_optimum}
 use Rattle.gl_goal.proofs.Totals.{none_exactly}
-use Rattle.gl_walk.specs.InLists.{boxes_in}
+use Rattle.gl_box.specs.InLists.{boxes_in}
 use Rattle.gl_order.specs.Order.{AreParts}
 use Rattle.gl_goal.specs.Best.{total_of}
 use Rattle.gl_plain.specs.declared.part.Part.{Part}

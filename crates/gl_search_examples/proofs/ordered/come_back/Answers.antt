@@ -7,7 +7,7 @@ use Rattle.gl_box.specs.declared.closed.Closed.{Closed}
 use Rattle.gl_box.specs.Cell.{spans_of}
 use Rattle.gl_order.specs.Order.{AreParts, cells_of}
 use Rattle.gl_plain.proofs.Certified.{certified_parts}
-use Rattle.gl_walk.specs.InLists.{boxes_in}
+use Rattle.gl_box.specs.InLists.{boxes_in}
 use Rattle.gl_search_examples.proofs.ordered.come_back.Goals as goal
 
 -- a list that was lent whole is what stands there

@@ -1,6 +1,6 @@
 use Rattle.std.proofs.Common.{◌≡◌, subst, inl, inr, ◌⊎◌, ◌+◌, ◌<◌, ◌≤◌, List, length, arith}
 use Rattle.gl_box.specs.Cell.{ends}
-use Rattle.gl_hull.specs.Near.{IsPlaceOf}
+use Rattle.gl_goal.specs.Near.{IsPlaceOf}
 use Rattle.gl_free.specs.declared.candidate.Candidate.{Candidate}
 use Rattle.gl_free.specs.declared.flank.Flank.{Flank}
 use Rattle.gl_free.specs.Code.Candidates.{Sifts}

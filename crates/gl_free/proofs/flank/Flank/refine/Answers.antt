@@ -1,7 +1,7 @@
 use Rattle.std.proofs.Common.{◌≡◌, ◌∙◌, sym, subst, ◌+◌, ◌<◌, ℕ, List, length, take, get_or, arith}
 use Rattle.std.proofs.lemmas.List.{get_or-take, length-take}
 use Rattle.gl_box.specs.Cell.{ends}
-use Rattle.gl_hull.specs.Near.{IsPlaceOf}
+use Rattle.gl_goal.specs.Near.{IsPlaceOf}
 use Rattle.gl_free.specs.declared.candidate.Candidate.{Candidate}
 use Rattle.gl_free.specs.Code.Candidates.{IsAmong, IsCandidate, Sifts}
 use Rattle.gl_free.proofs.SiftLemmas.{among-next, among-none, grown-at, sifts-empty, sifts-parts}

@@ -1,6 +1,6 @@
 use Rattle.std.proofs.Common.{refl, inr, ◌+◌, arith}
 use Rattle.gl_box.specs.Cell.{ends}
-use Rattle.gl_hull.specs.Near.{IsPlaceOf}
+use Rattle.gl_goal.specs.Near.{IsPlaceOf}
 use Rattle.gl_free.specs.declared.candidate.Candidate.{Candidate}
 use Rattle.gl_free.specs.Code.Candidates.{Sifts}
 use Rattle.gl_free.proofs.SiftLemmas.{candidate-made, exact-made, flank-kept, halves-parts, sifts-kept, sifts-less, sifts-low, sifts-parts, sifts-past}

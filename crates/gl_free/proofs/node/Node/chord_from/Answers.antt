@@ -1,6 +1,6 @@
 use Rattle.std.proofs.Common.{◌∙◌}
 use Rattle.gl_box.specs.Cell.{ends}
-use Rattle.gl_hull.specs.Chords.{greatest_chord}
+use Rattle.gl_goal.specs.Chords.{greatest_chord}
 use Rattle.gl_free.proofs.PlaceLemmas.{chord-most}
 use Rattle.gl_free.proofs.node.Node.chord_from.Goals as goal
 

@@ -1,5 +1,5 @@
 use Rattle.gl_box.specs.Cell.{spans_of}
-use Rattle.gl_hull.specs.Hull.{box_of}
+use Rattle.gl_goal.specs.Hull.{box_of}
 use Rattle.gl_goal.specs.Chain.{hulls_of}
 use Rattle.gl_goal.proofs.Listed.{IsGreatestWay}
 use Rattle.gl_goal.proofs.lists.Lists.greatest_way.Given as goal

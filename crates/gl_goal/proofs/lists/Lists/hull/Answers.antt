@@ -1,7 +1,7 @@
 use Rattle.std.proofs.Common.{◌∙◌, ap, length, List, get_or, arith}
 use Rattle.gl_igc.specs.declared.fix.Fix.{Fix}
 use Rattle.gl_box.specs.Cell.{ends}
-use Rattle.gl_hull.specs.Box.{fixes_in, hull_of}
+use Rattle.gl_goal.specs.Box.{fixes_in, hull_of}
 use Rattle.gl_goal.specs.Code.Lists.{Listed}
 use Rattle.gl_goal.proofs.Listed.{hull-at, hull-within}
 use Rattle.gl_goal.proofs.lists.Lists.hull.Goals as goal

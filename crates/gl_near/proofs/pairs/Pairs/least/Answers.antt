@@ -5,8 +5,8 @@ use Rattle.gl_box.proofs.Held.{covers_at, length-covers}
 use Rattle.gl_box.proofs.Spans.{length-spans_of}
 use Rattle.gl_box.specs.declared.cell.Cell.{Cell}
 use Rattle.gl_box.specs.declared.span.Span.{Span}
-use Rattle.gl_hull.specs.Box.{Box, fixes_in, hull_of, point_box}
-use Rattle.gl_hull.specs.Hull.{box_of}
+use Rattle.gl_goal.specs.Box.{Box, fixes_in, hull_of, point_box}
+use Rattle.gl_goal.specs.Hull.{box_of}
 use Rattle.gl_near.specs.Pairing.{least, least_distance, whole_cell}
 use Rattle.gl_near.specs.Pairs.{pairing_of}
 use Rattle.gl_near.specs.declared.pairs.FlightAndPlace.{FlightAndPlace}

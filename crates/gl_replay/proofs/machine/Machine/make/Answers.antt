@@ -1,7 +1,7 @@
 use Rattle.std.proofs.Common.{◌≡◌, sym, ap, subst, List, length, arith}
 use Rattle.std.proofs.lemmas.List.{with_items_is}
 use Rattle.gl_replay.specs.declared.machine.Machine.{Machine}
-use Rattle.gl_schedule.specs.declared.schedule.Step.{Step}
+use Rattle.gl_replay.specs.declared.schedule.Step.{Step}
 use Rattle.gl_replay.specs.declared.worker.Worker.{Worker}
 use Rattle.gl_replay.specs.Machine.{Acts, Closes, Looks, Moves, Splits, State, Steals, Takes}
 use Rattle.gl_replay.specs.Code.Workers.{AreCovered, state_of, workers_of}

@@ -1,6 +1,6 @@
 use Rattle.std.proofs.Common.{sym, subst, List}
 use Rattle.std.proofs.lemmas.List.{drop_more}
-use Rattle.gl_schedule.specs.declared.schedule.Step.{Step}
+use Rattle.gl_replay.specs.declared.schedule.Step.{Step}
 use Rattle.gl_replay.specs.Machine.{Runs}
 use Rattle.gl_replay.specs.Code.Workers.{state_of}
 use Rattle.gl_replay.proofs.Machines.{moves_safe}

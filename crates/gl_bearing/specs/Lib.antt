@@ -1,4 +1,0 @@
-pub mod Bearing
-pub mod Code
-pub mod Middle
-pub mod Opposite

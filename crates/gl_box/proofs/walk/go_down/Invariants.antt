@@ -1,0 +1,15 @@
+use Rattle.std.proofs.Common.{ℕ, List, ◌∷◌}
+use Rattle.std.specs.Prelude.{◌↔◌}
+use Rattle.gl_box.specs.Cell.{spans_of}
+use Rattle.gl_box.proofs.Nodes.{spread}
+use Rattle.gl_box.specs.Walk.{AreFrontiers, open_cells}
+use Rattle.gl_box.proofs.walk.go_down.Given as goal
+
+-- what the open cells were when the walk began, the first one and the others still are
+abbrev pub invariant-halves : goal.invariant-halves
+invariant-halves l =
+    (more : List (List (ℕ × ℕ))) → AreFrontiers (open_cells l.fn.opened.items) (spans_of l.cell ∷ more) ↔ AreFrontiers (spans_of l.first ∷ open_cells l.opened.items) (spans_of l.cell ∷ more)
+
+-- the first cell reaches less and less far
+abbrev pub decreases-halves : goal.decreases-halves
+decreases-halves l = spread (spans_of l.first)

@@ -1,5 +1,0 @@
-pub mod BadgeLaws
-pub mod Badges
-pub mod DemoLaws
-pub mod DemoTask
-pub mod Demos

@@ -1,3 +1,0 @@
-pub mod Badge
-pub mod Code
-pub mod Demo

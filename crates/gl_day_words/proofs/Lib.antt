@@ -1,3 +1,0 @@
-pub mod CommandNames
-pub mod Unbroken
-pub mod WorkerCounts

@@ -1,3 +1,0 @@
-pub mod DayCommand
-pub mod DayNames
-pub mod DayWords

@@ -1,4 +1,0 @@
-pub mod Codes
-pub mod Pieces
-pub mod Refused
-pub mod Words

@@ -1,5 +1,0 @@
-use Rattle.gl_steward.proofs.Owed.{three_are_owed}
-use Rattle.gl_steward.proofs.laws.engine_noise_owes_from_three_on.Goals as goal
-
-pub returns : goal.returns
-returns c = three_are_owed

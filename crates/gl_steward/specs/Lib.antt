@@ -1,4 +1,0 @@
-pub mod Ceiling
-pub mod EngineNoise
-pub mod Laws
-pub mod Penalty
