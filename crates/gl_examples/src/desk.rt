@@ -23,7 +23,11 @@ fn a_million_entries_are_gone_over_and_one_more_is_a_fault(rt: HostRuntime) -> R
     let entries = fs::read_dir(&(&rt, alloc), ".")?.count();
     let room = 1_000_000usize.saturating_sub(entries);
     for unnamed in [1, room] {
-        assert_eq!(rt; listed(&rt, alloc, unnamed), Ok(files), "with {unnamed} more");
+        assert_eq!(rt;
+            listed(&rt, alloc, unnamed),
+            Ok(files),
+            "with {unnamed} more"
+        );
     }
     let too_many = listed(&rt, alloc, room.saturating_add(1));
     assert_eq!(rt; too_many, Err(DeskError::Failed));
