@@ -59,6 +59,18 @@ fn append(alloc: Global, desk: &mut Folder, name: &str, piece: &[u8]) -> Result<
     desk.say(alloc, line.as_bytes())
 }
 
+/// Reads from a place that no file of the system has, and says what came of it.
+fn read_nowhere(alloc: Global, desk: &mut Folder, name: &Name) -> Result<(), DeskError> {
+    let mut into = [0; 8];
+    let outcome = match desk.read_at(alloc, name, u64::MAX, &mut into) {
+        Ok(_) => "is read past its end",
+        Err(DeskError::Failed) => "isn't read past its end: a fault",
+        Err(DeskError::Memory) => "isn't read past its end: no memory",
+    };
+    let line = format!(in alloc; "{} {outcome}\n", name.as_str())?;
+    desk.say(alloc, line.as_bytes())
+}
+
 /// Appends all bytes of the longest file to another in one piece.
 fn copy_longest(alloc: Global, desk: &mut Folder, name: &Name) -> Result<(), DeskError> {
     match read_all(alloc, desk, name, LONGEST) {
@@ -100,6 +112,7 @@ fn main(rt: HostRuntime) -> Result<(), DeskError> {
     show_all(alloc, &mut desk)?;
     let longest = Name::from_text(alloc, "LONG.BIN")?;
     show(alloc, &mut desk, &longest, LONGEST - 1)?;
+    read_nowhere(alloc, &mut desk, &longest)?;
     // The one is missing and can't be opened; the other is a folder, which can be, and can't be
     // read.
     for name in ["MISSING.BIN", "SUB.DIR"] {
