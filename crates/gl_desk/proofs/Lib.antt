@@ -4,3 +4,4 @@ pub mod Reading
 pub mod StoredLemmas
 pub mod GivenLemmas
 pub mod DeskLemmas
+pub mod SystemFiles

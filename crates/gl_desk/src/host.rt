@@ -1,13 +1,15 @@
-ghost use Rattle.std.specs.Prelude.{◌≡◌, ◌≤◌, ◌↔◌, length, IsTrue, IfOk};
-ghost use Rattle.gl_desk.specs.Answers.{CountsFaults, stop_of};
+ghost use Rattle.std.specs.Prelude.{◌≡◌, ◌≤◌, ◌↔◌, ◌⊎◌, length, IsErr, IsTrue, IfOk, OnOk, OnErr};
+ghost use Rattle.gl_desk.specs.Answers.{CountsFaults, OnlyReads, stop_of};
 ghost use Rattle.gl_desk.specs.Code.Outcome.{IsWantOfMemory, Settles};
+ghost use Rattle.gl_desk.specs.Desk.{TakesPrefix};
+ghost use Rattle.gl_desk.specs.HostDesk.{IsAddedTo, IsReadAt};
 
 use crate::desk::Desk;
 use crate::error::DeskError;
 use crate::listing::plain_names;
 use crate::made_file::{MadeFile, make};
 use crate::name::Name;
-use crate::system::{SystemError, open, read, seek, write_whole};
+use crate::system::{SystemError, open, read_from, write_whole};
 use std::alloc::Global;
 use std::io;
 use std::io::ErrorKind;
@@ -47,6 +49,8 @@ impl<Rt: Files> HostDesk<Rt> {
     fn settle<T>(&mut self, outcome: Result<T, SystemError>) -> Result<T, DeskError>
         ensures settled { Settles outcome result self.old.faults self.new.faults }
         ensures faults { CountsFaults (stop_of result) self.old.faults self.new.faults }
+        ensures failed { OnErr outcome (IsErr result) }
+        ensures made { self.new.made ≡ self.old.made }
     {
         match outcome {
             Ok(value) => Ok(value),
@@ -68,11 +72,12 @@ fn is_want_of_memory(error: &io::Error) -> bool
 
 /// Reads from place `at` of a file, and answers how many bytes it put into the front of `into`.
 fn read_file<Rt: Files>(rt: &Rt, name: &str, at: u64, into: &mut [u8]) -> Result<usize, SystemError>
-    ensures { IfOk result (λ n. n ≤ length into.new) }
+    ensures within { IfOk result (λ n. n ≤ length into.new) }
+    ensures bytes { IfOk result (λ n. (file : Rt.File) × IsReadAt
+        Rt.File.stream_position Rt.File.stream_bytes Rt.File.remaining file at into.new n) }
 {
     let mut file = open(rt, name)?;
-    seek(&mut file, at)?;
-    read(&mut file, into)
+    read_from(&mut file, at, into)
 }
 
 /// Adds `piece` to the file that was made under this name, which is made first where it wasn't.
@@ -82,7 +87,12 @@ fn append_file<Rt: Files>(
     made: &mut Option<MadeFile<Rt::File>>,
     name: &Name,
     piece: &[u8],
-) -> Result<(), SystemError> {
+) -> Result<(), SystemError>
+    ensures whole { OnOk result
+        (IsAddedTo Rt.File.contents name.now made.old made.new piece.now) }
+    ensures prefix { OnErr result ((made.new ≡ made.old) ⊎ TakesPrefix piece.now
+        (IsAddedTo Rt.File.contents name.now made.old made.new)) }
+{
     match made {
         Some(file) if file.is_called(name) => file.append(piece),
         _ => made.insert(make(rt, alloc, name)?).append(piece),
@@ -105,12 +115,23 @@ impl<Rt: Files + Print> Desk for HostDesk<Rt> {
         name: &Name,
         at: u64,
         into: &mut [u8],
-    ) -> Result<usize, DeskError> {
+    ) -> Result<usize, DeskError>
+        ensures within { IfOk result (λ n. n ≤ length into.new) }
+        ensures bytes { IfOk result (λ n. (file : Rt.File) × IsReadAt
+            Rt.File.stream_position Rt.File.stream_bytes Rt.File.remaining file at into.new n) }
+        ensures reads { OnlyReads (stop_of result) (told_by self.old) (told_by self.new) }
+    {
         let read = read_file(&self.rt, name.as_str(), at, into);
         self.settle(read)
     }
 
-    fn append(&mut self, alloc: Global, name: &Name, piece: &[u8]) -> Result<(), DeskError> {
+    fn append(&mut self, alloc: Global, name: &Name, piece: &[u8]) -> Result<(), DeskError>
+        ensures whole { OnOk result
+            (IsAddedTo Rt.File.contents name.now self.old.made self.new.made piece.now) }
+        ensures prefix { OnErr result ((self.new.made ≡ self.old.made) ⊎ TakesPrefix piece.now
+            (IsAddedTo Rt.File.contents name.now self.old.made self.new.made)) }
+        ensures faults { CountsFaults (stop_of result) self.old.faults self.new.faults }
+    {
         let written = append_file(&self.rt, alloc, &mut self.made, name, piece);
         self.settle(written)
     }

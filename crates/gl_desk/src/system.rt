@@ -1,7 +1,8 @@
-ghost use Rattle.std.specs.Prelude.{◌≡◌, ◌≤◌, length, take, IfOk, OnOk, OnErr};
-ghost use Rattle.std.specs.Io.KnownBytes.{Appends};
+ghost use Rattle.std.specs.Prelude.{◌≡◌, ◌≤◌, length, take, Some, IfOk, IfSome, OnOk, OnErr};
+ghost use Rattle.std.specs.Io.KnownBytes.{Appends, Keeps, ReadConsumes};
 ghost use Rattle.std.specs.IoError.{error_kind};
 ghost use Rattle.gl_desk.specs.Desk.{TakesPrefix};
+ghost use Rattle.gl_desk.specs.HostDesk.{IsReadAt};
 
 use std::fs::{File, OpenFile, OpenOptions};
 use std::io;
@@ -44,16 +45,36 @@ pub fn open_new<Rt: Files>(rt: &Rt, name: &str) -> Result<Rt::File, SystemError>
 }
 
 /// Goes to a place of a file.
-pub fn seek<F: Seek>(file: &mut F, at: u64) -> Result<(), SystemError> {
+fn seek<F: Seek>(file: &mut F, at: u64) -> Result<(), SystemError>
+    ensures place { OnOk result (IfSome (F.stream_position file.old)
+        (λ _. F.stream_position file.new ≡ Some at)) }
+    ensures bytes { Keeps (F.stream_bytes file.old) (F.stream_bytes file.new) }
+{
     file.seek(SeekFrom::Start(at))?;
     Ok(())
 }
 
-/// Reads into the front of `into`, and answers how many bytes.
-pub fn read<F: Read>(file: &mut F, into: &mut [u8]) -> Result<usize, SystemError>
-    ensures { IfOk result (λ n. n ≤ length into.new) }
+/// Reads into the front of `into`, and answers how many bytes. An error, an interrupted read among
+/// them, is never the end of the file.
+fn read<F: Read>(file: &mut F, into: &mut [u8]) -> Result<usize, SystemError>
+    ensures within { IfOk result (λ n. n ≤ length into.new) }
+    ensures bytes { ReadConsumes (F.remaining file.old) (F.remaining file.new) result into.new }
 {
     Ok(file.read(into)?)
+}
+
+/// Puts into the front of `into` what an open file has from place `at`, and answers how many bytes.
+pub fn read_from<F: Read + Seek>(
+    file: &mut F,
+    at: u64,
+    into: &mut [u8],
+) -> Result<usize, SystemError>
+    ensures within { IfOk result (λ n. n ≤ length into.new) }
+    ensures bytes { IfOk result
+        (IsReadAt F.stream_position F.stream_bytes F.remaining file.old at into.new) }
+{
+    seek(file, at)?;
+    read(file, into)
 }
 
 /// Writes a first part of the piece, and answers how many bytes. An error wrote nothing.

@@ -18,8 +18,12 @@ pub enum Broken {
     Kind,
     /// A file can be opened, and not read.
     Read,
+    /// A file can be opened, and each read of it is interrupted.
+    Interrupted,
     /// A file can be opened, and not written to.
     Write,
+    /// A file can be written to only under a further number, as if standard output had its first.
+    FirstNumber,
     /// Nobody takes what is printed.
     Print,
 }
@@ -92,11 +96,14 @@ pub struct OddFile<F> {
     file: F,
     most: usize,
     broken: Broken,
+    /// Whether it has a further number.
+    is_clone: bool,
 }
 
 impl<F: Read> Read for OddFile<F> {
     fn read(&mut self, into: &mut [u8]) -> io::Result<usize> {
         check(self.broken, Broken::Read, ErrorKind::Other)?;
+        check(self.broken, Broken::Interrupted, ErrorKind::Interrupted)?;
         self.file.read(into)
     }
 }
@@ -104,6 +111,9 @@ impl<F: Read> Read for OddFile<F> {
 impl<F: Write> Write for OddFile<F> {
     fn write(&mut self, piece: &[u8]) -> io::Result<usize> {
         check(self.broken, Broken::Write, ErrorKind::StorageFull)?;
+        if !self.is_clone {
+            check(self.broken, Broken::FirstNumber, ErrorKind::Other)?;
+        }
         self.file.write(&piece[..self.most.min(piece.len())])
     }
 
@@ -140,6 +150,7 @@ impl<F: OpenFile> OpenFile for OddFile<F> {
             file: self.file.try_clone()?,
             most: self.most,
             broken: self.broken,
+            is_clone: true,
         })
     }
 }
@@ -154,6 +165,7 @@ impl<R: Files> Files for OddSystem<R> {
             file: self.real.open_file(how, path)?,
             most: self.most,
             broken: self.broken,
+            is_clone: false,
         })
     }
 

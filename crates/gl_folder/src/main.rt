@@ -10,8 +10,11 @@ use std::alloc::{AllocError, Global};
 use std::fs;
 use std::os::unix::fs::symlink;
 
-/// How many bytes the longest file has.
-const LONGEST: u64 = 100_000;
+/// How many bytes the longest file has: more than any piece in which a file is read or written.
+const LONGEST: u64 = 1_300_000;
+
+/// How many bytes the longest name has.
+const LONG_NAME: usize = 200;
 
 /// The desk of the current folder.
 type Folder<'a> = HostDesk<&'a HostRuntime>;
@@ -91,6 +94,22 @@ fn make_a_thousand(alloc: Global, desk: &mut Folder) -> Result<(), DeskError> {
     desk.say(alloc, line.as_bytes())
 }
 
+/// The longest file, whose bytes count from 0 to 250 over and over, and an empty one with a long
+/// name. The desk has no part in making them.
+fn make_files(rt: &HostRuntime) -> Result<(), DeskError> {
+    let alloc = rt.alloc();
+    let mut bytes = Vec::new(alloc);
+    for at in 0..LONGEST {
+        bytes.push((at % 251) as u8)?;
+    }
+    let mut name = String::new(alloc);
+    for _ in 0..LONG_NAME {
+        name.push('N')?;
+    }
+    fs::write(rt, "LONG.BIN", bytes.as_slice()).map_err(|_| DeskError::Failed)?;
+    fs::write(rt, name.as_str(), b"").map_err(|_| DeskError::Failed)
+}
+
 /// A link to a file, and one that leads nowhere.
 fn make_links(rt: &HostRuntime) -> Result<(), DeskError> {
     symlink(rt, "ONE.BIN", "LINK.BIN").map_err(|_| DeskError::Failed)?;
@@ -108,6 +127,7 @@ fn append_to_moved(rt: &HostRuntime, alloc: Global, desk: &mut Folder) -> Result
 fn main(rt: HostRuntime) -> Result<(), DeskError> {
     let alloc = rt.alloc();
     let mut desk = HostDesk::new(&rt);
+    make_files(&rt)?;
     make_links(&rt)?;
     show_all(alloc, &mut desk)?;
     let longest = Name::from_text(alloc, "LONG.BIN")?;
