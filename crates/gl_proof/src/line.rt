@@ -1,4 +1,4 @@
-ghost use Rattle.std.specs.Prelude.{◌≡◌, ◌≢◌, ◌≤◌, ℕ, List, [], ◌∷◌, ◌++◌, length, IfOk, OnOk, MatchOption, codes};
+ghost use Rattle.std.specs.Prelude.{◌≡◌, ◌≢◌, ◌≤◌, ◌+◌, ◌/◌, ℕ, max, List, [], ◌∷◌, ◌++◌, length, vec_len, vec_capacity, IfOk, OnOk, MatchOption, codes};
 ghost use Rattle.gl_proof.specs.Fronts.{Reads};
 ghost use Rattle.gl_proof.specs.Code.Fronts.{AreFixesAt, Adds, AddsBox, AreSpansAt, IsClaimAt, IsKindAt, IsReasonAt, said_of};
 
@@ -36,11 +36,13 @@ fn reason_at(text: &[u8]) -> Option<(Why, &[u8])>
     None
 }
 
-/// Makes room for a box. The list has room for a quarter more boxes than it needs at most, and for
-/// a few. The only error is want of memory.
+/// Makes room for a box. A full list gets room for a quarter more boxes than it has, and for a few.
+/// The only error is want of memory.
 #[inline]
 fn make_room(cells: &mut Vec<Closed>) -> Result<(), AllocError>
-    ensures { OnOk result (cells.new.items ≡ cells.old.items) }
+    ensures same { OnOk result (cells.new.items ≡ cells.old.items) }
+    ensures room { OnOk result (vec_capacity cells.new
+        ≤ max (vec_capacity cells.old) (vec_len cells.old + (vec_len cells.old / 4 + 64))) }
 {
     if cells.len() == cells.capacity() {
         cells.reserve_exact(cells.len() / 4 + LEAST_ROOM)?;

@@ -4,15 +4,9 @@ ghost use Rattle.gl_replay.specs.Safe.{IsSafe};
 ghost use Rattle.gl_replay.specs.Code.Workers.{AreCovered, Raises, state_of, workers_of};
 
 use crate::schedule::Step;
-use crate::worker::{Room, Worker, greater};
+use crate::worker::{Worker, greater};
 use gl_goal::{Goal, whole};
 use std::alloc::{AllocError, Global};
-
-/// The room of a worker that cuts and closes nothing.
-const NO_ROOM: Room = Room {
-    cuts: 0,
-    closings: 0,
-};
 
 /// Workers that search together, one step at a time.
 #[derive(Drop)]
@@ -95,57 +89,23 @@ fn keep<G: Goal>(goal: &G, workers: &mut [Worker], number: u32) -> Option<u64>
     workers[place].keep(goal)
 }
 
-/// How much room each of several workers needs for steps. The only error is want of memory.
-fn rooms_for(alloc: Global, workers: u32, steps: &[Step]) -> Result<Vec<Room>, AllocError> {
-    let mut rooms = Vec::with_capacity(alloc, workers as usize)?;
-    for _ in 0..workers {
-        rooms.push(NO_ROOM)?;
-    }
-    for step in steps {
-        match *step {
-            Step::Split(worker) => {
-                if let Some(room) = rooms.get_mut(worker as usize) {
-                    room.cuts = room.cuts.saturating_add(1);
-                }
-            }
-            Step::Close(worker) => {
-                if let Some(room) = rooms.get_mut(worker as usize) {
-                    room.closings = room.closings.saturating_add(1);
-                }
-            }
-            Step::Take(_) | Step::Steal(_, _) | Step::Look(_) | Step::Raise(_) => {}
-        }
-    }
-    Ok(rooms)
-}
-
-/// The room of the worker of a number.
-fn room_of(rooms: &[Room], number: u32) -> Room {
-    match rooms.get(number as usize) {
-        Some(room) => *room,
-        None => NO_ROOM,
-    }
-}
-
 impl Machine {
-    /// So many workers, the first of which has the whole cell of a goal in its deque, with room for
-    /// what they get by some steps. The only error is want of memory.
+    /// So many workers, the first of which has the whole cell of a goal in its deque. The only error
+    /// is want of memory.
     pub(crate) fn new<G: Goal>(
         alloc: Global,
         goal: &G,
         workers: u32,
-        steps: &[Step],
     ) -> Result<Machine, AllocError>
         requires { 1 ≤ workers }
         ensures { IfOk result (λ machine. state_of machine ≡ start (G.rule goal.now) workers) }
     {
-        let rooms = rooms_for(alloc, workers, steps)?;
-        let mut first = Worker::new(alloc, room_of(&rooms, 0))?;
+        let mut first = Worker::new(alloc);
         first.deque.push_back(whole(goal))?;
         let mut list = Vec::new(alloc);
         list.push(first)?;
         for number in 1..workers {
-            let worker = Worker::new(alloc, room_of(&rooms, number))?;
+            let worker = Worker::new(alloc);
             list.push(worker)?;
         }
         Ok(Machine {

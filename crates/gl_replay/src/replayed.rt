@@ -86,21 +86,11 @@ fn push_parts(parts: &mut Vec<Part>, worker: &Worker) -> Result<(), AllocError>
     Ok(())
 }
 
-/// How many cells workers have.
-fn parts_count(workers: &[Worker]) -> usize {
-    let mut count: usize = 0;
-    for worker in workers {
-        let own = worker.closed.len().saturating_add(worker.deque.len());
-        count = count.saturating_add(own).saturating_add(1);
-    }
-    count
-}
-
 /// The cells of workers, open and closed. The only error is want of memory.
 fn parts_of(alloc: Global, workers: &[Worker]) -> Result<Vec<Part>, AllocError>
     ensures { IfOk result (λ parts. parts.items ≡ flat_map parts_left workers.now) }
 {
-    let mut parts = Vec::with_capacity(alloc, parts_count(workers))?;
+    let mut parts = Vec::new(alloc);
     for worker in workers {
         push_parts(&mut parts, worker)?;
     }
@@ -125,7 +115,7 @@ fn work<G: Goal>(alloc: Global, goal: &G, workers: u32, steps: &[Step]) -> Resul
     requires { 1 ≤ workers }
     ensures { IfOk result (IsLeft (G.rule goal.now) workers steps.now) }
 {
-    let mut machine = Machine::new(alloc, goal, workers, steps)?;
+    let mut machine = Machine::new(alloc, goal, workers)?;
     machine.run(goal, steps)?;
     let workers = machine.workers.as_slice();
     let known = best_kept(workers);

@@ -26,13 +26,6 @@ pub(crate) struct Worker {
     pub(crate) kept: Option<Best>,
 }
 
-/// How many cells a worker can get into its deque by some steps, and how many it can close.
-#[derive(Clone, Copy)]
-pub(crate) struct Room {
-    pub(crate) cuts: usize,
-    pub(crate) closings: usize,
-}
-
 /// The greater one of a total that was found, if any, and another.
 pub(crate) fn greater(found: Option<u64>, total: u64) -> Option<u64>
     ensures { result ≡ greater found total }
@@ -63,17 +56,17 @@ fn reason<G: Goal>(goal: &G, cell: &Cell, total: Option<u64>) -> Option<Why>
 }
 
 impl Worker {
-    /// A worker that has nothing, and room for what it gets. The only error is want of memory.
-    pub(crate) fn new(alloc: Global, room: Room) -> Result<Worker, AllocError>
-        ensures { IfOk result (λ worker. worker_of worker ≡ idle) }
+    /// A worker that has nothing.
+    pub(crate) fn new(alloc: Global) -> Worker
+        ensures { worker_of result ≡ idle }
     {
-        Ok(Worker {
-            deque: VecDeque::with_capacity(alloc, room.cuts)?,
+        Worker {
+            deque: VecDeque::new(alloc),
             hand: None,
-            closed: Vec::with_capacity(alloc, room.closings)?,
+            closed: Vec::new(alloc),
             seen: None,
             kept: None,
-        })
+        }
     }
 
     /// Takes the last cell of the deque into the empty hand.
