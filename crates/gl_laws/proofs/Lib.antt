@@ -1,2 +1,3 @@
+pub mod BelowLarge
 pub mod Fixes
 pub mod Wrong

@@ -1,2 +1,3 @@
 pub mod Airspace
 pub mod Recordings
+pub mod Triangles

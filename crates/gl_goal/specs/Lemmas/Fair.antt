@@ -245,7 +245,7 @@ fair_at_most legs greatest high fair =
     (λ past. most))
     (or_cases (by_28_percent legs) _ parts.1)
 
-fold-at_most : (first : ℕ) (xs : List ℕ) → fold min first xs ≤ first
+pub fold-at_most : (first : ℕ) (xs : List ℕ) → fold min first xs ≤ first
 fold-at_most first [] = omega arith
 fold-at_most first (x ∷ xs) = omega (arith, fold-at_most (min first x) xs)
 
