@@ -14,9 +14,9 @@ pub record IsLine (text : List ℕ) : Type 0 where
 abbrev pub usage_line : List ℕ
 usage_line =
     codes "usage: free FILE | triangle FILE | score TASK PROOF WORKERS | check TASK PROOF | "
-    ++ codes "replay FILE SCHEDULE WORKERS | near FILE OTHER SECONDS PROOF | "
-    ++ codes "nearcheck FILE OTHER SECONDS PROOF | point FILE PLACE | badge FILE PROOF | "
-    ++ codes "badgecheck FILE PROOF | series LIST DROP | demo NUMBER"
+    ++ codes "replay FILE SCHEDULE WORKERS | demo NUMBER | series LIST DROP | "
+    ++ codes "near FILE OTHER SECONDS PROOF | nearcheck FILE OTHER SECONDS PROOF | "
+    ++ codes "point FILE PLACE | badge FILE PROOF | badgecheck FILE PROOF"
     ++ 10 ∷ []
 
 -- numbers, each with a space before it

@@ -6,9 +6,9 @@ use std::alloc::{AllocError, Global};
 
 /// The line for words that are of no form.
 const USAGE: &str = "usage: free FILE | triangle FILE | score TASK PROOF WORKERS | \
-    check TASK PROOF | replay FILE SCHEDULE WORKERS | near FILE OTHER SECONDS PROOF | \
-    nearcheck FILE OTHER SECONDS PROOF | point FILE PLACE | badge FILE PROOF | \
-    badgecheck FILE PROOF | series LIST DROP | demo NUMBER\n";
+    check TASK PROOF | replay FILE SCHEDULE WORKERS | demo NUMBER | series LIST DROP | \
+    near FILE OTHER SECONDS PROOF | nearcheck FILE OTHER SECONDS PROOF | point FILE PLACE | \
+    badge FILE PROOF | badgecheck FILE PROOF\n";
 
 /// How many digits of a length in centimetres stand behind the point of its metres.
 const METRE_PLACES: u32 = 2;
