@@ -14,5 +14,5 @@ pub use gl_answer::Status;
 pub use gl_day_claims::one_answer;
 pub use gl_flights::one_series;
 pub use gl_words::worker_count;
-pub use program::{carry_out_words, run_program};
+pub use program::{carry_out_alone, carry_out_words};
 pub use running::{run, run_single};

@@ -19,7 +19,7 @@ use gl_flights::series::series;
 use gl_flights::{Question, answer_of_file, replay_schedule};
 use gl_pool::Gate;
 use gl_task::Steward;
-use gl_words::{Command, read_day_words, read_words};
+use gl_words::{Command, read_day_words, read_words, read_workers_of};
 use std::alloc::Global;
 use std::sync::Wait;
 use std::thread::Threads;
@@ -169,9 +169,9 @@ pub fn run_single<D: Desk>(
     carry_out(alloc, words, desk, &Alone, stewards)
 }
 
-/// Carries out a command, `score` by as many workers as its words name and all others by one. It
-/// may wait for the workers, each of whom passes the gate before its first step. What it owes is
-/// what `run_single` owes, whatever the threads do.
+/// Carries out a command, `score` by as many workers as its words name and all others as
+/// `run_single` does. It may wait for the workers, each of whom passes the gate before its first
+/// step. What it owes is what `run_single` owes, whatever the threads do.
 pub fn run<Rt: Threads + Wait + Sync, D: Desk, K: Gate + Sync>(
     rt: &Rt,
     alloc: Global,
@@ -185,8 +185,8 @@ pub fn run<Rt: Threads + Wait + Sync, D: Desk, K: Gate + Sync>(
         (map (λ s. steward_rules (opening s) (fed s) (owed s)) stewards.new.items)
         result (D.told desk.old) (D.told desk.new) }
 {
-    if read_day_words(words).is_some() {
-        return carry_out_day(rt, alloc, words, desk, gate, stewards);
+    if read_workers_of(words).count == 1 {
+        return run_single(alloc, words, desk, stewards);
     }
-    carry_out(alloc, words, desk, &Alone, stewards)
+    carry_out_day(rt, alloc, words, desk, gate, stewards)
 }

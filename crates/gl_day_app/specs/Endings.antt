@@ -36,17 +36,25 @@ program_stewards =
 abbrev pub Runs : Type 1
 Runs = List (List ℕ) → List StewardRules → List StewardRules → Status → Told → Told → Type 0
 
--- How a program ends by what the system gave it, and what is told before and after that. By words
--- it ends as the run of all but the first of them, with the program's stewards. Without words, or
--- where there is no memory for them or for the stewards, nothing is read, written or said.
-abbrev pub IsEndingOf : Runs → Given → Ending → Told → Told → Type 0
-IsEndingOf IsRun given (Ran status) before after = MatchResult given
-    (λ words. IsRun (given_words words) program_stewards program_stewards status before after)
-    (λ error. ⊥)
-IsEndingOf IsRun given NoMemory before after = (after ≡ before)
-    × IfErr given (λ error. error_kind error ≡ OutOfMemory)
-IsEndingOf IsRun given NoWords before after = (after ≡ before)
-    × MatchResult given (λ words. ⊥) (λ error. error_kind error ≢ OutOfMemory)
+-- the status of a run as a number; 5 where there was no memory to begin with, and 7 where the
+-- system gave none
+abbrev pub number_of_ending : Ending → ℕ
+number_of_ending (Ran status) = number_of_status status
+number_of_ending NoMemory = 5
+number_of_ending NoWords = 7
+
+-- How a program ends by its words, and what is told before and after that: as the run of them, with
+-- the program's stewards. Where there is no memory for these, nothing is read, written or said.
+abbrev pub IsEndingOf : Runs → List (List ℕ) → Ending → Told → Told → Type 0
+IsEndingOf IsRun words (Ran status) before after =
+    IsRun words program_stewards program_stewards status before after
+IsEndingOf IsRun words NoMemory before after = after ≡ before
+IsEndingOf IsRun words NoWords before after = ⊥
+
+-- the program ended with the number of an ending by its words
+abbrev pub EndsWith : Runs → List (List ℕ) → ℕ → Told → Told → Type 0
+EndsWith IsRun words number before after = (ending : Ending)
+    × IsEndingOf IsRun words ending before after × (number ≡ number_of_ending ending)
 
 -- the words as names, or how the program ends without them
 abbrev pub AreNamesGiven : Given → Result (Vec (List ℕ) Global) Ending → Type 0
@@ -56,10 +64,3 @@ AreNamesGiven given (Err (Ran status)) = ⊥
 AreNamesGiven given (Err NoMemory) = IfErr given (λ error. error_kind error ≡ OutOfMemory)
 AreNamesGiven given (Err NoWords) =
     MatchResult given (λ words. ⊥) (λ error. error_kind error ≢ OutOfMemory)
-
--- the status of a run as a number; 5 where there was no memory to begin with, and 7 where the
--- system gave none
-abbrev pub number_of_ending : Ending → ℕ
-number_of_ending (Ran status) = number_of_status status
-number_of_ending NoMemory = 5
-number_of_ending NoWords = 7

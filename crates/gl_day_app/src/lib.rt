@@ -6,5 +6,5 @@ mod program;
 mod racing;
 mod running;
 
-pub use program::{Ending, carry_out_day_words, names_given, run_day_program};
+pub use program::{Ending, carry_out_day_alone, carry_out_day_words, names_given};
 pub use running::{run_day, run_day_single};

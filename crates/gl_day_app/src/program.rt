@@ -1,22 +1,21 @@
-ghost use Rattle.std.specs.Prelude.{◌≡◌, IfOk, OnErr, map};
+ghost use Rattle.std.specs.Prelude.{◌≡◌, IfOk, MatchResult, OnErr, map};
 ghost use Rattle.std.specs.Process.{exit_status};
 ghost use Rattle.std.specs.String.{string_bytes};
 ghost use Rattle.std.specs.Vec.Iter.{into_iter_items};
 ghost use Rattle.gl_day_app.specs.DayRun.{IsDayRun};
-ghost use Rattle.gl_day_app.specs.Endings.{AreNamesGiven, IsEndingOf, given_words, number_of_ending, program_stewards};
+ghost use Rattle.gl_day_app.specs.Endings.{AreNamesGiven, EndsWith, given_words, number_of_ending, program_stewards};
+ghost use Rattle.gl_words.specs.DayWords.{workers_of};
 ghost use Rattle.gl_day_app.specs.declared.program.Ending.{Ending};
 
-use crate::running::run_day;
+use crate::running::{run_day, run_day_single};
 use gl_answer::Status;
-use gl_desk::{Desk, HostDesk, Name};
+use gl_desk::{Desk, Name};
 use gl_pool::OpenGate;
 use gl_task::{Ceiling, EngineNoise, Steward};
 use std::alloc::{AllocError, Global};
-use std::env;
 use std::env::Args;
 use std::io::{self, ErrorKind};
 use std::process::ExitCode;
-use std::rt::{Env, Files};
 use std::sync::Wait;
 use std::thread::Threads;
 
@@ -32,6 +31,17 @@ pub enum Ending {
 }
 
 impl Ending {
+    /// How a program ends whose run ended so, or for whose run there was no memory.
+    pub fn of(ran: Result<Status, AllocError>) -> Ending
+        ensures { MatchResult ran
+            (λ status. result ≡ Ending.Ran status) (λ _. result ≡ Ending.NoMemory) }
+    {
+        match ran {
+            Ok(status) => Ending::Ran(status),
+            Err(_) => Ending::NoMemory,
+        }
+    }
+
     /// What the program ends with.
     pub fn exit_code(self) -> ExitCode
         ensures { exit_status result ≡ number_of_ending self }
@@ -76,9 +86,26 @@ pub fn names_given(alloc: Global, words: io::Result<Args>) -> Result<Vec<Name>, 
     }
 }
 
-/// Carries out a command of a day with the program's two stewards, that of the ceiling and that of
-/// the engine. The only error is want of memory for them.
-fn run_with_stewards<Rt: Threads + Wait + Sync, D: Desk>(
+/// Carries out a command of a day on one thread with the program's two stewards, that of the
+/// ceiling and that of the engine. The only error is want of memory for them.
+fn run_alone<D: Desk>(
+    alloc: Global,
+    words: &[Name],
+    desk: &mut D,
+) -> Result<Status, AllocError>
+    requires { workers_of words.now ≡ 1 }
+    ensures ran { IfOk result (λ status. IsDayRun words.now program_stewards program_stewards
+        status (D.told desk.old) (D.told desk.new)) }
+    ensures untouched { OnErr result (D.told desk.new ≡ D.told desk.old) }
+{
+    let mut stewards: Vec<Box<dyn Steward>> = Vec::new(alloc);
+    stewards.push(Box::new(alloc, Ceiling::new())?)?;
+    stewards.push(Box::new(alloc, EngineNoise::new())?)?;
+    Ok(run_day_single(alloc, words, desk, &mut stewards))
+}
+
+/// The same by as many workers as the words name.
+fn run_racing<Rt: Threads + Wait + Sync, D: Desk>(
     rt: &Rt,
     alloc: Global,
     words: &[Name],
@@ -94,50 +121,26 @@ fn run_with_stewards<Rt: Threads + Wait + Sync, D: Desk>(
     Ok(run_day(rt, alloc, words, desk, &OpenGate, &mut stewards))
 }
 
-/// Carries out the words that the system gives, and says how the program ends. Where there are no
-/// words nothing is read, written or said.
-fn ending_of<Rt: Threads + Wait + Sync, D: Desk>(
-    rt: &Rt,
-    alloc: Global,
-    words: io::Result<Args>,
-    desk: &mut D,
-) -> Ending
-    ensures { IsEndingOf IsDayRun words result (D.told desk.old) (D.told desk.new) }
+/// All that a program of the commands of a day does by one worker, over any desk: carries out the
+/// words, with the program's stewards, and answers the number of the status that the run ended
+/// with. It always returns.
+pub fn carry_out_day_alone<D: Desk>(alloc: Global, words: &[Name], desk: &mut D) -> ExitCode
+    requires { workers_of words.now ≡ 1 }
+    ensures { EndsWith IsDayRun words.now (exit_status result)
+        (D.told desk.old) (D.told desk.new) }
 {
-    let names = match names_given(alloc, words) {
-        Ok(names) => names,
-        Err(ending) => return ending,
-    };
-    match run_with_stewards(rt, alloc, &names, desk) {
-        Ok(status) => Ending::Ran(status),
-        Err(_) => Ending::NoMemory,
-    }
+    Ending::of(run_alone(alloc, words, desk)).exit_code()
 }
 
-/// All that a program of the commands of a day does, over any desk: carries out the words that the
-/// system gives, with the program's stewards, and answers the number of the status that the run
-/// ended with.
+/// The same by as many workers as the words name, for whom it may wait.
 pub fn carry_out_day_words<Rt: Threads + Wait + Sync, D: Desk>(
     rt: &Rt,
     alloc: Global,
-    words: io::Result<Args>,
+    words: &[Name],
     desk: &mut D,
 ) -> ExitCode
-    ensures { (ending : Ending) × IsEndingOf IsDayRun words ending (D.told desk.old) (D.told desk.new)
-        × (exit_status result ≡ number_of_ending ending) }
+    ensures { EndsWith IsDayRun words.now (exit_status result)
+        (D.told desk.old) (D.told desk.new) }
 {
-    ending_of(rt, alloc, words, desk).exit_code()
-}
-
-/// The program of the commands of a day: carries out the words of the system over the current
-/// folder and the standard output.
-pub fn run_day_program<Rt: Files + Print + Env + AllocGlobal + Threads + Wait + Sync + Drop>(
-    rt: Rt,
-) -> ExitCode
-    ensures { (ending : Ending) × (exit_status result ≡ number_of_ending ending) }
-{
-    let alloc = rt.alloc();
-    let words = env::args(&rt);
-    let mut desk = HostDesk::new(&rt);
-    carry_out_day_words(&rt, alloc, words, &mut desk)
+    Ending::of(run_racing(rt, alloc, words, desk)).exit_code()
 }

@@ -1,7 +1,8 @@
 //! Worked runs of the commands over folders in memory, as a program: each line of `stdin` begins a
 //! folder, gives it a file or runs words in it, and the program says what came of it. The last one
-//! tries the task files of `data/`. The gate compares what is said with `stdout`, whose answers were
-//! computed by hand or by an independent program.
+//! but one tries the task files of `data/`. The last one runs words in that folder as the installed
+//! program does, and the program ends with their status. The gate compares what is said with
+//! `stdout`, whose answers were computed by hand or by an independent program.
 #![tactic(auto)]
 
 mod folder;
@@ -15,6 +16,7 @@ use gl_desk::MemDesk;
 use in_turn::Often;
 use runs::Line;
 use std::io;
+use std::process::ExitCode;
 
 /// Carries out a line that runs nothing.
 fn obey(rt: &HostRuntime, desk: &mut MemDesk, word: &str, rest: &str) -> Result<()> {
@@ -31,7 +33,7 @@ fn obey(rt: &HostRuntime, desk: &mut MemDesk, word: &str, rest: &str) -> Result<
     }
 }
 
-fn main(rt: HostRuntime) -> Result<()> {
+fn main(rt: HostRuntime) -> Result<ExitCode> {
     let script = io::read_to_string(rt.alloc(), rt.reader())?;
     let mut desk = folder::fresh(rt.alloc(), 0)?;
     for line in script.as_str().lines() {
@@ -47,6 +49,7 @@ fn main(rt: HostRuntime) -> Result<()> {
             continue;
         }
         match word {
+            "end" => return runs::end_with(&rt, rest),
             "#" => {
                 println!(rt; "{line}")?;
                 desk = folder::fresh(rt.alloc(), 0)?;
@@ -56,5 +59,5 @@ fn main(rt: HostRuntime) -> Result<()> {
             _ => obey(&rt, &mut desk, word, rest)?,
         }
     }
-    Ok(())
+    Ok(ExitCode::SUCCESS)
 }

@@ -1,10 +1,12 @@
 use crate::severe::Severe;
 use anyhow::{Context, Result};
-use gl_app::Status;
-use gl_desk::{MemDesk, Name};
+use gl_app::{Status, carry_out_alone, carry_out_words};
+use gl_desk::{HostDesk, MemDesk, Name};
 use gl_pool::OpenGate;
 use gl_task::{Ceiling, EngineNoise, Steward};
+use gl_words::read_workers_of;
 use std::alloc::{AllocError, Global};
+use std::process::ExitCode;
 use std::sync::Wait;
 use std::thread::Threads;
 
@@ -103,6 +105,19 @@ pub fn end_of<Rt: Threads + Wait + Sync>(
         status,
         said: String::from_str(alloc, str::from_utf8(said)?)?,
         calls: desk.calls().saturating_sub(calls),
+    })
+}
+
+/// Carries out words in the folder of `data/` as the installed program does, and answers what it
+/// ends with.
+pub fn end_with(rt: &HostRuntime, line: &str) -> Result<ExitCode> {
+    let alloc = rt.alloc();
+    let words = words(alloc, line)?;
+    let mut desk = HostDesk::new(rt);
+    Ok(if read_workers_of(&words).count == 1 {
+        carry_out_alone(alloc, &words, &mut desk)
+    } else {
+        carry_out_words(rt, alloc, &words, &mut desk)
     })
 }
 
