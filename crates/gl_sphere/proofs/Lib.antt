@@ -3,6 +3,10 @@ pub mod Chords
 pub mod Estimates
 pub mod LongDivision
 pub mod Negated
+pub mod Quick
+pub mod QuickLengths
+pub mod QuickSums
+pub mod QuickVectors
 pub mod Roots
 pub mod SamePlaces
 pub mod Signs

@@ -87,3 +87,25 @@ pub scaled-natural : (m : ℤ) (n : ℕ) → pos 0 ≤ℤ m → n ≡ (unsigned_
 unfolding scaled
 scaled-natural m n h e =
     with_sign_of-natural m _ h ∙ ap pos (ap (λ k. k / 20000000000000000) (omega arith) ∙ sym e)
+
+-- a factor's sign is the product's
+product-negated : (p q : ℕ) → product (pos p) (neg_ℤ (pos q)) ≡ neg_ℤ (product (pos p) (pos q))
+unfolding product with_sign_of
+product-negated p zero = omega (arith, ints, quotient-zero (p * 0) (omega arith))
+product-negated p (suc q) = with_sign_of-neg (p * suc q) _ (quotient-zero (p * suc q))
+
+pub scaled-negated : (m : ℕ) → scaled (neg_ℤ (pos m)) ≡ neg_ℤ (scaled (pos m))
+unfolding scaled with_sign_of
+scaled-negated zero = refl
+scaled-negated (suc m) = refl
+
+-- and so is that of the length along the radius
+pub scaled_product-negated : (p q : ℕ)
+    → scaled (product (pos p) (neg_ℤ (pos q))) ≡ neg_ℤ (scaled (product (pos p) (pos q)))
+unfolding product with_sign_of
+scaled_product-negated p q =
+    ap scaled (product-negated p q) ∙ scaled-negated (p * q / 10000000000000000)
+
+pub product-whole : (p : ℕ) → product (pos p) (pos 10000000000000000) ≡ pos p
+unfolding product with_sign_of
+product-whole p = ap pos (omega arith)

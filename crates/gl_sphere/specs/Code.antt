@@ -1,4 +1,5 @@
 -- Definitions of the code alone: what its loops keep, and views of its types. No promise to a
 -- caller
 -- cites them.
+pub mod Quick
 pub mod Series

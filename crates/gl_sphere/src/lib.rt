@@ -8,6 +8,8 @@ mod distance;
 mod place;
 mod place_text;
 mod projection;
+mod quick_sine;
+mod quick_vector;
 mod quotient;
 mod series;
 mod series_steps;

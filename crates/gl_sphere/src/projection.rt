@@ -4,22 +4,34 @@ ghost use Rattle.gl_sphere.specs.Product.{product, scaled};
 ghost use Rattle.gl_sphere.specs.Range.{IsWithin};
 
 use crate::place::{Grid, Vec3};
+use crate::quick_vector::quick_vector;
 use crate::quotient::quotient;
 use crate::series_steps::over_unit;
-use crate::sine::{complement, four_sines, wcos, wsin};
+use crate::sine::{wcos, wsin};
 use crate::sphere::{RADIUS, UNIT};
 
 /// The point of a place.
 pub fn vector(g: Grid) -> Vec3
     ensures { result ≡ written_vector g }
 {
+    match quick_vector(g) {
+        Some(point) => point,
+        None => vector_in_full(g),
+    }
+}
+
+/// The point of a place by the written sines.
+#[inline(never)]
+fn vector_in_full(g: Grid) -> Vec3
+    ensures { result ≡ written_vector g }
+{
     let lat = g.lat as i64;
     let lon = g.lon as i64;
-    let (height, from_axis, east, across) = four_sines(lat, complement(lat), lon, complement(lon));
+    let from_axis = wcos(lat);
     Vec3 {
-        x: scale(mul(from_axis, across)),
-        y: scale(mul(from_axis, east)),
-        z: scale(height),
+        x: scale(mul(from_axis, wcos(lon))),
+        y: scale(mul(from_axis, wsin(lon))),
+        z: scale(wsin(lat)),
     }
 }
 

@@ -58,7 +58,7 @@ pub fn over_unit(a: u64, b: u64) -> u64
 
 /// The angle from 0 to 90 degrees that has the sine of one from 0 to 180 degrees.
 #[inline(always)]
-fn quarter_angle(n: u64) -> u64
+pub fn quarter_angle(n: u64) -> u64
     requires { n ≤ HALF_TURN }
     ensures value { quarter_sine result ≡ half_turn_sine n }
     ensures bound { result ≤ QUARTER_TURN }

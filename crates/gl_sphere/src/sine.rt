@@ -50,33 +50,3 @@ pub fn wcos(n: i64) -> i64
 {
     wsin(complement(n))
 }
-
-/// The written sines of four angles, term by term side by side: a processor works on several series
-/// at once, where one alone has it wait for each term.
-pub fn four_sines(a: i64, b: i64, c: i64, d: i64) -> (i64, i64, i64, i64)
-    requires a { IsWithin HALF_TURN a }
-    requires b { IsWithin HALF_TURN b }
-    requires c { IsWithin HALF_TURN c }
-    requires d { IsWithin HALF_TURN d }
-    ensures first { (result.0 ≡ written_sine a) × IsWithin UNIT result.0 }
-    ensures second { (result.1 ≡ written_sine b) × IsWithin UNIT result.1 }
-    ensures third { (result.2 ≡ written_sine c) × IsWithin UNIT result.2 }
-    ensures fourth { (result.3 ≡ written_sine d) × IsWithin UNIT result.3 }
-{
-    let mut first = Series::of(a);
-    let mut second = Series::of(b);
-    let mut third = Series::of(c);
-    let mut fourth = Series::of(d);
-    for pair in 0..PAIRS {
-        first = first.with_pair(pair);
-        second = second.with_pair(pair);
-        third = third.with_pair(pair);
-        fourth = fourth.with_pair(pair);
-    }
-    (
-        with_sign(a, first.sine()),
-        with_sign(b, second.sine()),
-        with_sign(c, third.sine()),
-        with_sign(d, fourth.sine()),
-    )
-}

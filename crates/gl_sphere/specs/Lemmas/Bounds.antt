@@ -12,7 +12,7 @@ use Rattle.gl_sphere.specs.Lemmas.Series.{radians-at_most, sine_term-first, sine
 use Rattle.gl_sphere.specs.Lemmas.Signs.{abs_at_most, within_from_abs, half_turn_sine-first, half_turn_sine-second}
 
 -- a term is at most the one before it, where the angle's square is at most three
-sine_term-falls : (x k : ℕ) → x * x / 10000000000000000 ≤ 30000000000000000
+pub sine_term-falls : (x k : ℕ) → x * x / 10000000000000000 ≤ 30000000000000000
     → sine_term x (suc k) ≤ sine_term x k
 unfolding sine_term
 sine_term-falls x k h =
@@ -25,11 +25,11 @@ sine_term-falls x k h =
     div-le_of_le-mul ((2 * k + 2) * (2 * k + 3)) (omega arith)
 
 -- the sum of an odd number of terms is a natural number, at least its last term
-record IsPartialSum (x j s : ℕ) : Type 0 where
+pub record IsPartialSum (x j s : ℕ) : Type 0 where
   pub sum_is : pos s ≡ sine_sum x (2 * j + 1)
   pub last_in_sum : sine_term x (2 * j) ≤ s
 
-partial_sum : (x j : ℕ) → x * x / 10000000000000000 ≤ 30000000000000000
+pub partial_sum : (x j : ℕ) → x * x / 10000000000000000 ≤ 30000000000000000
     → (s : ℕ) × IsPartialSum x j s
 partial_sum x zero h =
     (x, record { sum_is = sym (sine_sum-first x); last_in_sum = omega (arith, sine_term-first x) })
@@ -55,7 +55,7 @@ partial_sum x (suc j) h =
       },
     )
 
-square-at_most : (n : ℕ) → n ≤ 540000000
+pub square-at_most : (n : ℕ) → n ≤ 540000000
     → radians n * radians n / 10000000000000000 ≤ 30000000000000000
 square-at_most n h =
     let le : radians n ≤ 15707963267948966 = radians-at_most n h in

@@ -6,8 +6,8 @@ use Rattle.gl_sphere.specs.Components.{written_x, written_y, written_z}
 use Rattle.gl_sphere.specs.Place.{written_vector}
 use Rattle.gl_sphere.specs.declared.place.Grid.{Grid}
 use Rattle.gl_sphere.proofs.Vectors.{Vec3-same}
-use Rattle.gl_sphere.proofs.projection.vector.Goals as goal
-use Rattle.gl_sphere.proofs.projection.vector.Goals.{After-scale-3}
+use Rattle.gl_sphere.proofs.projection.vector_in_full.Goals as goal
+use Rattle.gl_sphere.proofs.projection.vector_in_full.Goals.{After-scale-3}
 
 x-is : (g : Grid) (a b m r : ℤ) → a ≡ written_cosine g.lat → b ≡ written_cosine g.lon → m ≡ product a b → r ≡ scaled m → r ≡ written_x g
 unfolding written_x
@@ -15,9 +15,9 @@ x-is g a b m r a_is b_is m_is r_is = cc
 
 x-of : (c : After-scale-3) → to_z w32 (of_z w32 c.scale.result) ≡ written_x c.args.g
 x-of c =
-    let lat : c.four_sines-height.result.1 ≡ written_cosine c.args.g.lat = grind (arith, to_z-of_z, c.four_sines-height.ensures.second, c.complement.ensures.value) in
-    let lon : c.four_sines-height.result.3 ≡ written_cosine c.args.g.lon = grind (arith, to_z-of_z, c.four_sines-height.ensures.fourth, c.complement-2.ensures.value) in
-    let m : c.mul.result ≡ product c.four_sines-height.result.1 c.four_sines-height.result.3 = grind (arith, to_z-of_z, c.mul.ensures.value) in
+    let lat : c.wcos-from_axis.result ≡ written_cosine c.args.g.lat = grind (arith, to_z-of_z, c.wcos-from_axis.ensures.value) in
+    let lon : c.wcos.result ≡ written_cosine c.args.g.lon = grind (arith, to_z-of_z, c.wcos.ensures.value) in
+    let m : c.mul.result ≡ product c.wcos-from_axis.result c.wcos.result = grind (arith, to_z-of_z, c.mul.ensures.value) in
     let r : c.scale.result ≡ scaled c.mul.result = grind (arith, to_z-of_z, c.scale.ensures.value) in
     omega (arith, ints, x-is c.args.g _ _ _ _ lat lon m r)
 
@@ -27,9 +27,9 @@ y-is g a b m r a_is b_is m_is r_is = cc
 
 y-of : (c : After-scale-3) → to_z w32 (of_z w32 c.scale-2.result) ≡ written_y c.args.g
 y-of c =
-    let lat : c.four_sines-height.result.1 ≡ written_cosine c.args.g.lat = grind (arith, to_z-of_z, c.four_sines-height.ensures.second, c.complement.ensures.value) in
-    let lon : c.four_sines-height.result.2 ≡ written_sine c.args.g.lon = grind (arith, to_z-of_z, c.four_sines-height.ensures.third) in
-    let m : c.mul-2.result ≡ product c.four_sines-height.result.1 c.four_sines-height.result.2 = grind (arith, to_z-of_z, c.mul-2.ensures.value) in
+    let lat : c.wcos-from_axis.result ≡ written_cosine c.args.g.lat = grind (arith, to_z-of_z, c.wcos-from_axis.ensures.value) in
+    let lon : c.wsin.result ≡ written_sine c.args.g.lon = grind (arith, to_z-of_z, c.wsin.ensures.value) in
+    let m : c.mul-2.result ≡ product c.wcos-from_axis.result c.wsin.result = grind (arith, to_z-of_z, c.mul-2.ensures.value) in
     let r : c.scale-2.result ≡ scaled c.mul-2.result = grind (arith, to_z-of_z, c.scale-2.ensures.value) in
     omega (arith, ints, y-is c.args.g _ _ _ _ lat lon m r)
 
@@ -39,8 +39,8 @@ z-is g a r a_is r_is = cc
 
 z-of : (c : After-scale-3) → to_z w32 (of_z w32 c.scale-3.result) ≡ written_z c.args.g
 z-of c =
-    let lat : c.four_sines-height.result.0 ≡ written_sine c.args.g.lat = grind (arith, to_z-of_z, c.four_sines-height.ensures.first) in
-    let r : c.scale-3.result ≡ scaled c.four_sines-height.result.0 = grind (arith, to_z-of_z, c.scale-3.ensures.value) in
+    let lat : c.wsin-2.result ≡ written_sine c.args.g.lat = grind (arith, to_z-of_z, c.wsin-2.ensures.value) in
+    let r : c.scale-3.result ≡ scaled c.wsin-2.result = grind (arith, to_z-of_z, c.scale-3.ensures.value) in
     omega (arith, ints, z-is c.args.g _ _ lat r)
 
 pub returns : goal.returns
