@@ -25,13 +25,15 @@ near_product p q a b p_in q_in a_in b_in a_most a_least b_most b_least =
 
 -- m is the written product over `unit`; the quick length is so many whole centimetres and a rest
 -- that is at least the margin away from the next ones
-rounded_alike : (written quick m high length centimetres rest : ℕ) → IsNearProduct written quick
+rounded_alike : (written quick m high length centimetres rest margin : ℕ)
+    → IsNearProduct written quick
     → m * unit ≤ written → written < (m + 1) * unit → high * 2 ^ 44 ≤ quick
     → quick < (high + 1) * 2 ^ 44 → length * word ≤ high * 8879877978739912502
     → high * 8879877978739912502 < (length + 1) * word → high < word
-    → length + 2 ^ 31 ≡ centimetres * 2 ^ 32 + rest → 500000 ≤ rest → rest + 500000 ≤ 2 ^ 32
+    → length + 2 ^ 31 ≡ centimetres * 2 ^ 32 + rest → 280750 ≤ margin
+    → margin ≤ rest → rest + margin ≤ 2 ^ 32
     → centimetres ≡ (2 * m * radius + unit) / (2 * unit)
-rounded_alike written quick m high length centimetres rest near m_under m_over high_under high_over length_under length_over high_in parts least most =
+rounded_alike written quick m high length centimetres rest margin near m_under m_over high_under high_over length_under length_over high_in parts enough least most =
     let below : centimetres * (2 * unit) ≤ 2 * m * radius + unit = omega (arith, near.most) in
     let above : 2 * m * radius + unit < (centimetres + 1) * (2 * unit) =
     omega (arith, near.least) in
@@ -43,18 +45,19 @@ scaled-product : (p q : ℕ)
 unfolding scaled product with_sign_of
 scaled-product p q = refl
 
-pub quick_length-is : (p q a b high length : ℕ) → p ≤ unit → q ≤ unit → a ≤ unit → b ≤ unit
+pub quick_length-is : (p q a b high length margin : ℕ) → p ≤ unit → q ≤ unit → a ≤ unit → b ≤ unit
     → IsWithin 512 (pos a -ℤ pos p) → IsWithin 512 (pos b -ℤ pos q)
     → high ≡ a * 1024 * (b * 1024) / word → high < word
     → length ≡ high * 8879877978739912502 / word
-    → 500000 ≤ (length + 2 ^ 31) % 2 ^ 32 → (length + 2 ^ 31) % 2 ^ 32 ≤ 2 ^ 32 - 500000
+    → 280750 ≤ margin → margin ≤ (length + 2 ^ 31) % 2 ^ 32
+    → (length + 2 ^ 31) % 2 ^ 32 ≤ 2 ^ 32 - margin
     → pos ((length + 2 ^ 31) / 2 ^ 32) ≡ scaled (product (pos p) (pos q))
-quick_length-is p q a b high length p_in q_in a_in b_in a_near b_near high_is high_in length_is least most =
+quick_length-is p q a b high length margin p_in q_in a_in b_in a_near b_near high_is high_in length_is enough least most =
     let near = near_product p q a b p_in q_in a_in b_in (omega (arith, ints, a_near.1))
     (omega (arith, ints, a_near.0)) (omega (arith, ints, b_near.1)) (omega (arith, ints, b_near.0)) in
     let is = rounded_alike (p * q) (a * b) (p * q / unit) high length ((length + 2 ^ 31) / 2 ^ 32)
-    ((length + 2 ^ 31) % 2 ^ 32) near (omega arith) (omega arith) (omega arith) (omega arith)
-    (omega arith) (omega arith) high_in (omega arith) least (omega arith) in
+    ((length + 2 ^ 31) % 2 ^ 32) margin near (omega arith) (omega arith) (omega arith) (omega arith)
+    (omega arith) (omega arith) high_in (omega arith) enough least (omega arith) in
     ap pos is ∙ sym (scaled-product p q)
 
 -- a sine is within the error of itself

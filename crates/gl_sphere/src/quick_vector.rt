@@ -17,7 +17,7 @@ const CENTIMETRE: u64 = 1 << 32;
 
 /// How far from a half a quick length has to be to be rounded as the written one is: the errors of
 /// two quick sines make at most 280,750 of a length.
-const MARGIN: u64 = 500_000;
+const MARGIN: u64 = 300_000;
 
 /// The length along the radius of the product of two sines, in whole centimetres, by quick sines;
 /// none where it's too near a half to say which way it is rounded.

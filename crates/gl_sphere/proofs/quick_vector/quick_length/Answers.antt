@@ -4,6 +4,7 @@ use Rattle.gl_sphere.specs.Code.Quick.{quick_error}
 use Rattle.gl_sphere.specs.Product.{product, scaled}
 use Rattle.gl_sphere.specs.Range.{IsWithin}
 use Rattle.gl_sphere.specs.Sphere.{unit}
+use Rattle.gl_sphere.specs.declared.quick_vector.TheConstants.{MARGIN}
 use Rattle.gl_sphere.proofs.QuickLengths.{quick_length-is, own-within, length-within}
 use Rattle.gl_sphere.proofs.quick_vector.quick_length.Goals as goal
 use Rattle.gl_sphere.proofs.quick_vector.quick_length.Goals.{Then-above}
@@ -12,9 +13,9 @@ length-is : (c : Then-above) (p q : ℕ) → p ≤ unit → q ≤ unit
     → IsWithin quick_error (pos c.args.a -ℤ pos p) → IsWithin quick_error (pos c.args.b -ℤ pos q)
     → pos ((c.high_half-2.result + 2147483648) / 4294967296) ≡ scaled (product (pos p) (pos q))
 length-is c p q p_in q_in a_near b_near =
-    quick_length-is p q c.args.a c.args.b c.high_half.result c.high_half-2.result p_in q_in
+    quick_length-is p q c.args.a c.args.b c.high_half.result c.high_half-2.result MARGIN p_in q_in
     c.requires.a_in_range c.requires.b_in_range a_near b_near c.high_half.ensures
-    c.high_half.type_inv c.high_half-2.ensures c.if-above-ge-MARGIN.true c.if-above.true
+    c.high_half.type_inv c.high_half-2.ensures (omega arith) c.if-above-ge-MARGIN.true c.if-above.true
 
 pub returns-then-above-clause-value : goal.returns-then-above-clause-value
 returns-then-above-clause-value c p q p_in q_in a_near b_near =
