@@ -17,11 +17,7 @@ use std::thread::Threads;
 
 /// Carries out a command on one thread with the program's two stewards, that of the ceiling and
 /// that of the engine. The only error is want of memory for them.
-fn run_alone<D: Desk>(
-    alloc: Global,
-    words: &[Name],
-    desk: &mut D,
-) -> Result<Status, AllocError>
+fn run_alone<D: Desk>(alloc: Global, words: &[Name], desk: &mut D) -> Result<Status, AllocError>
     requires { workers_of words.now ≡ 1 }
     ensures ran { IfOk result (λ status. IsRun words.now program_stewards program_stewards
         status (D.told desk.old) (D.told desk.new)) }

@@ -26,7 +26,7 @@ fn verdict_of<G: Goal>(alloc: Global, goal: &G, claim: &Claim) -> Result<Verdict
 }
 
 /// Checks a claim against a goal: `Yes` exactly where its boxes certify its total and its fixes,
-/// and else the first thing that is wrong, in the order of [`Verdict`] and then of the boxes.
+/// and else the first thing that is wrong: with the fixes, then with the total, then box by box.
 /// Nothing is taken on trust of whoever made the claim. Where the answer is `Yes`, the total is the
 /// optimum of the goal, and each choice of fixes lies in exactly one of the boxes. The only error
 /// is

@@ -88,11 +88,7 @@ pub fn names_given(alloc: Global, words: io::Result<Args>) -> Result<Vec<Name>, 
 
 /// Carries out a command of a day on one thread with the program's two stewards, that of the
 /// ceiling and that of the engine. The only error is want of memory for them.
-fn run_alone<D: Desk>(
-    alloc: Global,
-    words: &[Name],
-    desk: &mut D,
-) -> Result<Status, AllocError>
+fn run_alone<D: Desk>(alloc: Global, words: &[Name], desk: &mut D) -> Result<Status, AllocError>
     requires { workers_of words.now ≡ 1 }
     ensures ran { IfOk result (λ status. IsDayRun words.now program_stewards program_stewards
         status (D.told desk.old) (D.told desk.new)) }

@@ -53,7 +53,7 @@ pub trait Goal {
         requires { Covers (whole_cell (rule self.now).axes) (spans_of cell.now) }
         ensures { IsTrue result ↔ IsTrue ((rule self.now).shut (spans_of cell.now)) };
 
-    /// More than no legal tuple of the cell is worth, in centimetres.
+    /// At least what each legal tuple of the cell is worth, in centimetres.
     fn bound(&self, cell: &Cell) -> u64
         requires { Covers (whole_cell (rule self.now).axes) (spans_of cell.now) }
         ensures { result ≡ (rule self.now).bound (spans_of cell.now) };

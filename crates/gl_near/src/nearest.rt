@@ -5,8 +5,8 @@ use crate::found::NearBest;
 use gl_igc::Fix;
 use gl_sphere::{Vec3, dist, sq};
 
-/// The fix of a flight that is nearest to a place, found without boxes: its distance and its
-/// number, the first of equally near ones. The place has the number 0.
+/// A fix of a flight to which none is nearer to a place, found without boxes: its distance and its
+/// number. The place has the number 0.
 pub fn nearest_fix(flight: &[Fix], point: Vec3) -> NearBest
     requires some { 0 < length flight.now }
     requires most { length flight.now ≤ 90_000 }

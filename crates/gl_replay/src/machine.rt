@@ -92,11 +92,7 @@ fn keep<G: Goal>(goal: &G, workers: &mut [Worker], number: u32) -> Option<u64>
 impl Machine {
     /// So many workers, the first of which has the whole cell of a goal in its deque. The only error
     /// is want of memory.
-    pub(crate) fn new<G: Goal>(
-        alloc: Global,
-        goal: &G,
-        workers: u32,
-    ) -> Result<Machine, AllocError>
+    pub(crate) fn new<G: Goal>(alloc: Global, goal: &G, workers: u32) -> Result<Machine, AllocError>
         requires { 1 ≤ workers }
         ensures { IfOk result (λ machine. state_of machine ≡ start (G.rule goal.now) workers) }
     {

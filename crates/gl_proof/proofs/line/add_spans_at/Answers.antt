@@ -92,5 +92,5 @@ returns c = (
     is = c.axes.invariant.is
         ∙ ap (λ (l : List ℕ). spaced (map span_word (map ends (take c.axes.axes c.axes.cell.1.0))) ++ l) c.in-Some-behind.ensures;
   },
-  behind_room _ _ _ _ c.in_ok-push.ensures.items c.in_ok-make_room.ensures,
+  behind_room _ _ _ _ c.in_ok-push.ensures.items c.in_ok-make_room.ensures.same,
 )
