@@ -70,10 +70,11 @@ fn chained(
     Ok((all, follow && opened.is_empty()))
 }
 
-/// The boxes of some runs in the order of the split tree of a cell which they part together: each
-/// of its tuples lies in exactly one of them. As long as each run leads to the next one, once they
-/// are sorted by their ways, only their ends are looked at, and no box is copied; if one doesn't,
-/// all boxes are put into one list and into order there. The only error is want of memory.
+/// The boxes of some runs in the order of the split tree of a cell which they part together, each as
+/// often as in the runs. The only error is want of memory.
+///
+/// As long as each run leads to the next one, once they are sorted by their ways, only their ends
+/// are looked at. If one doesn't, all boxes are put into one list and into order there.
 pub fn in_order(alloc: Global, whole: &Cell, mut runs: Vec<Run>) -> Result<Boxes, AllocError>
     requires passed { ArePassed runs.items }
     requires parts { AreParts (spans_of whole.now) (cells_of (boxes_in_runs runs.items)) }
