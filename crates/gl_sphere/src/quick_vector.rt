@@ -12,15 +12,15 @@ use crate::sphere::{QUARTER_TURN, RADIUS, UNIT};
 /// 2^140 times the radius over the square of `UNIT`, rounded down.
 const TO_LENGTH: u64 = 8_879_877_978_739_912_502;
 
-/// A centimetre in the last place of a quick length.
+/// A centimetre, counted in the last place of a quick length.
 const CENTIMETRE: u64 = 1 << 32;
 
-/// How far from a half a quick length has to be to be rounded as the written one is: the errors of
-/// two quick sines make at most 280,750 of a length.
+/// How far from a half a quick length has to be, in its last place, to be rounded as the written one
+/// is: two quick sines make it at most 280,750 wrong.
 const MARGIN: u64 = 300_000;
 
 /// The length along the radius of the product of two sines, in whole centimetres, by quick sines;
-/// none where it's too near a half to say which way it is rounded.
+/// `None` where it's too near a half to say which way the written one is rounded.
 #[inline(always)]
 fn quick_length(a: u64, b: u64) -> Option<i32>
     requires a_in_range { a ≤ UNIT }
@@ -49,7 +49,7 @@ fn directed(length: i32, is_negative: bool) -> i32
     if is_negative { -length } else { length }
 }
 
-/// The point of a place by quick sines; none where they can't tell a component's last digit.
+/// The point of a place by quick sines; `None` where they can't tell the last digit of a component.
 #[inline(always)]
 pub fn quick_vector(g: Grid) -> Option<Vec3>
     ensures { IfSome result (λ v. v ≡ written_vector g) }

@@ -21,7 +21,7 @@ fn with_sign(n: i64, size: u64) -> i64
 /// The angle whose sine is the cosine of another: what that one, without its sign, has left to 90
 /// degrees.
 #[inline(always)]
-pub fn complement(n: i64) -> i64
+fn complement(n: i64) -> i64
     requires { IsWithin HALF_TURN n }
     ensures value { written_sine result ≡ written_cosine n }
     ensures bound { IsWithin HALF_TURN result }
