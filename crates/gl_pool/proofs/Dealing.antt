@@ -49,28 +49,30 @@ set_keeps f places at old new d k inside is same = elim (cases_order k at) [
 abbrev deque_in : Place → Deque
 deque_in place = hand_deque place.hand
 
-pub dealt : (rule : Goal) (workers at : ℕ) (places : List Place) (first : Cell) (old new : Place) → IsDeal workers places → at < workers
-    → ((e : Place) → get_or places at e ≡ old) → hand_deque new.hand ≡ hand_deque old.hand → hand_view new.hand ≡ with_put (hand_view old.hand) (first ∷ []) → ends_of new ≡ ends_of old
-    → spans_of first ≡ whole_cell rule.axes → IsDealt rule (slice_set places at new)
-dealt rule workers at places first old new deal within is deque view passes is_whole =
-    let inside : at < length places = omega (arith, deal.one_each) in
-    let long = length-set places at new in
-    let deques : deques_of (slice_set places at new) ≡ deques_of places = map-set_same deque_in places at new old (deque ∙ ap deque_in (sym (is old))) in
+pub dealt : (rule : Goal) (workers : ℕ) (places : List Place) (first : Cell) (old new : Place) → IsDeal workers places → 0 < workers
+    → ((e : Place) → get_or places 0 e ≡ old) → hand_deque new.hand ≡ hand_deque old.hand → hand_view new.hand ≡ with_put (hand_view old.hand) (first ∷ []) → ends_of new ≡ ends_of old
+    → spans_of first ≡ whole_cell rule.axes → IsDealt rule (slice_set places 0 new)
+dealt rule workers places first old new deal within is deque view passes is_whole =
+    let inside : 0 < length places = omega (arith, deal.one_each) in
+    let long = length-set places 0 new in
+    let deques : deques_of (slice_set places 0 new) ≡ deques_of places = map-set_same deque_in places 0 new old (deque ∙ ap deque_in (sym (is old))) in
+    let empty : (hand_view old.hand).put ≡ [] = ap (λ (p : Place). (hand_view p.hand).put) (sym (is old)) ∙ ap (λ (v : HandView). v.put) (deal.place 0 old within).hand in
     record {
       first = first;
       is_whole = is_whole;
+      begins = λ d. ap (λ (p : Place). (hand_view p.hand).put) (get_or-set_same places 0 new d inside) ∙ ap (λ (v : HandView). v.put) view ∙ ap (λ (l : List Cell). l ++ first ∷ []) empty;
       ready = record {
-        owners = λ owner d below. set_keeps (λ p. (hand_view p.hand).owner) places at old new d owner inside is (ap (λ (v : HandView). v.owner) view)
+        owners = λ owner d below. set_keeps (λ p. (hand_view p.hand).owner) places 0 old new d owner inside is (ap (λ (v : HandView). v.owner) view)
             ∙ ap (λ (v : HandView). v.owner) (deal.place owner d (omega (arith, deal.one_each))).hand;
-        workers = λ owner d below. set_keeps (λ p. (hand_view p.hand).workers) places at old new d owner inside is (ap (λ (v : HandView). v.workers) view)
+        workers = λ owner d below. set_keeps (λ p. (hand_view p.hand).workers) places 0 old new d owner inside is (ap (λ (v : HandView). v.workers) view)
             ∙ ap (λ (v : HandView). v.workers) (deal.place owner d (omega (arith, deal.one_each))).hand ∙ omega (arith, deal.one_each);
         passes = λ worker d below.
-            set_keeps (λ p. map duty_of (ends_of p)) places at old new d worker inside is (ap (map duty_of) passes)
+            set_keeps (λ p. map duty_of (ends_of p)) places 0 old new d worker inside is (ap (map duty_of) passes)
             ∙ ap (map duty_of) (deal.place worker d (omega (arith, deal.one_each))).passes
             ∙ duties_are (remove (deques_of places) worker) worker
             ∙ ap (λ (ds : List Deque). duties ds worker) (sym deques);
       };
-      got = λ weight. sum_none (λ (p : Place). taken_weight weight p + sum_by weight (hand_view p.hand).gathered) (slice_set places at new) (λ k d below.
+      got = λ weight. sum_none (λ (p : Place). taken_weight weight p + sum_by weight (hand_view p.hand).gathered) (slice_set places 0 new) (λ k d below.
           let there = deal.place k d (omega (arith, deal.one_each)) in
           let taken : sum_by weight (hand_view (get_or places k d).hand).taken ≡ 0 = ap (λ (v : HandView). sum_by weight v.taken) there.hand in
           let gathered : sum_by weight (hand_view (get_or places k d).hand).gathered ≡ 0 = ap (λ (v : HandView). sum_by weight v.gathered) there.hand in
@@ -78,16 +80,15 @@ dealt rule workers at places first old new deal within is deque view passes is_w
           let hand_taken : sum_by weight (hand_view new.hand).taken ≡ sum_by weight (hand_view old.hand).taken = ap (λ (v : HandView). sum_by weight v.taken) view in
           let hand_gathered : sum_by weight (hand_view new.hand).gathered ≡ sum_by weight (hand_view old.hand).gathered = ap (λ (v : HandView). sum_by weight v.gathered) view in
           let passes_taken : stolen_weight weight (ends_of new) ≡ stolen_weight weight (ends_of old) = ap (stolen_weight weight) passes in
-          set_keeps (λ (p : Place). taken_weight weight p + sum_by weight (hand_view p.hand).gathered) places at old new d k inside is (omega arith) ∙ omega arith);
+          set_keeps (λ (p : Place). taken_weight weight p + sum_by weight (hand_view p.hand).gathered) places 0 old new d k inside is (omega arith) ∙ omega arith);
       puts = λ weight.
           let put_of : Place → ℕ = λ p. sum_by weight (hand_view p.hand).put in
           let none : put_weight weight places ≡ 0 = sum_none put_of places (λ k d below. ap (λ (v : HandView). sum_by weight v.put) (deal.place k d (omega (arith, deal.one_each))).hand) in
-          let own : put_of old ≡ 0 = ap put_of (sym (is old)) ∙ ap (λ (v : HandView). sum_by weight v.put) (deal.place at old within).hand in
-          let empty : (hand_view old.hand).put ≡ [] = ap (λ (p : Place). (hand_view p.hand).put) (sym (is old)) ∙ ap (λ (v : HandView). v.put) (deal.place at old within).hand in
+          let own : put_of old ≡ 0 = ap put_of (sym (is old)) ∙ ap (λ (v : HandView). sum_by weight v.put) (deal.place 0 old within).hand in
           let next : put_of new ≡ sum_by weight (first ∷ []) = ap (λ (v : HandView). sum_by weight v.put) view ∙ ap (λ (l : List Cell). sum_by weight (l ++ first ∷ [])) empty in
           let one = sum_by-cons weight first [] in
-          let read : put_of (get_or places at old) ≡ put_of old = ap put_of (is old) in
-          omega (arith, sum_by-set put_of places at new old inside);
+          let read : put_of (get_or places 0 old) ≡ put_of old = ap put_of (is old) in
+          omega (arith, sum_by-set put_of places 0 new old inside);
     }
 
 length-posts : (before after : List Place) → map post_of after ≡ map post_of before → length after ≡ length before

@@ -1,7 +1,7 @@
 -- Workers that are given their seats one after the other, the last one that of what was found before.
-use Rattle.std.proofs.Common.{◌≡◌, ◌∙◌, sym, ap, refl, subst, ℕ, ◌+◌, ◌<◌, ◌≤◌, List, [], ◌∷◌, ◌++◌, length, map, append_assoc, None, arith}
+use Rattle.std.proofs.Common.{◌≡◌, ◌∙◌, sym, ap, refl, subst, ℕ, ◌+◌, ◌<◌, ◌≤◌, List, [], ◌∷◌, ◌++◌, length, get_or, map, append_assoc, None, arith}
 use Rattle.std.specs.Prelude.{All}
-use Rattle.std.proofs.lemmas.List.{length-append, map-append}
+use Rattle.std.proofs.lemmas.List.{get_or_at, length-append, length-map, map-append}
 use Rattle.std.proofs.lemmas.List.Elements.{All-nil, All-push, All-same, All-weaker}
 use Rattle.std.proofs.lemmas.List.Sums.{sum_by-append, sum_by-cons}
 use Rattle.gl_box.specs.declared.closed.Closed.{Closed}
@@ -18,7 +18,9 @@ use Rattle.gl_best.proofs.Numbers.{times-greatest, times-without}
 use Rattle.gl_deal.specs.declared.place.Place.{Place}
 use Rattle.gl_pool.specs.declared.crew.Worker.{Worker}
 use Rattle.gl_pool.specs.declared.tally.Tally.{Tally}
-use Rattle.gl_pool.specs.Code.Crew.{AreSeated, times_seated}
+use Rattle.gl_deal.specs.Tokens.{hand_view}
+use Rattle.gl_pool.specs.Code.Crew.{AreSeated, HasOwnNumber, times_seated}
+use Rattle.gl_pool.specs.Code.Settle.{StandReady}
 use Rattle.gl_pool.specs.Kept.{seen_by}
 use Rattle.gl_pool.specs.Code.Tally.{IsTally, word_of}
 use Rattle.gl_order.specs.Runs.{ArePassed, IsPassed}
@@ -62,6 +64,7 @@ still_tally rule word before after still is = record {
 -- some workers have their seats, and some places are left, with the last one behind them
 pub record Seating (word : BestWord) (places rest : List Place) (last : Place) (before tally : Tally) (workers : List Worker) : Type 0 where
   pub places_are : map (λ worker. worker.place) workers ++ (rest ++ last ∷ []) ≡ places
+  pub own : All HasOwnNumber workers
   pub still : StillHas word before tally
   pub enough : length rest < length (view_of tally.seat).numbers
   pub fresh : All (IsFresh word) workers
@@ -71,6 +74,7 @@ pub seating_start : (word : BestWord) (places rest : List Place) (last : Place) 
     → length places ≤ length (view_of tally.seat).numbers → Seating word places rest last tally tally workers
 seating_start word places rest last tally workers is none seat enough = record {
   places_are = ap (λ (ws : List Worker). map (λ worker. worker.place) ws ++ (rest ++ last ∷ [])) none ∙ sym is;
+  own = All-same HasOwnNumber workers [] none (All-nil HasOwnNumber);
   still = record { is_seat = seat; best = refl; closed = refl; seen = refl; raised = refl };
   enough = omega (arith, ap length is, length-append rest (last ∷ []));
   fresh = All-same (IsFresh word) workers [] none (All-nil (IsFresh word));
@@ -80,17 +84,29 @@ seating_start word places rest last tally workers is none seat enough = record {
 abbrev place_in : Worker → Place
 place_in worker = worker.place
 
+-- the next worker has the number of its place
+own_number : (places rest : List Place) (workers : List Worker) (worker : Worker) → StandReady places → map place_in workers ++ worker.place ∷ rest ≡ places → worker.number ≡ length workers
+    → HasOwnNumber worker
+own_number places rest workers worker ready are number =
+    let long = length-map workers place_in in
+    let there = get_or_at (map place_in workers) worker.place rest worker.place (length workers) long in
+    let inside : length workers < length places = omega (arith, ap length are, length-append (map place_in workers) (worker.place ∷ rest), long) in
+    number ∙ sym (ready.owners (length workers) worker.place inside) ∙ ap (λ (l : List Place). (hand_view (get_or l (length workers) worker.place).hand).owner) (sym are)
+    ∙ ap (λ (p : Place). (hand_view p.hand).owner) there
+
 -- one more worker has its seat
-pub seating_more : (word : BestWord) (places rest less : List Place) (last : Place) (before tally after : Tally) (workers more : List Worker) (worker : Worker) → rest ≡ worker.place ∷ less
+pub seating_more : (word : BestWord) (places rest less : List Place) (last : Place) (before tally after : Tally) (workers more : List Worker) (worker : Worker) → StandReady places → worker.number ≡ length workers → rest ≡ worker.place ∷ less
     → more ≡ workers ++ worker ∷ [] → IsSeatOf word after.seat → IsFresh word worker → after.best ≡ tally.best → after.closed.items ≡ tally.closed.items
     → view_of after.seat ≡ kept_of (view_of tally.seat) → view_of worker.tally.seat ≡ given_of (view_of tally.seat) → length (view_of after.seat).numbers + 1 ≡ length (view_of tally.seat).numbers
     → Seating word places rest last before tally workers → Seating word places less last before after more
-seating_more word places rest less last before tally after workers more worker is one seat fresh best closed kept given fewer so_far = record {
+seating_more word places rest less last before tally after workers more worker ready number is one seat fresh best closed kept given fewer so_far = record {
   places_are = ap (λ (ws : List Worker). map place_in ws ++ (less ++ last ∷ [])) one
       ∙ ap (λ (l : List Place). l ++ (less ++ last ∷ [])) (map-append place_in workers (worker ∷ []))
       ∙ append_assoc (map place_in workers) (worker.place ∷ []) (less ++ last ∷ [])
       ∙ ap (λ (l : List Place). map place_in workers ++ (l ++ last ∷ [])) (sym is)
       ∙ so_far.places_are;
+  own = All-same HasOwnNumber more (workers ++ worker ∷ []) one (All-push HasOwnNumber workers worker so_far.own
+      (own_number places (less ++ last ∷ []) workers worker ready (ap (λ (l : List Place). map place_in workers ++ (l ++ last ∷ [])) (sym is) ∙ so_far.places_are) number));
   still = record {
     is_seat = seat;
     best = best ∙ so_far.still.best;
@@ -112,13 +128,16 @@ seating_more word places rest less last before tally after workers more worker i
 }
 
 -- once all but the last place have their workers
-pub seated_all : (word : BestWord) (places rest : List Place) (last : Place) (before tally : Tally) (workers all : List Worker) (worker : Worker) → rest ≡ [] → worker.place ≡ last
+pub seated_all : (word : BestWord) (places rest : List Place) (last : Place) (before tally : Tally) (workers all : List Worker) (worker : Worker) → StandReady places → worker.number ≡ length workers → rest ≡ [] → worker.place ≡ last
     → worker.tally ≡ tally → all ≡ workers ++ worker ∷ [] → Seating word places rest last before tally workers → AreSeated word places before all
-seated_all word places rest last before tally workers all worker none place own one so_far =
+seated_all word places rest last before tally workers all worker ready number none place own one so_far =
     let still : StillHas word before worker.tally = subst (StillHas word before) (sym own) so_far.still in
     record {
       places_are = ap (map place_in) one ∙ map-append place_in workers (worker ∷ []) ∙ ap (λ (p : Place). map place_in workers ++ p ∷ []) place
           ∙ ap (λ (l : List Place). map place_in workers ++ (l ++ last ∷ [])) (sym none) ∙ so_far.places_are;
+      own = All-same HasOwnNumber all (workers ++ worker ∷ []) one (All-push HasOwnNumber workers worker so_far.own
+          (own_number places [] workers worker ready (ap (λ (p : Place). map place_in workers ++ p ∷ []) place
+          ∙ ap (λ (l : List Place). map place_in workers ++ (l ++ last ∷ [])) (sym none) ∙ so_far.places_are) number));
       tallies = λ rule is. All-same (λ (w : Worker). IsTally rule word w.tally) all (workers ++ worker ∷ []) one
           (All-push (λ (w : Worker). IsTally rule word w.tally) workers worker (All-weaker (IsFresh word) (λ (w : Worker). IsTally rule word w.tally) (fresh_tally rule word) workers so_far.fresh)
           (still_tally rule word before worker.tally still is));

@@ -1,9 +1,9 @@
 -- What all workers did, from what each of them did.
-use Rattle.std.proofs.Common.{◌≡◌, ◌∙◌, sym, ap, refl, subst, ℕ, suc, ◌+◌, ◌<◌, List, [], ◌∷◌, ◌++◌, length, get_or, map, None, Result, Ok, arith}
+use Rattle.std.proofs.Common.{◌≡◌, ◌∙◌, sym, ap, refl, subst, ℕ, suc, ◌+◌, ◌-◌, ◌<◌, List, [], ◌∷◌, ◌++◌, length, get_or, map, reverse, None, Result, Ok, arith}
 use Rattle.std.specs.Prelude.{All, IfOk}
 use Rattle.std.specs.List.{sum_by}
 use Rattle.std.specs.declared.alloc.AllocError.{AllocError}
-use Rattle.std.proofs.lemmas.List.{get_or-map, length-map}
+use Rattle.std.proofs.lemmas.List.{get_or-map, get_or-reverse, length-map, length-reverse}
 use Rattle.std.proofs.lemmas.List.Elements.{All-cons, All-head, All-nil, All-tail}
 use Rattle.std.proofs.lemmas.List.Sums.{sum_by-append, sum_by-cons}
 use Rattle.gl_box.specs.declared.cell.Cell.{Cell}
@@ -126,6 +126,24 @@ turn_together rule word (b ∷ bs) (a ∷ afters) turned nothing =
           );
     }
 
+-- what holds of each of some workers holds of each if they stand the other way round
+pub all_reversed : (P : Worker → Type 0) (workers : List Worker) → All P workers → All P (reverse workers)
+all_reversed P workers all k d below =
+    let long = length-reverse workers in
+    let inside : k < length workers = omega arith in
+    subst P (sym (get_or-reverse workers k d inside)) (all (length workers - 1 - k) d (omega arith))
+
+-- what each result says of its worker, both the other way round
+pub each_reversed : (P : Worker → Result Worker AllocError → Type 0) (workers : List Worker) (results : List (Result Worker AllocError)) → length results ≡ length workers
+    → ((k : ℕ) (d : Result Worker AllocError) (e : Worker) → k < length workers → P (get_or (reverse workers) k e) (get_or results k d))
+    → (k : ℕ) (d : Result Worker AllocError) (e : Worker) → k < length workers → P (get_or workers k e) (get_or (reverse results) k d)
+each_reversed P workers results same each k d e below =
+    let at = length workers - 1 - k in
+    let inside : at < length workers = omega arith in
+    let worker : get_or (reverse workers) at e ≡ get_or workers k e = get_or-reverse workers at e inside ∙ ap (λ (i : ℕ). get_or workers i e) (omega arith) in
+    let result : get_or (reverse results) k d ≡ get_or results at d = get_or-reverse results k d (omega arith) ∙ ap (λ (i : ℕ). get_or results i d) (omega arith) in
+    subst (λ (w : Worker). P w (get_or (reverse results) k d)) worker (subst (P (get_or (reverse workers) at e)) (sym result) (each at d e inside))
+
 -- what each result of a worker says, where all came back
 turned_ok : (rule : Goal) (word : BestWord) (before : List Worker) (results : List (Result Worker AllocError)) (after : List Worker) → length results ≡ length before → results ≡ map Ok after
     → ((k : ℕ) (d : Result Worker AllocError) (e : Worker) → k < length before → IfOk (get_or results k d) (HasTurned rule word (get_or before k e))) → TurnedAll rule word before after
@@ -153,3 +171,17 @@ worked_all rule word places after tally tally_after before results is empty seat
         numbers = λ number. collects.numbers number ∙ all.numbers number ∙ seated.numbers number;
       },
     )
+
+-- the same, where the workers and their results stood the other way round in between
+pub worked_turned : (rule : Goal) (word : BestWord) (places after : List Place) (tally tally_after : Tally) (before jobs : List Worker) (worked results : List (Result Worker AllocError))
+    → IsTally rule word tally → (boxes_in_runs tally.closed.items) ≡ [] → AreSeated word places tally before → jobs ≡ reverse before → results ≡ reverse worked → length worked ≡ length jobs
+    → ((k : ℕ) (d : Result Worker AllocError) (e : Worker) → k < length jobs → IfOk (get_or worked k d) (HasTurned rule word (get_or jobs k e))) → Collects word results after tally_after
+    → IsTally rule word tally_after × WorkedAll rule places after tally tally_after
+worked_turned rule word places after tally tally_after before jobs worked results is empty seated turned turned_back same each collects =
+    let P : Worker → Result Worker AllocError → Type 0 = λ w r. IfOk r (HasTurned rule word w) in
+    let long : length jobs ≡ length before = ap length turned ∙ length-reverse before in
+    let back : length results ≡ length worked = ap length turned_back ∙ length-reverse worked in
+    let met = each_reversed P before worked (omega arith)
+    (λ k d e below. subst (λ (l : List Worker). P (get_or l k e) (get_or worked k d)) turned (each k d e (omega arith))) in
+    worked_all rule word places after tally tally_after before results is empty seated (omega arith)
+    (λ k d e below. subst (λ (l : List (Result Worker AllocError)). P (get_or before k e) (get_or l k d)) (sym turned_back) (met k d e below)) collects

@@ -2,6 +2,7 @@ ghost use Rattle.std.specs.Prelude.{◌≡◌, ◌≤◌, ◌<◌, [], All, IfOk
 ghost use Rattle.gl_best.specs.Seats.{IsSeatOf, view_of};
 ghost use Rattle.gl_pool.specs.Code.Tally.{IsTally};
 ghost use Rattle.gl_order.specs.InRuns.{boxes_in_runs};
+ghost use Rattle.gl_pool.specs.Code.Settle.{StandReady};
 ghost use Rattle.gl_pool.specs.Code.Crew.{AreSeated, Collects, HasTurned, WorkedAll, has_seat};
 
 use crate::crowd::Crowd;
@@ -11,7 +12,6 @@ use gl_best::BestWord;
 use gl_deal::Place;
 use gl_goal::Goal;
 use std::alloc::{AllocError, Global};
-use std::sync::Wait;
 use std::thread::{self, Threads};
 
 /// One of the workers: its number, its place, and what it found.
@@ -22,15 +22,15 @@ pub(crate) struct Worker {
     pub(crate) tally: Tally,
 }
 
-/// A worker for each place; the last one is worker 0, whose work is done by the thread that calls.
-/// It has what was found before, and each other one a seat that is shared with it. The only error
-/// is want of memory.
+/// A worker for each place, with the number of its owner. The last one has what was found before,
+/// and each other one a seat that is shared with it. The only error is want of memory.
 fn seated(
     alloc: Global,
     word: &BestWord,
     mut places: Vec<Place>,
     mut tally: Tally,
 ) -> Result<Vec<Worker>, AllocError>
+    requires ready { StandReady places.items }
     requires seat { IsSeatOf word.now tally.seat }
     requires some { 0 < length places.items }
     requires few { length places.items ≤ 16 }
@@ -41,7 +41,6 @@ fn seated(
     let Some(last) = places.pop() else {
         unreachable!()
     };
-    let others = places.len();
     for place in places {
         let shared = Tally {
             seat: word.share(&mut tally.seat),
@@ -49,13 +48,13 @@ fn seated(
             closed: Vec::new(alloc),
         };
         workers.push(Worker {
-            number: others.saturating_sub(workers.len()) as u32,
+            number: workers.len() as u32,
             place,
             tally: shared,
         })?;
     }
     workers.push(Worker {
-        number: 0,
+        number: workers.len() as u32,
         place: last,
         tally,
     })?;
@@ -63,8 +62,7 @@ fn seated(
 }
 
 /// Lets a worker work. The only error is want of memory.
-fn turned<Rt: Threads + Wait + Sync, G: Goal, K: Gate>(
-    rt: &Rt,
+fn turned<G: Goal, K: Gate>(
     alloc: Global,
     goal: &G,
     word: &BestWord,
@@ -76,7 +74,6 @@ fn turned<Rt: Threads + Wait + Sync, G: Goal, K: Gate>(
     ensures { IfOk result (HasTurned (G.rule goal.now) word.now worker) }
 {
     take_turn(
-        rt,
         alloc,
         goal,
         word,
@@ -123,9 +120,10 @@ fn collected(
     Ok((places, tally))
 }
 
-/// Lets a worker work at each place, side by side, and collects what they found. A worker for whom
-/// no thread can be started works in this one. The only error is want of memory.
-pub(crate) fn work_all<Rt: Threads + Wait + Sync, G: Goal + Sync, K: Gate + Sync>(
+/// Lets a worker work at each place, side by side, and collects what they found. The first one
+/// works in this thread, as does one for whom no thread can be started. The only error is want of
+/// memory.
+pub(crate) fn work_all<Rt: Threads + Sync, G: Goal + Sync, K: Gate + Sync>(
     rt: &Rt,
     alloc: Global,
     goal: &G,
@@ -136,6 +134,7 @@ pub(crate) fn work_all<Rt: Threads + Wait + Sync, G: Goal + Sync, K: Gate + Sync
 ) -> Result<(Vec<Place>, Tally), AllocError>
     requires tally { IsTally (G.rule goal.now) word.now tally }
     requires nothing { boxes_in_runs tally.closed.items ≡ [] }
+    requires ready { StandReady places.items }
     requires some { 0 < length places.items }
     requires few { length places.items ≤ 16 }
     requires enough { length places.items ≤ length (view_of tally.seat).numbers }
@@ -143,15 +142,17 @@ pub(crate) fn work_all<Rt: Threads + Wait + Sync, G: Goal + Sync, K: Gate + Sync
     ensures worked { IfOk result
         (λ all. WorkedAll (G.rule goal.now) places.items all.0.items tally all.1) }
 {
-    let workers = seated(alloc, word, places, tally)?;
+    let mut workers = seated(alloc, word, places, tally)?;
+    workers.reverse();
     let crowd = Crowd::new();
-    let worked = thread::map_vec(
+    let mut worked = thread::map_vec(
         rt,
         workers,
         &|worker: Worker| -> Result<Worker, AllocError>
             requires { IsTally (G.rule goal.now) word.now worker.tally }
             ensures { IfOk result (HasTurned (G.rule goal.entry.now) word.entry.now worker) }
-        { turned(rt, alloc, goal, word, gate, &crowd, worker) },
+        { turned(alloc, goal, word, gate, &crowd, worker) },
     )?;
+    worked.reverse();
     collected(alloc, word, worked)
 }

@@ -21,7 +21,7 @@ use std::alloc::{AllocError, Global};
 use std::sync::Wait;
 use std::thread::Threads;
 
-/// A place for each worker, the last of which has the whole cell in its deque. `None` where it has
+/// A place for each worker, the first of which has the whole cell in its deque. `None` where it has
 /// no room there. The only error is want of memory.
 fn dealt<G: Goal>(alloc: Global, goal: &G, workers: u32) -> Result<Option<Vec<Place>>, AllocError>
     requires some { 1 ≤ workers }
@@ -32,8 +32,7 @@ fn dealt<G: Goal>(alloc: Global, goal: &G, workers: u32) -> Result<Option<Vec<Pl
         (λ places. IsDealt (G.rule goal.now) places.items)) }
 {
     let mut places = deal(alloc, workers)?;
-    let last = places.len() - 1;
-    match places[last].hand.put(whole(goal)) {
+    match places[0].hand.put(whole(goal)) {
         Ok(()) => Ok(Some(places)),
         Err(_) => Ok(None),
     }
@@ -73,9 +72,9 @@ fn first_tally<G: Goal>(
     }
 }
 
-/// Works at each place in turn, on the cells that are left there. The only error is want of memory.
-fn finish<Rt: Threads + Wait + Sync, G: Goal>(
-    rt: &Rt,
+/// Works at each place in turn, on the cells that are left there. It waits for nobody. The only
+/// error is want of memory.
+fn finish<G: Goal>(
     alloc: Global,
     goal: &G,
     word: &BestWord,
@@ -93,7 +92,6 @@ fn finish<Rt: Threads + Wait + Sync, G: Goal>(
     let crowd = Crowd::new();
     for number in 0..places.len() {
         take_turn(
-            rt,
             alloc,
             goal,
             word,
@@ -155,6 +153,6 @@ pub fn search_many<Rt: Threads + Wait + Sync, G: Goal + Sync, K: Gate + Sync>(
     let (mut places, mut tally) = work_all(rt, alloc, goal, &word, gate, places, tally)?;
     let settled = places.as_mut_slice();
     settle_all(alloc, settled);
-    finish(rt, alloc, goal, &word, settled, &mut tally)?;
+    finish(alloc, goal, &word, settled, &mut tally)?;
     answer(alloc, goal, word, tally)
 }

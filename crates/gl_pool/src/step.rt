@@ -16,7 +16,6 @@ use gl_deal::Place;
 use gl_goal::{Best, Goal, whole};
 use gl_plain::{CellVerdict, test_for};
 use std::alloc::{AllocError, Global};
-use std::sync::Wait;
 
 /// How many cells a worker tests before it looks at the best word again and puts a cell.
 const STRETCH: u32 = 64;
@@ -128,8 +127,7 @@ fn put_oldest(place: &mut Place, bench: &mut Bench) -> Result<(), AllocError>
 }
 
 /// Goes on until no cell is left but those that were put. The only error is want of memory.
-pub(crate) fn finish<Rt: Wait, G: Goal>(
-    rt: &Rt,
+pub(crate) fn finish<G: Goal>(
     goal: &G,
     word: &BestWord,
     place: &mut Place,
@@ -145,7 +143,7 @@ pub(crate) fn finish<Rt: Wait, G: Goal>(
     ensures legs { OnOk result (G.are_legs goal.now bench.new.legs.items) }
     ensures trail { OnOk result (IsOnTrail bench.new) }
 {
-    for _ in rt.forever() {
+    for _ in 0..u64::MAX {
         stretch(goal, word, seat, bench)?;
         bench.seen = word.look(seat);
         if bench.cells.is_empty() {
@@ -153,7 +151,8 @@ pub(crate) fn finish<Rt: Wait, G: Goal>(
         }
         put_oldest(place, bench)?;
     }
-    unreachable!()
+    // No worker makes so many rounds.
+    Err(AllocError)
 }
 
 /// Begins with a cell that was taken. The only error is want of memory.

@@ -5,9 +5,9 @@ ghost use Rattle.gl_pool.specs.Code.Taken.{FindsNone, Steals};
 ghost use Rattle.gl_pool.specs.Taken.{Moves};
 
 use crate::crowd::Crowd;
+use crate::gate::Gate;
 use gl_box::Cell;
 use gl_deal::{Pass, Place, Steal};
-use std::thread;
 
 /// How often each other deque is tried in a round.
 const TRIES: u32 = 64;
@@ -41,7 +41,7 @@ fn steal_any(passes: &mut [Pass]) -> Option<Cell>
 
 /// Rounds over the other deques, which end with the first cell that one of them gives, with a round
 /// after which nobody has a cell any more, and at once if there are no other deques.
-fn steal(passes: &mut [Pass], crowd: &Crowd) -> Option<Cell>
+fn steal<K: Gate>(passes: &mut [Pass], gate: &K, crowd: &Crowd, number: u32) -> Option<Cell>
     ensures { MatchOption result
         (map end_of passes.new ≡ map end_of passes.old)
         (Steals (map end_of passes.old) (map end_of passes.new)) }
@@ -56,7 +56,7 @@ fn steal(passes: &mut [Pass], crowd: &Crowd) -> Option<Cell>
         if crowd.is_over() {
             return None;
         }
-        thread::yield_now();
+        gate.rest(number);
     }
     None
 }
@@ -64,7 +64,13 @@ fn steal(passes: &mut [Pass], crowd: &Crowd) -> Option<Cell>
 /// The next cell of a worker that is through with its last one, if it had any: the newest of its
 /// own deque, or one from the others where that is empty. `None` where it is empty and a round over
 /// the others gave nothing.
-pub(crate) fn next_cell(place: &mut Place, crowd: &Crowd, had_any: bool) -> Option<Cell>
+pub(crate) fn next_cell<K: Gate>(
+    place: &mut Place,
+    gate: &K,
+    crowd: &Crowd,
+    number: u32,
+    had_any: bool,
+) -> Option<Cell>
     ensures { MatchOption result
         (FindsNone place.old place.new)
         (λ cell. Moves place.old place.new (cell ∷ []) []) }
@@ -76,7 +82,7 @@ pub(crate) fn next_cell(place: &mut Place, crowd: &Crowd, had_any: bool) -> Opti
         }
         None => {
             crowd.tell(had_any, false);
-            match steal(place.passes.as_mut_slice(), crowd) {
+            match steal(place.passes.as_mut_slice(), gate, crowd, number) {
                 Some(stolen) => {
                     crowd.tell(false, true);
                     Some(stolen)

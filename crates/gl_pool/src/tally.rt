@@ -12,8 +12,6 @@ use gl_deal::Place;
 use gl_goal::{Best, Goal};
 use gl_order::Run;
 use std::alloc::{AllocError, Global};
-use std::sync::Wait;
-use std::thread::Threads;
 
 /// What was found so far: the best tuple, which the seat has raised, and the closed cells.
 #[derive(Drop)]
@@ -35,8 +33,7 @@ fn greater(one: Option<Best>, other: Option<Best>) -> Option<Best>
 }
 
 /// Lets a worker work at a place, and adds its share. The only error is want of memory.
-pub(crate) fn take_turn<Rt: Threads + Wait + Sync, G: Goal, K: Gate>(
-    rt: &Rt,
+pub(crate) fn take_turn<G: Goal, K: Gate>(
     alloc: Global,
     goal: &G,
     word: &BestWord,
@@ -51,7 +48,16 @@ pub(crate) fn take_turn<Rt: Threads + Wait + Sync, G: Goal, K: Gate>(
     ensures turn { OnOk result (Turns (G.rule goal.now) place.old place.new tally.old tally.new) }
 {
     gate.pass(number);
-    let Haul { kept, closed, .. } = work_on(rt, alloc, goal, place, word, &mut tally.seat, crowd)?;
+    let Haul { kept, closed, .. } = work_on(
+        alloc,
+        goal,
+        place,
+        word,
+        &mut tally.seat,
+        gate,
+        crowd,
+        number,
+    )?;
     tally.best = kept.or(tally.best);
     add_trail(&mut tally.closed, closed)
 }

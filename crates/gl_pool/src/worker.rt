@@ -43,14 +43,15 @@ fn empty_bench<G: Goal>(alloc: Global, goal: &G, seen: Option<u64>) -> Result<Be
 
 /// What one worker does, but for the gate. Its closed cells come as runs that are in order: those
 /// of a cell that it stole begin another run.
-pub(crate) fn work_on<Rt: Wait, G: Goal>(
-    rt: &Rt,
+pub(crate) fn work_on<G: Goal, K: Gate>(
     alloc: Global,
     goal: &G,
     place: &mut Place,
     word: &BestWord,
     seat: &mut Seat,
+    gate: &K,
     crowd: &Crowd,
+    number: u32,
 ) -> Result<Haul, AllocError>
     requires { IsSeatOf word.now seat.old }
     ensures hauled { IfOk result
@@ -58,27 +59,28 @@ pub(crate) fn work_on<Rt: Wait, G: Goal>(
     ensures trail { IfOk result (λ haul. IsTrail haul.closed []) }
 {
     let seen = word.look(seat);
-    let Some(mut next) = next_cell(place, crowd, false) else {
+    let Some(mut next) = next_cell(place, gate, crowd, number, false) else {
         return Ok(Haul::empty(alloc));
     };
     let mut bench = empty_bench(alloc, goal, seen)?;
-    for _ in rt.forever() {
+    for _ in 0..u64::MAX {
         begin(alloc, goal, next, &mut bench)?;
-        finish(rt, goal, word, place, seat, &mut bench)?;
-        let Some(other) = next_cell(place, crowd, true) else {
+        finish(goal, word, place, seat, &mut bench)?;
+        let Some(other) = next_cell(place, gate, crowd, number, true) else {
             let Bench { share, .. } = bench;
             return Ok(share);
         };
         next = other;
     }
-    unreachable!()
+    // No worker takes so many cells.
+    Err(AllocError)
 }
 
 /// What one worker does: it passes the gate, and works until its own deque is empty and the others
 /// gave it nothing. It may go on as long as others put cells. The only error is want of memory,
 /// after which nothing is said of its cells.
 pub fn work<Rt: Threads + Wait + Sync, G: Goal, K: Gate>(
-    rt: &Rt,
+    _rt: &Rt,
     alloc: Global,
     goal: &G,
     worker: u32,
@@ -96,7 +98,16 @@ pub fn work<Rt: Threads + Wait + Sync, G: Goal, K: Gate>(
         kept,
         closed,
         strange,
-    } = work_on(rt, alloc, goal, place, word, seat, &Crowd::of_others())?;
+    } = work_on(
+        alloc,
+        goal,
+        place,
+        word,
+        seat,
+        gate,
+        &Crowd::of_others(),
+        worker,
+    )?;
     Ok(Share {
         kept,
         closed: boxes_of(alloc, closed)?,

@@ -58,11 +58,16 @@ abbrev pub times_seated : ℕ → List Worker → ℕ
 times_seated number workers =
     sum_by (λ worker. times number (view_of worker.tally.seat).numbers) workers
 
--- Each worker has its place, and has found and closed nothing, but for what was found before: with
--- that, each is a tally again. They share the numbers of its seat.
+-- a worker has the number of the owner of its place
+abbrev pub HasOwnNumber : Worker → Type 0
+HasOwnNumber worker = worker.number ≡ (hand_view worker.place.hand).owner
+
+-- Each worker has its place and the number of its owner, and has found and closed nothing, but for
+-- what was found before: with that, each is a tally again. They share the numbers of its seat.
 pub record AreSeated (word : BestWord) (places : List Place) (tally : Tally)
     (workers : List Worker) : Type 0 where
   pub places_are : map (λ worker. worker.place) workers ≡ places
+  pub own : All HasOwnNumber workers
   pub tallies : (goal : Goal) → IsTally goal word tally
       → All (λ worker. IsTally goal word worker.tally) workers
   pub nothing : boxes_in_runs tally.closed.items ≡ []

@@ -25,12 +25,13 @@ pub record CameToAll (goal : Goal) (first : Cell) (taken put : List Cell) (close
   pub balanced : WeighSame taken (first ∷ put)
   pub worked : ArePartedInto goal None taken closed put strange
 
--- Each worker stands at its place with its passes. One hand has put the whole cell; nothing else
--- was put, and nothing was taken or gathered.
+-- Each worker stands at its place with its passes. The first hand has put the whole cell; nothing
+-- else was put, and nothing was taken or gathered.
 pub record IsDealt (goal : Goal) (places : List Place) : Type 0 where
   pub first : Cell
   pub is_whole : spans_of first ≡ whole_cell goal.axes
   pub ready : StandReady places
+  pub begins : (d : Place) → (hand_view (place_at places 0 d).hand).put ≡ first ∷ []
   pub puts : (weight : Cell → ℕ) → put_weight weight places ≡ weight first
   pub got : (weight : Cell → ℕ) → got_weight weight places ≡ 0
 

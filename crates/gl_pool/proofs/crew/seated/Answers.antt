@@ -27,7 +27,7 @@ share-requires-clause-two c = omega (arith, c.loop-place.invariant.enough, ap le
 pub loop-place-preserved : goal.loop-place-preserved
 loop-place-preserved c =
     seating_more c.args.word.now c.args.places.items c.loop-place.place-iterator.rest.items c.next.new.self.rest.items c.in-Some.last c.args.tally c.loop-place.tally _ c.loop-place.workers.items
-    c.push.new.self.items _ c.in-Some-place.ensures.steps.0 c.in_ok-push.ensures.items c.share.ensures.seats.0
+    c.push.new.self.items _ c.requires.ready (omega (arith, c.len-in-loop-place.ensures, c.loop-place.workers.ok.0)) c.in-Some-place.ensures.steps.0 c.in_ok-push.ensures.items c.share.ensures.seats.0
     (record { is_seat = c.share.ensures.seats.1; none = refl; raised = ap (λ v. v.raised) c.share.ensures.given; nothing = c.new.ensures.items })
     refl refl c.share.ensures.kept c.share.ensures.given c.share.ensures.fewer c.loop-place.invariant
 
@@ -35,5 +35,5 @@ pub returns : goal.returns
 returns c =
     let rest = c.loop-place.place-iterator.rest in
     let none : rest.items ≡ [] = nil_from_length rest.items (omega (arith, c.in-None.ensures.steps.0, rest.ok.0)) in
-    seated_all c.args.word.now c.args.places.items rest.items c.in-Some.last c.args.tally c.loop-place.tally c.loop-place.workers.items c.push-2.new.self.items _ none refl refl
+    seated_all c.args.word.now c.args.places.items rest.items c.in-Some.last c.args.tally c.loop-place.tally c.loop-place.workers.items c.push-2.new.self.items _ c.requires.ready (omega (arith, c.len-2.ensures, c.loop-place.workers.ok.0)) none refl refl
     c.in_ok-push-2.ensures.items c.loop-place.invariant

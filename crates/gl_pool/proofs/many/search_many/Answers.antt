@@ -8,6 +8,12 @@ use Rattle.gl_pool.proofs.Answering.{has_all}
 use Rattle.gl_pool.proofs.Dealing.{is_left, still_ready}
 use Rattle.gl_pool.proofs.many.search_many.Goals as goal
 
+pub work_all-requires-clause-ready : goal.work_all-requires-clause-ready
+work_all-requires-clause-ready g c κs within =
+    let rule = g.G.Goal.rule c.args.goal.now in
+    let start : IsDealt rule c.in-Some.places.items = subst (λ (o : Option (Vec Place Global)). IfSome o (λ places. IsDealt rule places.items)) c.in-Some.is c.in_ok-places.ensures.dealt in
+    start.ready
+
 pub settle_all-requires : goal.settle_all-requires
 settle_all-requires g c =
     let rule = g.G.Goal.rule c.args.goal.now in
@@ -16,7 +22,7 @@ settle_all-requires g c =
     subst StandReady (sym c.as_mut_slice-settled.ensures.value) (still_ready c.in-Some.places.items c.in_ok-places-2.places.items worked.taken worked.put worked.moves start.ready)
 
 pub finish-requires-clause-left : goal.finish-requires-clause-left
-finish-requires-clause-left g c κs within =
+finish-requires-clause-left g c =
     let rule = g.G.Goal.rule c.args.goal.now in
     let start : IsDealt rule c.in-Some.places.items = subst (λ (o : Option (Vec Place Global)). IfSome o (λ places. IsDealt rule places.items)) c.in-Some.is c.in_ok-places.ensures.dealt in
     is_left rule c.in-Some.places.items c.in_ok-places-2.places.items c.settle_all.new.places c.first_tally-tally.result c.in_ok-places-2.tally start c.in_ok-places-2.ensures.worked

@@ -19,7 +19,7 @@ after_round before after None deque hand all same = record { deque = deque; hand
 after_round before after (Some cell) deque hand all stolen = moves_by_steal before after cell stolen deque hand
 
 pub returns-in-Some-steal : goal.returns-in-Some-steal
-returns-in-Some-steal c =
+returns-in-Some-steal g c =
     let place = c.args.place.now in
     let passes = c.steal.new.passes in
     let next : Place = record { hand = c.take.new.self; passes = with_items place.passes passes } in
@@ -30,7 +30,7 @@ returns-in-Some-steal c =
     after_round place next (Some c.in-Some-steal.stolen) c.in-None.ensures.deque c.in-None.ensures.view c.in-None.ensures.all round
 
 pub returns-in-None-steal : goal.returns-in-None-steal
-returns-in-None-steal c =
+returns-in-None-steal g c =
     let place = c.args.place.now in
     let passes = c.steal.new.passes in
     let next : Place = record { hand = c.take.new.self; passes = with_items place.passes passes } in
