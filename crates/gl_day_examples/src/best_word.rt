@@ -21,7 +21,7 @@ fn the_greatest_total_that_two_seats_raised(rt: HostRuntime) -> Result<(), Fail>
     word.raise(&mut first, 5);
     assert_eq!(rt; word.look(&mut second), Some(7));
     word.gather(&mut first, second);
-    assert_eq!(rt; word.look(&mut first), Some(7));
+    assert_eq!(rt; word.close(first), Some(7));
     Ok(())
 }
 

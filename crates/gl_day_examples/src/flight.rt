@@ -19,8 +19,15 @@ fn fix_at(second: u8) -> Fix {
     }
 }
 
-/// The free distance over a flight of three fixes.
-pub(crate) fn three_fixes(alloc: Global) -> Result<FreeGoal, Fail> {
-    let fixes = [fix_at(0), fix_at(1), fix_at(2)];
-    Ok(FreeGoal::new(alloc, &fixes, 0, 2, 1_000)?)
+/// The free distance over a flight of so many fixes.
+pub(crate) fn free_goal(alloc: Global, count: u8) -> Result<FreeGoal, Fail> {
+    let mut fixes = Vec::new(alloc);
+    for second in 0..count {
+        fixes.push(fix_at(second))?;
+    }
+    if fixes.is_empty() || fixes.len() > 255 {
+        return Err("1 to 255 fixes")?;
+    }
+    let last = fixes.len() as u32 - 1;
+    Ok(FreeGoal::new(alloc, fixes.as_slice(), 0, last, 1_000)?)
 }
