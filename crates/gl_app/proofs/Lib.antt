@@ -1,3 +1,4 @@
+pub mod Days
 pub mod Rights
 pub mod BadgeLaws
 pub mod Badges

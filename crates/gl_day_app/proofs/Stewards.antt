@@ -1,6 +1,9 @@
 -- The rules of a list of two stewards, and a run with stewards of just these rules.
-use Rattle.std.proofs.Common.{◌≡◌, ◌∙◌, sym, ap, subst, List, [], ◌∷◌, ◌++◌, map}
+use Rattle.std.proofs.Common.{◌≡◌, ◌∙◌, sym, ap, subst, ℕ, List, [], ◌∷◌, ◌++◌, map}
+use Rattle.gl_desk.specs.Desk.{Told}
 use Rattle.gl_day.specs.Flight.{StewardRules}
+use Rattle.gl_answer.specs.declared.status.Status.{Status}
+use Rattle.gl_day_app.specs.Endings.{Runs}
 
 -- what is so of any value at a place is so of a value at a place that is the same
 pub at_place : {X : Type 0} {F : X → Type 0} {B : Type 0} (rules : (v : X) → F v → B) (v w : X) (value : F v) (known : B) → v ≡ w → ((other : F w) → rules w other ≡ known) → rules v value ≡ known
@@ -12,3 +15,10 @@ pub two_rules : {A : Type 0} (rules : A → StewardRules) (none one two : List A
 two_rules rules none one two first second is_none is_one is_two known other is_known is_other =
     ap (map rules) (is_two ∙ ap (λ list. list ++ second ∷ []) (is_one ∙ ap (λ list. list ++ first ∷ []) is_none))
     ∙ ap (λ head. head ∷ rules second ∷ []) is_known ∙ ap (λ last. known ∷ last ∷ []) is_other
+
+-- a run with stewards of just these rules
+pub with_rules : (Owes : Runs) (words : List (List ℕ)) (stewards left known : List StewardRules) (status : Status) (before after : Told) → left ≡ stewards → stewards ≡ known
+    → Owes words stewards left status before after → Owes words known known status before after
+with_rules Owes words stewards left known status before after kept same run =
+    subst (λ rules. Owes words known rules status before after) (kept ∙ same)
+    (subst (λ rules. Owes words rules left status before after) same run)
