@@ -125,10 +125,11 @@ fn answer<G: Goal>(
     })
 }
 
-/// The optimum of a goal, and boxes that certify it, found by 1 to 16 workers side by side: each
-/// passes the gate and begins with its own deque, steals from the others where that is empty, and
-/// hears the best total that any of them found. The answer is as good as that of a search by one.
-/// It may wait for its workers. The only error is want of memory.
+/// The optimum of a goal, and boxes that certify it, found by 1 to 16 workers, as good an answer as
+/// that of a search by one. It may wait for its workers. The only error is want of memory.
+///
+/// That the workers pass the gate, work side by side, steal from each other and hear the best total
+/// that any of them found is shown by tests and said by no contract.
 pub fn search_many<Rt: Threads + Wait + Sync, G: Goal + Sync, K: Gate + Sync>(
     rt: &Rt,
     alloc: Global,
