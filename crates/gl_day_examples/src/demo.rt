@@ -22,7 +22,7 @@ fn as_recorded(alloc: Global, text: &str) -> Result<String, AllocError> {
 }
 
 /// The files of the generated day of a number, with recordings as a recorder writes them.
-fn day_files(alloc: Global, number: u32) -> Result<Vec<File>, Fail>
+pub(crate) fn day_files(alloc: Global, number: u32) -> Result<Vec<File>, Fail>
     requires least { 1 ≤ number }
     requires most { number ≤ 1_000_000 }
 {
@@ -50,7 +50,7 @@ fn expect_claims(rt: &impl Abort, proof: &str) {
 }
 
 /// How `score` of a generated day ended.
-fn scored(alloc: Global, number: u32) -> Result<Ended, Fail>
+pub(crate) fn scored(alloc: Global, number: u32) -> Result<Ended, Fail>
     requires least { 1 ≤ number }
     requires most { number ≤ 1_000_000 }
 {
@@ -67,7 +67,12 @@ fn expect_said(rt: &impl Abort, alloc: Global, line: &str, sheet: &str) -> Resul
 }
 
 /// `check` accepts this proof of a generated day.
-fn expect_accepted(rt: &impl Abort, alloc: Global, number: u32, proof: &str) -> Result<(), Fail>
+pub(crate) fn expect_accepted(
+    rt: &impl Abort,
+    alloc: Global,
+    number: u32,
+    proof: &str,
+) -> Result<(), Fail>
     requires least { 1 ≤ number }
     requires most { number ≤ 1_000_000 }
 {

@@ -117,6 +117,16 @@ pub fn names(alloc: Global, line: &str) -> Result<Vec<Name>, AllocError> {
     Ok(names)
 }
 
+/// How a run ended in the folder of a desk that had so many files before.
+pub fn end_of(alloc: Global, desk: &MemDesk, status: Status, files: usize) -> Result<Ended, Fail> {
+    Ok(Ended {
+        status,
+        said: String::from_utf8(Vec::from_slice(alloc, desk.printed())?)?,
+        proof: text_of(alloc, desk, "P.TXT")?,
+        calls: desk.calls().saturating_sub(files as u64),
+    })
+}
+
 /// Runs the words of the line in a folder of these files; the proof is `P.TXT`. The k-th call of
 /// the desk fails where k isn't 0.
 pub fn run(alloc: Global, line: &str, files: &[File], failing: u64) -> Result<Ended, Fail> {
@@ -129,12 +139,7 @@ pub fn run(alloc: Global, line: &str, files: &[File], failing: u64) -> Result<En
         return Err("several workers")?;
     }
     let status = run_single(alloc, &words, &mut desk, &mut stewards);
-    Ok(Ended {
-        status,
-        said: String::from_utf8(Vec::from_slice(alloc, desk.printed())?)?,
-        proof: text_of(alloc, &desk, "P.TXT")?,
-        calls: desk.calls().saturating_sub(files.len() as u64),
-    })
+    end_of(alloc, &desk, status, files.len())
 }
 
 /// The run says this and ends with this status.

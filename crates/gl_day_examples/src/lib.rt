@@ -12,7 +12,7 @@ mod checks;
 #[cfg(test)]
 mod claims;
 #[cfg(test)]
-mod day_by_two;
+mod day_by_many;
 #[cfg(test)]
 mod demo;
 #[cfg(test)]
@@ -27,8 +27,6 @@ mod generated_files;
 mod heard;
 #[cfg(test)]
 mod judged;
-#[cfg(test)]
-mod meeting;
 #[cfg(test)]
 mod points;
 #[cfg(test)]
