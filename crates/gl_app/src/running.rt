@@ -172,6 +172,7 @@ pub fn run_single<D: Desk>(
 /// Carries out a command, `score` by as many workers as its words name and all others as
 /// `run_single` does. It may wait for the workers, each of whom passes the gate before its first
 /// step. What it owes is what `run_single` owes, whatever the threads do.
+#[tactic(auto, using(crate::proofs::Days::one_or_day))]
 pub fn run<Rt: Threads + Wait + Sync, D: Desk, K: Gate + Sync>(
     rt: &Rt,
     alloc: Global,
