@@ -161,7 +161,7 @@ fn a_file_of_five_bytes_is_handed_on_up_to_a_limit_of_five(rt: HostRuntime) -> R
     let too_large = pour(alloc, &mut desk, &name, 4, &mut counted);
     assert_eq!(rt; too_large, Err(ReadError::TooLarge));
     let read = read_all(alloc, &mut desk, &name, 5)?;
-    assert!(rt; read.as_slice() == b"bytes");
+    assert!(rt; read.as_slice() == b"bytes".as_slice());
     assert!(rt; read_all(alloc, &mut desk, &name, 4).err() == Some(ReadError::TooLarge));
     Ok(())
 }

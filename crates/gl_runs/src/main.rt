@@ -49,7 +49,7 @@ fn main(rt: HostRuntime) -> Result<ExitCode> {
             continue;
         }
         match word {
-            "end" => return runs::end_with(&rt, rest),
+            "end" => return runs::end_with(&rt, rt.alloc(), rest),
             "#" => {
                 println!(rt; "{line}")?;
                 desk = folder::fresh(rt.alloc(), 0)?;

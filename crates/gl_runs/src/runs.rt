@@ -7,6 +7,7 @@ use gl_task::{Ceiling, EngineNoise, Steward};
 use gl_words::read_workers_of;
 use std::alloc::{AllocError, Global};
 use std::process::ExitCode;
+use std::rt::Files;
 use std::sync::Wait;
 use std::thread::Threads;
 
@@ -110,8 +111,11 @@ pub fn end_of<Rt: Threads + Wait + Sync>(
 
 /// Carries out words in the folder of `data/` as the installed program does, and answers what it
 /// ends with.
-pub fn end_with(rt: &HostRuntime, line: &str) -> Result<ExitCode> {
-    let alloc = rt.alloc();
+pub fn end_with<Rt: Files + Print + Threads + Wait + Sync>(
+    rt: &Rt,
+    alloc: Global,
+    line: &str,
+) -> Result<ExitCode> {
     let words = words(alloc, line)?;
     let mut desk = HostDesk::new(rt);
     Ok(if read_workers_of(&words).count == 1 {
