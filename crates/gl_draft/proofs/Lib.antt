@@ -1,4 +1,9 @@
+pub mod Answered
+pub mod Courses
 pub mod LineLemmas
-pub mod Runs
-pub mod ZoneLemmas
+pub mod Pairs
 pub mod Quarters
+pub mod Runs
+pub mod Unmade
+pub mod Utf8
+pub mod ZoneLemmas

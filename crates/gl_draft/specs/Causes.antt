@@ -35,6 +35,22 @@ cause_of_task (task.Twice key) = cause.Task 4 key
 cause_of_task (task.TooMany key) = cause.Task 5 key
 cause_of_task task.Memory = cause.Stopped desk.Memory
 
+-- a call of the desk failed, or there was no memory
+abbrev pub IsStopped : code.Cause → Type 0
+IsStopped (cause.Stopped stop) = ⊤
+IsStopped other = ⊥
+
+-- what stopped the making of a task file, if something did
+abbrev pub stop_of_cause : code.Cause → Option DeskError
+stop_of_cause cause.NotListed = None
+stop_of_cause cause.TooLarge = None
+stop_of_cause cause.NoRecording = None
+stop_of_cause (cause.Cup error) = None
+stop_of_cause (cause.Shape line point) = None
+stop_of_cause (cause.Task number key) = None
+stop_of_cause cause.Differs = None
+stop_of_cause (cause.Stopped stop) = Some stop
+
 -- the outside didn't fail
 abbrev pub IsNoFault : code.Cause → Type 0
 IsNoFault cause.NotListed = ⊤

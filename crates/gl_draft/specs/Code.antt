@@ -3,3 +3,5 @@
 -- cites them.
 pub mod Run
 pub mod Bearing
+pub mod Course
+pub mod Text

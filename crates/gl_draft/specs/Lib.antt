@@ -1,7 +1,10 @@
 pub mod Causes
 pub mod Code
 pub mod Draft
+pub mod Heading
 pub mod Line
+pub mod Recordings
+pub mod Refusals
 pub mod Run
 pub mod Sector
 pub mod Taken

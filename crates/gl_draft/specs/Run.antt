@@ -1,33 +1,55 @@
 -- What a run is: its answer, what it says, and what it leaves.
-use Rattle.std.specs.Prelude.{◌≡◌, ◌↔◌, ℕ, List, Option, Some, IfNone, IsNone}
+use Rattle.std.specs.Prelude.{◌≡◌, ℕ, codes, List, Option, None, Some, IfNone}
 use Rattle.gl_desk.specs.Answers.{CountsFaults}
 use Rattle.gl_desk.specs.Desk.{FilesByName, Told, followed_by}
-use Rattle.gl_draft.specs.declared.answer.Status.{Status}
-use Rattle.gl_draft.specs.declared.answer.Status.TheVariants.{Done, Words}
-use Rattle.gl_draft.specs.Causes.{stop_at}
-use Rattle.gl_draft.specs.Taken.{IsMade}
+use Rattle.gl_draft.specs.declared.answer.Status as code
+use Rattle.gl_draft.specs.declared.answer.Status.TheVariants as status
+use Rattle.gl_draft.specs.declared.refusal.Cause.{Cause}
+use Rattle.gl_draft.specs.Causes.{stop_at, stop_of_cause}
+use Rattle.gl_draft.specs.Refusals.{refusal_text}
+use Rattle.gl_draft.specs.Taken.{IsMade, IsRefused}
 use Rattle.gl_draft.specs.Words.{Asked, words_of}
 
--- a text is made for what the words ask for
-pub record IsMadeFor (folder : Option FilesByName) (words : List (List ℕ))
+-- a text is the line that tells why no task file is made
+pub record IsRefusedWith (folder : Option FilesByName) (asked : Asked)
     (text : List ℕ) : Type 0 where
-  pub asked : Asked
-  pub form : words_of words ≡ Some asked
-  pub made : IsMade folder asked text
+  pub why : Cause
+  pub goes : stop_of_cause why ≡ None
+  pub refused : IsRefused folder asked why
+  pub line : text ≡ refusal_text asked.0 why
 
--- what a run says where it is done: the text of a task file that is made for the words, in one
--- piece
-pub record SaysMade (folder : Option FilesByName) (words : List (List ℕ))
+-- the fact holds of what the words ask for
+abbrev pub OnAsked : Option Asked → (Asked → Type 0) → Type 0
+OnAsked None P = ⊥
+OnAsked (Some asked) P = P asked
+
+-- the line for words of no form
+abbrev pub usage : List ℕ
+usage = codes "usage: TASK.CUP | TASK.CUP NUMBER\n"
+
+-- what a run that nothing stops says with its status
+abbrev pub IsAnswer : Option FilesByName → List (List ℕ) → code.Status → List ℕ → Type 0
+IsAnswer folder words status.Done text =
+    OnAsked (words_of words) (λ asked. IsMade folder asked text)
+IsAnswer folder words status.Words text = (words_of words ≡ None) × (text ≡ usage)
+IsAnswer folder words status.Refused text =
+    OnAsked (words_of words) (λ asked. IsRefusedWith folder asked text)
+IsAnswer folder words status.Desk text = ⊥
+IsAnswer folder words status.Memory text = ⊥
+
+-- a run that nothing stops says its answer in one piece
+pub record SaysAnswer (folder : Option FilesByName) (words : List (List ℕ)) (status : code.Status)
     (before after : Option (List ℕ)) : Type 0 where
   pub text : List ℕ
-  pub made : IsMadeFor folder words text
+  pub is : IsAnswer folder words status text
   pub said : after ≡ followed_by before text
 
 -- a run writes nothing and changes no file; the count of faults rose exactly where it ended by a
 -- fault
-pub record IsRun (words : List (List ℕ)) (status : Status) (before after : Told) : Type 0 where
+pub record IsRun (words : List (List ℕ)) (status : code.Status) (before after : Told)
+    : Type 0 where
   pub folder : after.folder ≡ before.folder
   pub outputs : after.outputs ≡ before.outputs
   pub faults : CountsFaults (stop_at status) before.faults after.faults
-  pub form : IfNone (stop_at status) ((status ≡ Words) ↔ IsNone (words_of words))
-  pub done : status ≡ Done → SaysMade before.folder words before.said after.said
+  pub answers : IfNone (stop_at status)
+      (SaysAnswer before.folder words status before.said after.said)

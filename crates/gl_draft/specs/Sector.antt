@@ -1,6 +1,6 @@
 -- Which way a sector lies.
-use Rattle.std.specs.Prelude.{◌≡◌, ◌≢◌, ℕ, ◌+◌, ◌%◌, ◌<◌, Some, unsigned_abs}
-use Rattle.gl_draft.specs.Bearing.{IsBearing}
+use Rattle.std.specs.Prelude.{◌≡◌, ◌≢◌, ℕ, ◌+◌, ◌%◌, nat_lt, Bool, true, Some, None, unsigned_abs}
+use Rattle.gl_draft.specs.Bearing.{HasNoBearing, IsBearing}
 use Rattle.gl_draft.specs.Middle.{outside_of, thousandths_of}
 use Rattle.gl_cup.specs.declared.zone.Style as code_style
 use Rattle.gl_cup.specs.declared.zone.Style.TheVariants as style
@@ -49,8 +49,33 @@ abbrev pub way_of : code.Axis → ℕ
 way_of (axis.About way) = way
 way_of (axis.Either way) = way
 
+-- the direction outside a turn isn't defined
+pub data HasNoOutside (before here next : Grid) : Type 0 where
+  no_before : HasNoBearing here before → HasNoOutside before here next
+  no_next : HasNoBearing here next → HasNoOutside before here next
+  straight : (back on : ℕ) → IsBearing here before back → IsBearing here next on
+      → outside_of back on ≡ None → HasNoOutside before here next
+
+-- the direction that a style says isn't defined
+abbrev pub HasNoWayBy : code_style.Style → Turn → Type 0
+HasNoWayBy style.Fixed turn = ⊥
+HasNoWayBy style.Symmetrical turn =
+    HasNoOutside turn.before.now.place turn.here.now.place turn.next.now.place
+HasNoWayBy style.ToNext turn = HasNoBearing turn.here.now.place turn.next.now.place
+HasNoWayBy style.ToPrevious turn = HasNoBearing turn.here.now.place turn.before.now.place
+HasNoWayBy style.ToStart turn = HasNoBearing turn.here.now.place turn.start.now.place
+
+-- the point isn't a pole, nor becomes one when it is rounded
+abbrev pub is_off_pole : Grid → Bool
+is_off_pole place = nat_lt (unsigned_abs place.lat + 50) quarter_turn
+
+-- a sector at a turn point has no axis
+abbrev pub HasNoAxis : Turn → Type 0
+HasNoAxis turn =
+    is_off_pole turn.here.now.place ≡ true → HasNoWayBy turn.here.now.zone.style turn
+
 -- a sector at a turn point, which isn't a pole, lies along this axis
 pub record IsAxisOf (turn : Turn) (axis : code.Axis) : Type 0 where
-  pub off_pole : unsigned_abs turn.here.now.place.lat + 50 < quarter_turn
+  pub off_pole : is_off_pole turn.here.now.place ≡ true
   pub way : IsWay turn (way_of axis)
   pub known : IsKnown turn.here.now.zone.style axis

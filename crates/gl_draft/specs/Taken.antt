@@ -1,13 +1,23 @@
--- What is taken from a task of a SeeYou file.
-use Rattle.std.specs.Prelude.{◌≡◌, ℕ, ◌≤◌, ◌+◌, List, [], ◌∷◌, length, slice_get, true, Option, None, Some, ℤ, pos, ◌+ℤ◌, ◌≤ℤ◌, ⊤, ◌||◌, is_some, Bool, false}
+-- What is taken from a task of a SeeYou file and the recordings of a folder, and why nothing is.
+use Rattle.std.specs.Prelude.{◌≡◌, ℕ, ◌<◌, ◌≤◌, ◌+◌, ◌==◌, ◌&&◌, not, nat_le, nat_lt, List, [], ◌∷◌, length, slice_get, true, Option, None, Some, ℤ, pos, ◌+ℤ◌, ◌≤ℤ◌, ⊤, ◌||◌, is_some, Bool, false}
 use Rattle.std.specs.List.{list_any}
+use Rattle.jiff_core.specs.Calendar.{IsEpochDay}
+use Rattle.jiff_core.specs.Date.{epoch_day}
+use Rattle.jiff_core.specs.declared.civil.date.Date.{Date}
 use Rattle.gl_draft.specs.Opposite.{IsOpposite}
 use Rattle.gl_sphere.specs.Distance.{squared_chord, written_distance}
 use Rattle.gl_sphere.specs.Place.{written_vector}
+use Rattle.gl_cup.specs.declared.error.CupError.{CupError}
 use Rattle.gl_cup.specs.declared.point.CupPoint.{CupPoint}
 use Rattle.gl_cup.specs.declared.point.CupTask.{CupTask}
+use Rattle.gl_cup.specs.declared.zone.ObsZone.{ObsZone}
+use Rattle.gl_cup.specs.declared.zone.Style as code_style
+use Rattle.gl_cup.specs.declared.zone.Style.TheVariants as style
 use Rattle.gl_cup.specs.Reading.{IsTaskOf}
-use Rattle.gl_desk.specs.Desk.{FilesByName, IsSeenIn}
+use Rattle.gl_cup.specs.Refusal.{IsRefusalOf}
+use Rattle.gl_desk.specs.declared.error.DeskError.TheVariants as desk
+use Rattle.gl_desk.specs.Desk.{FilesByName, IsLongerThan, IsSeenIn}
+use Rattle.gl_desk.specs.Limits.{most_bytes}
 use Rattle.gl_sphere.specs.declared.place.Grid.{Grid}
 use Rattle.gl_draft.specs.declared.draft.Draft.{Draft}
 use Rattle.gl_draft.specs.declared.draft.Finish as code_finish
@@ -19,10 +29,15 @@ use Rattle.gl_draft.specs.declared.draft.Part.TheVariants.{Circle, Sector}
 use Rattle.gl_draft.specs.declared.draft.Sector as code_sector
 use Rattle.gl_draft.specs.declared.draft.Start.{Start}
 use Rattle.gl_draft.specs.declared.draft.Zone.{Zone}
+use Rattle.gl_draft.specs.declared.recording.Recording.{Recording}
+use Rattle.gl_draft.specs.declared.refusal.Cause as code_cause
+use Rattle.gl_draft.specs.declared.refusal.Cause.TheVariants as cause
 use Rattle.gl_draft.specs.declared.turn.Turn.{Turn}
-use Rattle.gl_draft.specs.Draft.{IsDraftText}
-use Rattle.gl_draft.specs.Sector.{IsAxisOf}
-use Rattle.gl_draft.specs.Turn.{IsTurnAt}
+use Rattle.gl_draft.specs.Causes.{IsStopped, cause_of_cup}
+use Rattle.gl_draft.specs.Draft.{IsDraftText, IsNoDraft}
+use Rattle.gl_draft.specs.Recordings.{AreRecordingsOf, common_day, entrants_of}
+use Rattle.gl_draft.specs.Sector.{HasNoAxis, IsAxisOf}
+use Rattle.gl_draft.specs.Turn.{ArePair, IsTurnAt}
 use Rattle.gl_draft.specs.Words.{Asked}
 
 -- two angles in 1/100,000 minute are at most half a thousandth of a minute apart
@@ -33,62 +48,129 @@ pub record IsNearPlace (from to : Grid) : Type 0 where
   pub lat : IsNear from.lat to.lat
   pub lon : IsNear from.lon to.lon
 
+-- two styles, as tests
+abbrev pub is_to_next : code_style.Style → Bool
+is_to_next style.ToNext = true
+is_to_next other = false
+
+abbrev pub is_to_previous : code_style.Style → Bool
+is_to_previous style.ToPrevious = true
+is_to_previous other = false
+
+-- the zone of a start: a line across the way to the next point, alone
+abbrev pub is_start_line : ObsZone → Bool
+is_start_line zone = zone.is_line && is_to_next zone.style && (zone.second_radius == 0)
+
 -- a start line of the half width of its zone, towards the next point
 pub record IsStartOf (start next : CupPoint) (made : Start) : Type 0 where
+  pub line : is_start_line start.zone ≡ true
   pub at : IsNearPlace start.place made.at
   pub towards : IsNearPlace next.place made.towards
   pub half : made.half ≡ start.zone.radius
-  pub line : start.zone.is_line ≡ true
 
--- a ring for a full circle, or a line of the half width
+-- the zone of a finish: a full circle alone, or a line across the way from the point before
+abbrev pub is_ring : ObsZone → Bool
+is_ring zone =
+    not zone.is_line && (zone.angle == 180_000) && (zone.second_radius == 0)
+
+abbrev pub is_gate : ObsZone → Bool
+is_gate zone = zone.is_line && is_to_previous zone.style && (zone.second_radius == 0)
+
+-- a ring for a full circle
 pub record IsRingOf (finish : CupPoint) (at : Grid) (radius : ℕ) : Type 0 where
+  pub circle : is_ring finish.zone ≡ true
   pub at_is : IsNearPlace finish.place at
   pub radius_is : radius ≡ finish.zone.radius
-  pub circle : finish.zone.angle ≡ 180_000
 
 -- how far apart two places are, in centimetres
 abbrev pub distance_of : Grid → Grid → ℕ
 distance_of a b = written_distance (squared_chord (written_vector a) (written_vector b))
 
 -- a line across the way from the point before, which is a kilometre away or more, crossed towards
--- the place on the far side of the
--- earth from that point, which is the way on
+-- the place on the far side of the earth from that point, which is the way on
 pub record IsGateOf (last finish : CupPoint) (at towards : Grid) (half : ℕ) : Type 0 where
+  pub line : is_gate finish.zone ≡ true
   pub at_is : IsNearPlace finish.place at
   pub before : Grid
   pub before_is : IsNearPlace last.place before
   pub apart : 100_000 ≤ distance_of before at
   pub towards_is : IsOpposite before towards
   pub half_is : half ≡ finish.zone.radius
-  pub line : finish.zone.is_line ≡ true
 
 abbrev pub IsFinishOf : CupPoint → CupPoint → code_finish.Finish → Type 0
 IsFinishOf last finish (Ring at radius) = IsRingOf finish at radius
 IsFinishOf last finish (Gate at towards half) = IsGateOf last finish at towards half
 
--- a circle for a full one, or a sector with the radius, the half angle and the direction
+-- the point before a finish line is less than a kilometre away
+pub record IsTooNear (last finish : CupPoint) : Type 0 where
+  pub at : Grid
+  pub at_is : IsNearPlace finish.place at
+  pub before : Grid
+  pub before_is : IsNearPlace last.place before
+  pub near : distance_of before at < 100_000
+
+-- the zone of a finish is neither a ring nor a line that has a direction
+pub record HasNoFinish (last finish : CupPoint) : Type 0 where
+  pub no_ring : is_ring finish.zone ≡ false
+  pub no_gate : is_gate finish.zone ≡ true → IsTooNear last finish
+
+-- the first part of a turn point's zone is no line, and goes some way to each side
+abbrev pub is_part : ObsZone → Bool
+is_part zone = not zone.is_line && nat_lt 0 zone.angle && nat_le zone.angle 180_000
+
+-- a sector with the radius, the half angle and the direction
 pub record IsSectorOf (turn : Turn) (sector : code_sector.Sector) : Type 0 where
+  pub part : is_part turn.here.now.zone ≡ true
+  pub narrow : (turn.here.now.zone.angle == 180_000) ≡ false
   pub outer : sector.outer ≡ turn.here.now.zone.radius
   pub half_angle : sector.half_angle ≡ turn.here.now.zone.angle
   pub axis : IsAxisOf turn sector.axis
 
+-- a circle for a full one
+pub record IsCircleOf (turn : Turn) (radius : ℕ) : Type 0 where
+  pub part : is_part turn.here.now.zone ≡ true
+  pub full : (turn.here.now.zone.angle == 180_000) ≡ true
+  pub radius_is : radius ≡ turn.here.now.zone.radius
+
 abbrev pub IsPartOf : Turn → code_part.Part → Type 0
-IsPartOf turn (Circle radius) =
-    (radius ≡ turn.here.now.zone.radius) × (turn.here.now.zone.angle ≡ 180_000)
+IsPartOf turn (Circle radius) = IsCircleOf turn radius
 IsPartOf turn (Sector sector) = IsSectorOf turn sector
 
--- a part alone, or with a full circle of the second radius
+-- it is neither: no such part, or a sector without an axis
+abbrev pub HasNoPart : Turn → Type 0
+HasNoPart turn =
+    is_part turn.here.now.zone ≡ true
+    → ((turn.here.now.zone.angle == 180_000) ≡ false) × HasNoAxis turn
+
+-- a part alone, or a keyhole: a sector and a full circle
+abbrev pub is_alone : ObsZone → Bool
+is_alone zone = zone.second_radius == 0
+
+abbrev pub is_keyhole : ObsZone → Bool
+is_keyhole zone =
+    not (zone.second_radius == 0) && not (zone.angle == 180_000) && (zone.second_angle == 180_000)
+
+-- the second part of a zone
+abbrev pub IsSecondOf : ObsZone → Option code_part.Part → Type 0
+IsSecondOf zone None = is_alone zone ≡ true
+IsSecondOf zone (Some (Circle radius)) =
+    (is_keyhole zone ≡ true) × (radius ≡ zone.second_radius)
+IsSecondOf zone (Some (Sector sector)) = ⊥
+
 abbrev pub ArePartsOf : Turn → code_part.Part → Option code_part.Part → Type 0
-ArePartsOf turn first None = IsPartOf turn first × (turn.here.now.zone.second_radius ≡ 0)
-ArePartsOf turn first (Some (Circle radius)) =
-    IsPartOf turn first × (radius ≡ turn.here.now.zone.second_radius)
-    × (turn.here.now.zone.second_angle ≡ 180_000)
-ArePartsOf turn first (Some (Sector sector)) = ⊥
+ArePartsOf turn first second =
+    IsPartOf turn first × IsSecondOf turn.here.now.zone second
 
 -- the zone of a turn point
 pub record IsZoneFor (turn : Turn) (zone : Zone) : Type 0 where
+  pub name : zone.name ≡ turn.here.now.name
   pub at : IsNearPlace turn.here.now.place zone.at
   pub parts : ArePartsOf turn zone.part zone.second
+
+-- a task file can't say the zone of a turn point
+abbrev pub HasNoZone : Turn → Type 0
+HasNoZone turn =
+    (is_alone turn.here.now.zone || is_keyhole turn.here.now.zone) ≡ true → HasNoPart turn
 
 -- the zone of the turn point with a number
 pub record IsZoneAt (points : List CupPoint) (number : ℕ) (zone : Zone) : Type 0 where
@@ -102,21 +184,61 @@ AreZonesFrom points number [] = ⊤
 AreZonesFrom points number (zone ∷ zones) =
     IsZoneAt points number zone × AreZonesFrom points (number + 1) zones
 
--- the start, the zones and the finish of a task's points
-pub record IsCourseOf (task : CupTask) (start : Start) (zones : List Zone)
-    (finish : code_finish.Finish) : Type 0 where
+-- the start of a task
+pub record IsStartIn (points : List CupPoint) (start : Start) : Type 0 where
   pub first : CupPoint
   pub next : CupPoint
+  pub pair : ArePair points 0 first next
+  pub start_is : IsStartOf first next start
+
+-- the start, the zones and the finish of a task's points
+pub record IsCourseOf (points : List CupPoint) (start : Start) (zones : List Zone)
+    (finish : code_finish.Finish) : Type 0 where
+  pub start_is : IsStartIn points start
+  pub zones_are : AreZonesFrom points 1 zones
+  pub count : length points ≡ length zones + 2
   pub last_turn : CupPoint
   pub last : CupPoint
-  pub first_is : slice_get task.points 0 ≡ Some first
-  pub next_is : slice_get task.points 1 ≡ Some next
-  pub start_is : IsStartOf first next start
-  pub zones_are : AreZonesFrom task.points 1 zones
-  pub count : length task.points ≡ length zones + 2
-  pub last_turn_is : slice_get task.points (length zones) ≡ Some last_turn
-  pub last_is : slice_get task.points (length zones + 1) ≡ Some last
+  pub pair : ArePair points (length zones) last_turn last
   pub finish_is : IsFinishOf last_turn last finish
+
+-- the start is of another shape
+pub record IsStartless (points : List CupPoint) (line number : ℕ) : Type 0 where
+  pub first : CupPoint
+  pub first_is : slice_get points 0 ≡ Some first
+  pub shape : is_start_line first.zone ≡ false
+  pub line_is : line ≡ first.line
+  pub number_is : number ≡ 0
+
+-- a turn point is, the first of them that is
+pub record IsZoneless (points : List CupPoint) (line number : ℕ) : Type 0 where
+  pub zones : List Zone
+  pub zones_are : AreZonesFrom points 1 zones
+  pub number_is : number ≡ length zones + 1
+  pub turn : Turn
+  pub turn_is : IsTurnAt points number turn
+  pub shape : HasNoZone turn
+  pub line_is : line ≡ turn.here.now.line
+
+-- the finish is
+pub record IsFinishless (points : List CupPoint) (line number : ℕ) : Type 0 where
+  pub zones : List Zone
+  pub zones_are : AreZonesFrom points 1 zones
+  pub count : length points ≡ length zones + 2
+  pub number_is : number ≡ length zones + 1
+  pub last_turn : CupPoint
+  pub last : CupPoint
+  pub pair : ArePair points (length zones) last_turn last
+  pub shape : HasNoFinish last_turn last
+  pub line_is : line ≡ last.line
+
+-- the first point of a task whose zone a task file can't say, and the line of the zone
+pub data IsShapeless (points : List CupPoint) (line number : ℕ) : Type 0 where
+  startless : IsStartless points line number → IsShapeless points line number
+  zoneless : (start : Start) → IsStartIn points start → IsZoneless points line number
+      → IsShapeless points line number
+  finishless : (start : Start) → IsStartIn points start → IsFinishless points line number
+      → IsShapeless points line number
 
 -- a task of areas has a time, or a zone that is said to be an area
 abbrev pub is_area_task : CupTask → Bool
@@ -128,26 +250,73 @@ abbrev pub kind_by : Bool → Option ℕ → code_kind.Kind
 kind_by true time = Area time
 kind_by false time = Racing
 
--- all that is taken from a task: its kind, its course, and when the start opens
-pub record IsDraftOf (task : CupTask) (draft : Draft) : Type 0 where
-  pub kind_is : draft.kind ≡ kind_by (is_area_task task) task.time
-  pub course : IsCourseOf task draft.start draft.zones draft.finish
-  pub opens : draft.opens ≡ task.opens
+-- a day of the calendar is the one with a number, if there is one
+abbrev pub IsDay : Option Date → Option ℤ → Type 0
+IsDay None None = ⊤
+IsDay None (Some day) = ¬ (IsEpochDay day)
+IsDay (Some date) None = ⊥
+IsDay (Some date) (Some day) = epoch_day date ≡ day
 
--- the text of a task file for a task
-pub record IsTextOf (task : CupTask) (text : List ℕ) : Type 0 where
-  pub draft : Draft
-  pub taken : IsDraftOf task draft
-  pub is : IsDraftText draft text
+-- all that is taken from a task and recordings: the kind, the course, the entrants and the day
+pub record IsDraftOf (task : CupTask) (recordings : List Recording) (draft : Draft) : Type 0 where
+  pub kind_is : draft.kind ≡ kind_by (is_area_task task) task.time
+  pub course : IsCourseOf task.points draft.start draft.zones draft.finish
+  pub entrants : draft.entrants ≡ entrants_of recordings
+  pub date : IsDay draft.date (common_day recordings)
 
 -- the task of a file of the folder, by its number or as the only one
 pub record IsTaskIn (folder : Option FilesByName) (asked : Asked) (task : CupTask) : Type 0 where
   pub cup : List ℕ
   pub seen : IsSeenIn folder asked.0 (Some cup)
+  pub short : length cup ≤ most_bytes
   pub read : IsTaskOf cup asked.1 task
 
--- the text of a task file for the task that is asked for
+-- the task and the recordings of a folder
+pub record AreSources (folder : Option FilesByName) (asked : Asked) (task : CupTask)
+    (recordings : List Recording) : Type 0 where
+  pub task_is : IsTaskIn folder asked task
+  pub are : AreRecordingsOf folder recordings
+
+-- the text of a task file for a task and recordings, of which there are some
+pub record IsTextOf (task : CupTask) (recordings : List Recording) (text : List ℕ) : Type 0 where
+  pub draft : Draft
+  pub some : 0 < length recordings
+  pub taken : IsDraftOf task recordings draft
+  pub is : IsDraftText draft text
+
+-- the text of a task file for the task that is asked for and the recordings of the folder
 pub record IsMade (folder : Option FilesByName) (asked : Asked) (text : List ℕ) : Type 0 where
   pub task : CupTask
-  pub task_is : IsTaskIn folder asked task
-  pub text_is : IsTextOf task text
+  pub recordings : List Recording
+  pub sources : AreSources folder asked task recordings
+  pub text_is : IsTextOf task recordings text
+
+-- the folder has a task and recordings, but the first of these is wrong: there is no recording, a
+-- zone is of a shape that a task file can't say, or the text says no task with what was taken
+pub data IsUnmade (task : CupTask) (recordings : List Recording) (why : code_cause.Cause)
+    : Type 0 where
+  nobody : recordings ≡ [] → why ≡ cause.NoRecording → IsUnmade task recordings why
+  shapeless : (line number : ℕ) → 0 < length recordings → IsShapeless task.points line number
+      → why ≡ cause.Shape line number → IsUnmade task recordings why
+  unsaid : (draft : Draft) → 0 < length recordings → IsDraftOf task recordings draft
+      → IsNoDraft draft why → IsUnmade task recordings why
+  memory : why ≡ cause.Stopped desk.Memory → IsUnmade task recordings why
+
+-- why the file gives no task
+pub data IsNoTaskIn (folder : Option FilesByName) (asked : Asked) (why : code_cause.Cause)
+    : Type 0 where
+  not_listed : IsSeenIn folder asked.0 None → why ≡ cause.NotListed → IsNoTaskIn folder asked why
+  too_large : IsLongerThan most_bytes folder asked.0 → why ≡ cause.TooLarge
+      → IsNoTaskIn folder asked why
+  refused : (cup : List ℕ) → IsSeenIn folder asked.0 (Some cup) → length cup ≤ most_bytes
+      → (error : CupError) → IsRefusalOf cup asked.1 error → why ≡ cause_of_cup error
+      → IsNoTaskIn folder asked why
+
+-- why no task file is made
+pub data IsRefused (folder : Option FilesByName) (asked : Asked) (why : code_cause.Cause)
+    : Type 0 where
+  no_task : IsNoTaskIn folder asked why → IsRefused folder asked why
+  unmade : (task : CupTask) → (recordings : List Recording)
+      → AreSources folder asked task recordings → IsUnmade task recordings why
+      → IsRefused folder asked why
+  stopped : IsStopped why → IsRefused folder asked why

@@ -1,5 +1,6 @@
 -- What the words ask for.
-use Rattle.std.specs.Prelude.{ℕ, nat_lt, ◌==◌, ◌||◌, if◌then◌else◌, slice_index, List, [], ◌∷◌, length, Option, None, Some, option_map}
+use Rattle.std.specs.Prelude.{ℕ, nat_eq, nat_lt, ◌==◌, ◌&&◌, ◌||◌, not, codes, Bool, if◌then◌else◌, slice_index, List, [], ◌∷◌, length, Option, None, Some, option_map}
+use Rattle.std.specs.List.{starts_with}
 use Rattle.std.specs.Str.{byte}
 use Rattle.gl_text.specs.Forms.{is_file_name}
 use Rattle.gl_text.specs.Digits.{number_of}
@@ -10,16 +11,20 @@ number_in word =
     if (length word == 0) || nat_lt 6 (length word) || (slice_index word 0 == byte "0") then None
     else number_of word
 
+-- the name of a file, and no option
+abbrev pub is_file : List ℕ → Bool
+is_file word = is_file_name word && not (starts_with nat_eq word (codes "--"))
+
 -- a file, and the number of its task, if there is one
 abbrev pub Asked : Type 0
 Asked = List ℕ × Option ℕ
 
 abbrev pub file_alone : List ℕ → Option Asked
-file_alone file = if is_file_name file then Some (file, None) else None
+file_alone file = if is_file file then Some (file, None) else None
 
 abbrev pub pair_of : List ℕ → List ℕ → Option Asked
 pair_of file number =
-    if is_file_name file then option_map (λ n. (file, Some n)) (number_in number) else None
+    if is_file file then option_map (λ n. (file, Some n)) (number_in number) else None
 
 -- what the words ask for, where they are of the form
 abbrev pub words_of : List (List ℕ) → Option Asked

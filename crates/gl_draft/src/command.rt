@@ -1,17 +1,18 @@
-ghost use Rattle.std.specs.Prelude.{◌≡◌, ◌≢◌, ◌↔◌, None, Some, IfOk, IfErr, IsNone};
+ghost use Rattle.std.specs.Prelude.{◌≡◌, ◌<◌, ◌≤◌, IfErr, IfOk, length};
+ghost use Rattle.gl_cup.specs.Reading.{IsTaskOf};
 ghost use Rattle.gl_desk.specs.Answers.{OnlyReads, stop_of};
-ghost use Rattle.gl_desk.specs.Desk.{FilesByName, IsSeenIn, HaveFiles};
-ghost use Rattle.gl_draft.specs.Causes.{IsNoFault, stop_at};
-ghost use Rattle.gl_draft.specs.Code.Run.{stop_in, IsAnswer, asked_by};
-ghost use Rattle.gl_draft.specs.Taken.{IsDraftOf, IsMade, IsTaskIn, IsTextOf};
+ghost use Rattle.gl_desk.specs.Desk.{ListsNames};
+ghost use Rattle.gl_draft.specs.Causes.{IsNoFault, stop_of_cause};
+ghost use Rattle.gl_draft.specs.Code.Run.{Answers, IsAnswerFor, IsFileIn, IsNoCup, asked_by, stop_in};
 ghost use Rattle.gl_draft.specs.Run.{IsRun};
-ghost use Rattle.std.specs.Prelude.{Option};
-ghost use Rattle.gl_draft.specs.Words.{words_of};
+ghost use Rattle.gl_draft.specs.Taken.{AreSources, IsDay, IsDraftOf, IsMade, IsNoTaskIn, IsRefused, IsTaskIn, IsTextOf, IsUnmade};
 
 use crate::answer::Status;
 use crate::course::{Course, course_of, kind_of};
 use crate::draft::Draft;
-use crate::folder::{Date, Recordings, read_recordings};
+use crate::entrant::{common_day, entrants_of};
+use crate::folder::read_recordings;
+use crate::recording::Recording;
 use crate::refusal::Cause;
 use crate::refusal_line::refusal_line;
 use crate::remarks::remarks;
@@ -20,6 +21,7 @@ use crate::words::{USAGE, Words, read_words};
 use gl_cup::{CupTask, read_cup};
 use gl_desk::{Desk, DeskError, MOST_BYTES, Name, ReadError, read_all};
 use gl_text::Items;
+use jiff_core::civil::Date;
 use std::alloc::{AllocError, Global};
 
 /// The bytes of the task's file, which has to be one of the folder's.
@@ -27,22 +29,33 @@ fn read_file<D: Desk>(
     alloc: Global,
     desk: &mut D,
     names: &[Name],
-    file: &Name,
+    words: Words<'_>,
 ) -> Result<Vec<u8>, Cause>
-    requires { HaveFiles (D.told desk.old).folder names.now }
-    ensures seen { IfOk result (λ bytes.
-        IsSeenIn (D.told desk.old).folder file.now (Some bytes.items)) }
+    requires { ListsNames (D.told desk.old).folder names.now }
+    ensures file { IfOk result (λ bytes.
+        IsFileIn (D.told desk.old).folder words.entry.file.now bytes.items) }
+    ensures refused { IfErr result (IsRefused (D.told desk.old).folder (asked_by words.entry)) }
     ensures reads { OnlyReads (stop_in result) (D.told desk.old) (D.told desk.new) }
 {
-    if !names.contains(file) {
+    if !names.contains(words.file) {
         return Err(Cause::NotListed);
     }
-    match read_all(alloc, desk, file, MOST_BYTES) {
+    match read_all(alloc, desk, words.file, MOST_BYTES) {
         Ok(bytes) => Ok(bytes),
         Err(ReadError::TooLarge) => Err(Cause::TooLarge),
         Err(ReadError::Fault) => Err(Cause::Stopped(DeskError::Failed)),
         Err(ReadError::Memory) => Err(Cause::Stopped(DeskError::Memory)),
     }
+}
+
+/// The task that the words ask for, of a file's bytes.
+fn task_of(alloc: Global, bytes: &[u8], words: Words<'_>) -> Result<CupTask, Cause>
+    ensures task { IfOk result (IsTaskOf bytes.now words.entry.task) }
+    ensures refused { IfErr result (IsNoCup bytes.now words.entry.task) }
+    ensures no_fault { IfErr result IsNoFault }
+{
+    let task = read_cup(alloc, bytes, words.task)?;
+    Ok(task)
 }
 
 /// The task that the words ask for.
@@ -52,23 +65,13 @@ fn read_task_file<D: Desk>(
     names: &[Name],
     words: Words<'_>,
 ) -> Result<CupTask, Cause>
-    requires { HaveFiles (D.told desk.old).folder names.now }
+    requires { ListsNames (D.told desk.old).folder names.now }
     ensures task { IfOk result (IsTaskIn (D.told desk.old).folder (asked_by words.entry)) }
+    ensures refused { IfErr result (IsRefused (D.told desk.old).folder (asked_by words.entry)) }
     ensures reads { OnlyReads (stop_in result) (D.told desk.old) (D.told desk.new) }
 {
-    let bytes = read_file(alloc, desk, names, words.file)?;
-    let task = read_cup(alloc, &bytes, words.task)?;
-    Ok(task)
-}
-
-/// Names in the order of their bytes.
-fn sorted(names: Vec<Name>) -> Result<Vec<Name>, AllocError>
-    ensures { IfOk result (λ sorted. (folder : Option FilesByName)
-        → HaveFiles folder names.items → HaveFiles folder sorted.items) }
-{
-    let mut names = names;
-    names.sort()?;
-    Ok(names)
+    let bytes = read_file(alloc, desk, names, words)?;
+    task_of(alloc, &bytes, words)
 }
 
 /// The task that the words ask for, and the recordings, in a folder that lists these names.
@@ -77,15 +80,15 @@ fn see_listed<D: Desk>(
     desk: &mut D,
     names: Vec<Name>,
     words: Words<'_>,
-) -> Result<(CupTask, Recordings), Cause>
-    requires { HaveFiles (D.told desk.old).folder names.items }
-    ensures task { IfOk result (λ seen.
-        IsTaskIn (D.told desk.old).folder (asked_by words.entry) seen.0) }
+) -> Result<(CupTask, Vec<Recording>), Cause>
+    requires { ListsNames (D.told desk.old).folder names.items }
+    ensures sources { IfOk result (λ seen.
+        AreSources (D.told desk.old).folder (asked_by words.entry) seen.0 seen.1.items) }
+    ensures refused { IfErr result (IsRefused (D.told desk.old).folder (asked_by words.entry)) }
     ensures reads { OnlyReads (stop_in result) (D.told desk.old) (D.told desk.new) }
 {
     let task = read_task_file(alloc, desk, &names, words)?;
-    let names = sorted(names)?;
-    let recordings = read_recordings(alloc, desk, &names)?;
+    let recordings = read_recordings(alloc, desk, names)?;
     Ok((task, recordings))
 }
 
@@ -94,32 +97,44 @@ fn see_folder<D: Desk>(
     alloc: Global,
     desk: &mut D,
     words: Words<'_>,
-) -> Result<(CupTask, Recordings), Cause>
-    ensures task { IfOk result (λ seen.
-        IsTaskIn (D.told desk.old).folder (asked_by words.entry) seen.0) }
+) -> Result<(CupTask, Vec<Recording>), Cause>
+    ensures sources { IfOk result (λ seen.
+        AreSources (D.told desk.old).folder (asked_by words.entry) seen.0 seen.1.items) }
+    ensures refused { IfErr result (IsRefused (D.told desk.old).folder (asked_by words.entry)) }
     ensures reads { OnlyReads (stop_in result) (D.told desk.old) (D.told desk.new) }
 {
     let names = desk.names(alloc)?;
     see_listed(alloc, desk, names, words)
 }
 
+/// The day of the calendar with a number, if there is one.
+fn day_of(number: Option<i32>) -> Option<Date>
+    ensures { IsDay result number }
+{
+    match number {
+        Some(number) => match Date::from_unix_epoch_day(i64::from(number)) {
+            Ok(day) => Some(day),
+            Err(_) => None,
+        },
+        None => None,
+    }
+}
+
 /// The draft of a task and recordings.
-fn draft_of(alloc: Global, task: &CupTask, recordings: Recordings) -> Result<Draft, Cause>
-    ensures ok { IfOk result (IsDraftOf task.now) }
-    ensures no_fault { IfErr result IsNoFault }
+fn draft_of(alloc: Global, task: &CupTask, recordings: &[Recording]) -> Result<Draft, Cause>
+    requires some { 0 < length recordings.now }
+    requires points { 3 ≤ length task.now.points }
+    ensures ok { IfOk result (IsDraftOf task.now recordings.now) }
+    ensures refused { IfErr result (IsUnmade task.now recordings.now) }
 {
     let Course {
         start,
         zones,
         finish,
-    } = course_of(alloc, task)?;
-    let Recordings {
-        entrants,
-        date,
-        left_out: _,
-    } = recordings;
+    } = course_of(alloc, task.points.as_slice())?;
+    let entrants = entrants_of(alloc, recordings)?;
     Ok(Draft {
-        date: date.known(),
+        date: day_of(common_day(recordings)),
         kind: kind_of(task),
         opens: task.opens,
         start,
@@ -129,33 +144,49 @@ fn draft_of(alloc: Global, task: &CupTask, recordings: Recordings) -> Result<Dra
     })
 }
 
+/// The text of the task file for a task and recordings, of which there are some.
+fn text_of(
+    alloc: Global,
+    words: Words<'_>,
+    task: &CupTask,
+    recordings: &[Recording],
+) -> Result<Vec<u8>, Cause>
+    requires some { 0 < length recordings.now }
+    requires points { 3 ≤ length task.now.points }
+    ensures ok { IfOk result (λ text. IsTextOf task.now recordings.now text.items) }
+    ensures refused { IfErr result (IsUnmade task.now recordings.now) }
+{
+    let remarks = remarks(alloc, words, task, recordings)?;
+    let draft = draft_of(alloc, task, recordings)?;
+    draft_text(alloc, remarks, &draft)
+}
+
 /// The text of the task file for a task and recordings.
 fn make_text(
     alloc: Global,
     words: Words<'_>,
     task: &CupTask,
-    recordings: Recordings,
+    recordings: &[Recording],
 ) -> Result<Vec<u8>, Cause>
-    ensures made { IfOk result (λ text. IsTextOf task.now text.items) }
-    ensures no_fault { IfErr result IsNoFault }
+    requires { 3 ≤ length task.now.points }
+    ensures ok { IfOk result (λ text. IsTextOf task.now recordings.now text.items) }
+    ensures refused { IfErr result (IsUnmade task.now recordings.now) }
 {
-    if recordings.entrants.is_empty() {
+    if recordings.is_empty() {
         return Err(Cause::NoRecording);
     }
-    let remarks = remarks(alloc, words, task, &recordings)?;
-    let draft = draft_of(alloc, task, recordings)?;
-    draft_text(alloc, remarks, &draft)
+    text_of(alloc, words, task, recordings)
 }
 
 /// The text of the task file that the words ask for.
 fn make_file<D: Desk>(alloc: Global, desk: &mut D, words: Words<'_>) -> Result<Vec<u8>, Cause>
     ensures made { IfOk result (λ text.
         IsMade (D.told desk.old).folder (asked_by words.entry) text.items) }
+    ensures refused { IfErr result (IsRefused (D.told desk.old).folder (asked_by words.entry)) }
     ensures reads { OnlyReads (stop_in result) (D.told desk.old) (D.told desk.new) }
 {
-    let (task, recordings) = see_folder(alloc, desk, words)?;
-    let text = make_text(alloc, words, &task, recordings)?;
-    Ok(text)
+    let seen = see_folder(alloc, desk, words)?;
+    make_text(alloc, words, &seen.0, &seen.1)
 }
 
 /// What a run ends with: the status, and the text that it says.
@@ -165,32 +196,19 @@ pub struct Answer {
     pub text: Vec<u8>,
 }
 
-/// The line for words of another form.
-fn usage(alloc: Global) -> Result<Answer, AllocError>
-    ensures { IfOk result (λ answer. answer.status ≡ Status.Words) }
+/// What stopped the making of a task file, if something did.
+fn stop_of(cause: Cause) -> Option<DeskError>
+    ensures { result ≡ stop_of_cause cause }
 {
-    Ok(Answer {
-        status: Status::Words,
-        text: Vec::from_slice(alloc, USAGE.as_bytes())?,
-    })
-}
-
-/// The line that a refused run says.
-fn refuse(alloc: Global, file: &Name, cause: Cause) -> Result<Answer, AllocError>
-    ensures { IfOk result (λ answer. answer.status ≡ Status.Refused) }
-{
-    Ok(Answer {
-        status: Status::Refused,
-        text: refusal_line(alloc, file, cause)?,
-    })
+    match cause {
+        Cause::Stopped(stop) => Some(stop),
+        _ => None,
+    }
 }
 
 /// The answer to words of the right form.
 fn answer_words<D: Desk>(alloc: Global, desk: &mut D, words: Words<'_>) -> Result<Answer, DeskError>
-    ensures goes { IfOk result (λ answer. stop_at answer.status ≡ None) }
-    ensures made { IfOk result (λ answer. answer.status ≡ Status.Done
-        → IsMade (D.told desk.old).folder (asked_by words.entry) answer.text.items) }
-    ensures form { IfOk result (λ answer. answer.status ≢ Status.Words) }
+    ensures is { IfOk result (IsAnswerFor (D.told desk.old).folder (asked_by words.entry)) }
     ensures reads { OnlyReads (stop_of result) (D.told desk.old) (D.told desk.new) }
 {
     match make_file(alloc, desk, words) {
@@ -198,21 +216,27 @@ fn answer_words<D: Desk>(alloc: Global, desk: &mut D, words: Words<'_>) -> Resul
             status: Status::Done,
             text,
         }),
-        Err(Cause::Stopped(stop)) => Err(stop),
-        Err(cause) => Ok(refuse(alloc, words.file, cause)?),
+        Err(cause) => match stop_of(cause) {
+            Some(stop) => Err(stop),
+            None => Ok(Answer {
+                status: Status::Refused,
+                text: refusal_line(alloc, words.file, cause)?,
+            }),
+        },
     }
 }
 
 /// The answer to the words.
 fn answer_to<D: Desk>(alloc: Global, words: &[Name], desk: &mut D) -> Result<Answer, DeskError>
-    ensures is { IfOk result (IsAnswer (D.told desk.old).folder words.now) }
-    ensures form { IfOk result (λ answer.
-        (answer.status ≡ Status.Words) ↔ IsNone (words_of words.now)) }
+    ensures is { IfOk result (Answers (D.told desk.old).folder words.now) }
     ensures reads { OnlyReads (stop_of result) (D.told desk.old) (D.told desk.new) }
 {
     match read_words(words) {
         Some(words) => answer_words(alloc, desk, words),
-        None => Ok(usage(alloc)?),
+        None => Ok(Answer {
+            status: Status::Words,
+            text: Vec::from_slice(alloc, USAGE.as_bytes())?,
+        }),
     }
 }
 

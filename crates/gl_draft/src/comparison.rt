@@ -1,27 +1,31 @@
-ghost use Rattle.std.specs.Prelude.{◌≡◌, IsTrue, IfSome, None, pos};
-ghost use Rattle.gl_draft.specs.Draft.{Each, HasCourse, HasDay, HasDraft, HasEntrant, HasFinish, HasKind, HasPart, HasParts, HasRadials, HasSector, HasStart, HasZone, IsAt, IsMetres};
+ghost use Rattle.std.specs.Prelude.{◌≡◌, ◌==◌, is_none};
+ghost use Rattle.std.specs.Ordering.{int_eq};
+ghost use Rattle.gl_text.specs.Forms.{is_text};
+ghost use Rattle.jiff_core.specs.Date.{epoch_day};
+ghost use Rattle.gl_draft.specs.Draft.{each, has_begin, has_draft, has_entrant, has_finish, has_head, has_kind, has_part, has_parts, has_radials, has_rest, has_sector, has_start, has_zone, is_at, is_known, is_length};
 
 use crate::draft::{Axis, Draft, Finish, Kind, Part, Sector, Start, Zone};
 use crate::entrant::Entrant;
 use crate::sector::radials;
 use gl_desk::Name;
 use gl_sphere::{Grid, Vec3, vector};
-use gl_task::{Finish as TaskFinish, Kind as TaskKind, PilotStart, Task};
+use gl_task::{Finish as TaskFinish, Kind as TaskKind, PilotStart, Start as TaskStart, Task};
 use gl_zone::{Line, Part as TaskPart, Sector as TaskSector, Zone as TaskZone};
+use jiff_core::civil::Date;
 
 /// A metre, in centimetres.
 const METRE: u64 = 100;
 
 /// Whether a length is so many metres.
 fn is_length(centimetres: u64, metres: u32) -> bool
-    ensures { IsTrue result → IsMetres centimetres metres }
+    ensures { result ≡ is_length centimetres metres }
 {
     centimetres == u64::from(metres) * METRE
 }
 
 /// Whether a point is that of a place.
 fn is_at(point: Vec3, place: Grid) -> bool
-    ensures { IsTrue result → IsAt point place }
+    ensures { result ≡ is_at point place }
 {
     let at = vector(place);
     point.x == at.x && point.y == at.y && point.z == at.z
@@ -29,7 +33,7 @@ fn is_at(point: Vec3, place: Grid) -> bool
 
 /// Whether a line is the start that was taken.
 fn has_start(start: Start, line: Line) -> bool
-    ensures { IsTrue result → HasStart start line }
+    ensures { result ≡ has_start start line }
 {
     is_at(line.centre, start.at)
         && is_at(line.towards, start.towards)
@@ -38,14 +42,14 @@ fn has_start(start: Start, line: Line) -> bool
 
 /// Whether a start needn't be announced.
 fn is_unannounced(pilot: Option<PilotStart>) -> bool
-    ensures { IsTrue result → pilot ≡ None }
+    ensures { result ≡ is_none pilot }
 {
     pilot.is_none()
 }
 
 /// Whether a sector has the radials, where it is known which way it lies.
 fn has_radials(axis: Axis, half_angle: u32, made: TaskSector) -> bool
-    ensures { IsTrue result → HasRadials axis half_angle made }
+    ensures { result ≡ has_radials axis half_angle made }
 {
     match axis {
         Axis::About(middle) => {
@@ -58,7 +62,7 @@ fn has_radials(axis: Axis, half_angle: u32, made: TaskSector) -> bool
 
 /// Whether a sector is the one that was taken.
 fn has_sector(centre: Grid, sector: Sector, made: TaskSector) -> bool
-    ensures { IsTrue result → HasSector centre sector made }
+    ensures { result ≡ has_sector centre sector made }
 {
     is_at(made.centre, centre)
         && made.inner == 0
@@ -68,7 +72,7 @@ fn has_sector(centre: Grid, sector: Sector, made: TaskSector) -> bool
 
 /// Whether a part is the one that was taken.
 fn has_part(centre: Grid, part: Part, made: TaskPart) -> bool
-    ensures { IsTrue result → HasPart centre part made }
+    ensures { result ≡ has_part centre part made }
 {
     match part {
         Part::Circle(radius) => match made {
@@ -86,7 +90,7 @@ fn has_part(centre: Grid, part: Part, made: TaskPart) -> bool
 
 /// Whether parts are the one or the two that were taken.
 fn has_parts(centre: Grid, first: Part, second: Option<Part>, made: &[TaskPart]) -> bool
-    ensures { IsTrue result → HasParts centre first second made.now }
+    ensures { result ≡ has_parts centre first second made.now }
 {
     match second {
         None => match made {
@@ -102,14 +106,14 @@ fn has_parts(centre: Grid, first: Part, second: Option<Part>, made: &[TaskPart])
 
 /// Whether a zone is the one that was taken.
 fn has_zone(zone: &Zone, made: &TaskZone) -> bool
-    ensures { IsTrue result → HasZone zone.now made.now }
+    ensures { result ≡ has_zone zone.now made.now }
 {
     is_at(made.centre, zone.at) && has_parts(zone.at, zone.part, zone.second, made.parts.as_slice())
 }
 
 /// Whether zones are those that were taken.
 fn has_zones(zones: &[Zone], made: &[TaskZone]) -> bool
-    ensures { IsTrue result → Each HasZone zones.now made.now }
+    ensures { result ≡ each has_zone zones.now made.now }
 {
     let mut left = zones;
     let mut right = made;
@@ -128,7 +132,7 @@ fn has_zones(zones: &[Zone], made: &[TaskZone]) -> bool
 
 /// Whether a finish is the one that was taken.
 fn has_finish(finish: Finish, made: TaskFinish) -> bool
-    ensures { IsTrue result → HasFinish finish made }
+    ensures { result ≡ has_finish finish made }
 {
     match finish {
         Finish::Ring { at, radius } => match made {
@@ -148,8 +152,9 @@ fn has_finish(finish: Finish, made: TaskFinish) -> bool
 }
 
 /// Whether a kind is the one that was taken.
+#[tactic(auto, unfolding(crate::specs::Draft::has_kind))]
 fn has_kind(kind: Kind, made: TaskKind) -> bool
-    ensures { IsTrue result → HasKind kind made }
+    ensures { result ≡ has_kind kind made }
 {
     match kind {
         Kind::Racing => match made {
@@ -158,17 +163,15 @@ fn has_kind(kind: Kind, made: TaskKind) -> bool
         },
         Kind::Area { minimum } => match made {
             TaskKind::Racing => false,
-            TaskKind::Area { minimum: seconds } => match minimum {
-                Some(known) => seconds == known,
-                None => true,
-            },
+            TaskKind::Area { minimum: seconds } => has_minimum(minimum, seconds),
         },
     }
 }
 
 /// Whether a name is the number that is known.
 fn has_number(number: &Option<Name>, made: &Name) -> bool
-    ensures { IsTrue result → IfSome number.now (λ known. made.now ≡ known) }
+    ensures { result
+        ≡ is_known (λ known number. is_text number known) number.now made.now }
 {
     match number {
         Some(known) => made == known,
@@ -178,7 +181,7 @@ fn has_number(number: &Option<Name>, made: &Name) -> bool
 
 /// Whether an entrant is the one that was taken.
 fn has_entrant(entrant: &Entrant, made: &gl_task::Entrant) -> bool
-    ensures { IsTrue result → HasEntrant entrant.now made.now }
+    ensures { result ≡ has_entrant entrant.now made.now }
 {
     has_number(&entrant.number, &made.number)
         && made.name == entrant.name
@@ -188,7 +191,7 @@ fn has_entrant(entrant: &Entrant, made: &gl_task::Entrant) -> bool
 
 /// Whether entrants are those that were taken.
 fn has_entrants(entrants: &[Entrant], made: &[gl_task::Entrant]) -> bool
-    ensures { IsTrue result → Each HasEntrant entrants.now made.now }
+    ensures { result ≡ each has_entrant entrants.now made.now }
 {
     let mut left = entrants;
     let mut right = made;
@@ -206,53 +209,55 @@ fn has_entrants(entrants: &[Entrant], made: &[gl_task::Entrant]) -> bool
 }
 
 /// Whether a day is the one that is known.
-fn has_date(date: Option<i32>, made: i32) -> bool
-    ensures { IsTrue result → IfSome date (λ known. made ≡ known) }
+fn has_date(date: Option<Date>, made: i32) -> bool
+    ensures { result ≡ is_known (λ known date. int_eq date (epoch_day known)) date made }
 {
     match date {
+        Some(known) => made == known.to_unix_epoch_day(),
+        None => true,
+    }
+}
+
+/// Whether a minimum is the one that is known.
+fn has_minimum(minimum: Option<u32>, made: u32) -> bool
+    ensures { result ≡ is_known (λ known made. made == known) minimum made }
+{
+    match minimum {
         Some(known) => made == known,
         None => true,
     }
 }
 
-/// Whether a second is the one that is known.
-fn has_second(second: Option<u32>, made: i32) -> bool
-    ensures { IsTrue result → IfSome second (λ known. made ≡ pos known) }
+/// Whether a task has the start that was taken, which needn't be announced.
+#[tactic(auto, unfolding(crate::specs::Draft::has_begin))]
+fn has_begin(start: Start, made: TaskStart) -> bool
+    ensures { result ≡ has_begin start made }
 {
-    match second {
-        Some(known) => i64::from(made) == i64::from(known),
-        None => true,
-    }
+    has_start(start, made.line) && is_unannounced(made.pilot)
 }
 
-/// Whether a task has the day, the opening and the kind that are known.
-fn has_day(draft: &Draft, task: &Task) -> bool
-    ensures { IsTrue result → HasDay draft.now task.now }
+/// Whether a task has the day, the kind and the start that were taken.
+fn has_head(draft: &Draft, task: &Task) -> bool
+    ensures { result ≡ has_head draft.now task.now }
 {
-    if !has_date(draft.date, task.date) {
-        return false;
-    }
-    if !has_second(draft.opens, task.start.opens) {
-        return false;
-    }
-    has_kind(draft.kind, task.kind)
+    has_date(draft.date, task.date)
+        && has_kind(draft.kind, task.kind)
+        && has_begin(draft.start, task.start)
 }
 
-/// Whether a task has the start, the zones and the finish that were taken.
-fn has_course(draft: &Draft, task: &Task) -> bool
-    ensures { IsTrue result → HasCourse draft.now task.now }
+/// Whether a task has the zones, the finish and the entrants that were taken.
+fn has_rest(draft: &Draft, task: &Task) -> bool
+    ensures { result ≡ has_rest draft.now task.now }
 {
-    is_unannounced(task.start.pilot)
-        && has_start(draft.start, task.start.line)
-        && has_zones(draft.zones.as_slice(), task.zones.as_slice())
+    has_zones(draft.zones.as_slice(), task.zones.as_slice())
         && has_finish(draft.finish, task.finish)
+        && has_entrants(draft.entrants.as_slice(), task.entrants.as_slice())
 }
 
 /// Whether a task has all that was taken.
+#[tactic(auto, unfolding(crate::specs::Draft::has_draft))]
 pub fn has_draft(draft: &Draft, task: &Task) -> bool
-    ensures { IsTrue result → HasDraft draft.now task.now }
+    ensures { result ≡ has_draft draft.now task.now }
 {
-    has_day(draft, task)
-        && has_course(draft, task)
-        && has_entrants(draft.entrants.as_slice(), task.entrants.as_slice())
+    has_head(draft, task) && has_rest(draft, task)
 }

@@ -1,14 +1,15 @@
-ghost use Rattle.std.specs.Prelude.{◌≡◌, ◌+◌, ◌≤◌, IfErr, IfOk, length};
+ghost use Rattle.std.specs.Prelude.{◌≡◌, ◌+◌, ◌<◌, ◌≤◌, IfErr, IfOk, length};
 ghost use Rattle.std.specs.List.{list_any};
 ghost use Rattle.gl_cup.specs.declared.point.CupPoint.{CupPoint};
-ghost use Rattle.gl_draft.specs.Taken.{AreZonesFrom, IsCourseOf, IsFinishOf, IsStartOf, IsZoneAt, is_area_task, kind_by};
 ghost use Rattle.gl_draft.specs.Causes.{IsNoFault};
+ghost use Rattle.gl_draft.specs.Code.Course.{IsNoFinishAt, IsNoStartAt, IsNoTurnAt, IsNoZoneIn, IsNoCourse};
+ghost use Rattle.gl_draft.specs.Taken.{AreZonesFrom, IsCourseOf, IsFinishOf, IsStartIn, IsZoneAt, is_area_task, kind_by};
 
 use crate::draft::{Finish, Kind, Start, Zone};
 use crate::place::{distance, rounded};
 use crate::refusal::Cause;
 use crate::shape::{finish_of, start_of, zone_of};
-use crate::turn::turn_at;
+use crate::turn::{Leg, leg_at, turn_at};
 use gl_cup::{CupPoint, CupTask};
 use std::alloc::Global;
 
@@ -22,12 +23,12 @@ pub struct Course {
 
 /// The zone of the turn point with a number, or that its zone is of another shape.
 fn turn_zone(alloc: Global, points: &[CupPoint], number: usize) -> Result<Zone, Cause>
+    requires first { 1 ≤ number }
+    requires last { number + 1 < length points.now }
     ensures ok { IfOk result (IsZoneAt points.now number) }
-    ensures no_fault { IfErr result IsNoFault }
+    ensures refused { IfErr result (IsNoTurnAt points.now number) }
 {
-    let Some(turn) = turn_at(points, number) else {
-        return Err(Cause::Differs);
-    };
+    let turn = turn_at(points, number);
     match zone_of(alloc, turn)? {
         Some(zone) => Ok(zone),
         None => Err(Cause::Shape(turn.here.line, number as u64)),
@@ -39,52 +40,54 @@ fn zones_of(alloc: Global, points: &[CupPoint]) -> Result<Vec<Zone>, Cause>
     requires { 2 ≤ length points.now }
     ensures zones { IfOk result (λ zones. AreZonesFrom points.now 1 zones.items) }
     ensures count { IfOk result (λ zones. length points.now ≡ length zones.items + 2) }
-    ensures no_fault { IfErr result IsNoFault }
+    ensures refused { IfErr result (IsNoZoneIn points.now) }
 {
     let mut zones = Vec::new(alloc);
     'numbers: for number in 1..points.len() - 1 {
-        zones.push(turn_zone(alloc, points, number)?)?;
+        match turn_zone(alloc, points, number) {
+            Ok(zone) => zones.push(zone)?,
+            Err(cause) => return Err(cause),
+        }
     }
     Ok(zones)
 }
 
 /// The start of a task, or that its zone is of another shape.
-fn start_at(start: &CupPoint, next: &CupPoint) -> Result<Start, Cause>
-    ensures ok { IfOk result (IsStartOf start.now next.now) }
-    ensures no_fault { IfErr result IsNoFault }
+fn start_in(points: &[CupPoint]) -> Result<Start, Cause>
+    requires { 2 ≤ length points.now }
+    ensures ok { IfOk result (IsStartIn points.now) }
+    ensures refused { IfErr result (IsNoStartAt points.now) }
 {
-    match start_of(start, next) {
+    let leg = leg_at(points, 0);
+    match start_of(leg.from, leg.to) {
         Some(line) => Ok(line),
-        None => Err(Cause::Shape(start.line, 0)),
+        None => Err(Cause::Shape(leg.from.line, 0)),
     }
 }
 
 /// The finish of a task, or that its zone is of another shape.
-fn finish_at(last: &CupPoint, finish: &CupPoint, number: usize) -> Result<Finish, Cause>
-    ensures ok { IfOk result (IsFinishOf last.now finish.now) }
-    ensures no_fault { IfErr result IsNoFault }
+fn finish_at(leg: Leg<'_>, number: usize) -> Result<Finish, Cause>
+    ensures ok { IfOk result (IsFinishOf leg.entry.from.now leg.entry.to.now) }
+    ensures refused { IfErr result (IsNoFinishAt leg.entry.from.now leg.entry.to.now number) }
 {
-    match finish_of(last, finish) {
+    match finish_of(leg.from, leg.to) {
         Some(end) => Ok(end),
-        None => Err(Cause::Shape(finish.line, number as u64)),
+        None => Err(Cause::Shape(leg.to.line, number as u64)),
     }
 }
 
-/// The start, the zones and the finish of a task, or the first point whose zone the task file can't
-/// say. A task that was read has at least three points.
-pub fn course_of(alloc: Global, task: &CupTask) -> Result<Course, Cause>
+/// The start, the zones and the finish of a task of at least three points, or the first point whose
+/// zone the task file can't say.
+pub fn course_of(alloc: Global, points: &[CupPoint]) -> Result<Course, Cause>
+    requires { 3 ≤ length points.now }
     ensures ok { IfOk result (λ course.
-        IsCourseOf task.now course.start course.zones.items course.finish) }
-    ensures no_fault { IfErr result IsNoFault }
+        IsCourseOf points.now course.start course.zones.items course.finish) }
+    ensures refused { IfErr result (IsNoCourse points.now) }
 {
-    let points = task.points.as_slice();
-    if points.len() < 3 {
-        return Err(Cause::Differs);
-    }
     let number = points.len() - 1;
-    let start = start_at(&points[0], &points[1])?;
+    let start = start_in(points)?;
     let zones = zones_of(alloc, points)?;
-    let finish = finish_at(&points[number - 1], &points[number], number)?;
+    let finish = finish_at(leg_at(points, number - 1), number)?;
     Ok(Course {
         start,
         zones,

@@ -2,6 +2,7 @@ use crate::entrant::Entrant;
 use gl_cup::Field;
 use gl_sphere::Grid;
 use gl_text::Items;
+use jiff_core::civil::Date;
 
 /// The kind of a task; the minimum of an area task in seconds, if it is known.
 #[derive(Clone, Copy, Debug, PartialEq, Eq)]
@@ -60,13 +61,12 @@ pub enum Finish {
 }
 
 /// All that is taken into a task file. What is left out is for the scorer to fill in, and so are
-/// the ends of the start and of the day.
+/// when the start opens and closes and the end of the day.
 #[derive(Debug, Drop)]
 pub struct Draft {
-    /// The day, as the number of days from 1970-01-01.
-    pub date: Option<i32>,
+    pub date: Option<Date>,
     pub kind: Kind,
-    /// When the start opens, in seconds of the day.
+    /// When the start opens, in seconds of the day, by a clock that isn't known.
     pub opens: Option<u32>,
     pub start: Start,
     pub zones: Items<Zone>,

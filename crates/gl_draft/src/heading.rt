@@ -1,63 +1,101 @@
+ghost use Rattle.std.specs.Prelude.{◌≡◌, ◌==◌, IfOk, option_map, position};
+ghost use Rattle.std.specs.Str.{byte};
+ghost use Rattle.gl_draft.specs.Heading.{has_form, is_headed, kept, letters_of, plain_text, said_in, said_in_line, value_of};
+
+use crate::plain::plain_text;
 use gl_desk::Name;
 use gl_text::{is_name, is_number, next_line};
 use std::alloc::{AllocError, Global};
-use std::str;
 
 /// What the H lines of a recording say of who flew.
-#[derive(Debug, Drop)]
-pub struct Heading {
-    /// The competition number, where one has its form.
-    pub number: Option<Name>,
-    /// The pilot's name, where one has its form.
-    pub name: Option<Name>,
+#[derive(Clone, Copy, Debug, PartialEq, Eq)]
+pub enum Said {
+    /// The competition number.
+    Number,
+    /// The pilot's name.
+    Pilot,
 }
 
-/// What an H line with three letters says behind its first colon, without blanks at its ends. None
-/// of another line, and where it is no text.
-fn value_of<'a>(line: &'a [u8], letters: &[u8]) -> Option<&'a str> {
-    if line.len() < 5 || line[0] != b'H' || &line[2..5] != letters {
-        return None;
+/// The three letters of the lines that say it.
+fn letters_of(what: Said) -> &'static [u8]
+    ensures { result.now ≡ letters_of what }
+{
+    match what {
+        Said::Number => b"CID",
+        Said::Pilot => b"PLT",
     }
-    let text = str::from_utf8(line).ok()?;
-    let (_, value) = text.split_once(':')?;
-    Some(value.trim())
 }
 
-/// The name of a text in a form; none where it hasn't that form.
-fn kept(alloc: Global, text: &str, has_form: bool) -> Result<Option<Name>, AllocError> {
-    if has_form {
-        Ok(Some(Name::from_text(alloc, text)?))
+/// Whether a text has the form.
+fn has_form(what: Said, text: &str) -> bool
+    ensures { result ≡ has_form what text.now }
+{
+    match what {
+        Said::Number => is_number(text),
+        Said::Pilot => is_name(text),
+    }
+}
+
+/// The text of some bytes, where it has the form.
+pub fn read_kept(alloc: Global, what: Said, bytes: &[u8]) -> Result<Option<Name>, AllocError>
+    ensures { IfOk result (λ name. name ≡ kept what (plain_text bytes.now)) }
+{
+    let text = plain_text(alloc, bytes)?;
+    if has_form(what, text.as_str()) {
+        Ok(Some(Name::from_text(alloc, text.as_str())?))
     } else {
         Ok(None)
     }
 }
 
-/// Takes what a line says of who flew.
-fn take_line(alloc: Global, heading: &mut Heading, line: &[u8]) -> Result<(), AllocError> {
-    if heading.number.is_none()
-        && let Some(text) = value_of(line, b"CID")
-    {
-        heading.number = kept(alloc, text, is_number(text))?;
-    }
-    if heading.name.is_none()
-        && let Some(text) = value_of(line, b"PLT")
-    {
-        heading.name = kept(alloc, text, is_name(text))?;
-    }
-    Ok(())
+/// Whether a line is an H line with three letters.
+fn is_headed(letters: &[u8], line: &[u8]) -> bool
+    ensures { result ≡ is_headed letters.now line.now }
+{
+    line.len() >= 5 && line[0] == b'H' && &line[2..5] == letters
 }
 
-/// What the H lines of a recording say of who flew: the first CID line and the first PLT line whose
-/// value has the form.
-pub fn read_heading(alloc: Global, text: &[u8]) -> Result<Heading, AllocError> {
-    let mut heading = Heading {
-        number: None,
-        name: None,
-    };
+/// Where the first colon of a line stands.
+fn colon_in(line: &[u8]) -> Option<usize>
+    ensures { result ≡ position (λ c. c == byte ":") line.now }
+{
+    line.iter().position(|byte| *byte == b':')
+}
+
+/// What an H line with three letters says behind its first colon. None of another line.
+#[tactic(auto, unfolding(crate::specs::Heading::value_of))]
+fn value_of<'a>(letters: &[u8], line: &'a [u8]) -> Option<&'a [u8]>
+    ensures { option_map (λ value. value.now) result ≡ value_of letters.now line.now }
+{
+    if !is_headed(letters, line) {
+        return None;
+    }
+    let colon = colon_in(line)?;
+    Some(&line[colon + 1..])
+}
+
+/// What a line says of who flew, where it has the form.
+fn said_in_line(alloc: Global, what: Said, line: &[u8]) -> Result<Option<Name>, AllocError>
+    ensures { IfOk result (λ name. name ≡ said_in_line what line.now) }
+{
+    match value_of(letters_of(what), line) {
+        Some(value) => read_kept(alloc, what, value),
+        None => Ok(None),
+    }
+}
+
+/// What a recording says of who flew: the first of its lines that says it in the form.
+#[tactic(auto, unfolding(crate::specs::Heading::said_in))]
+pub fn said_in(alloc: Global, what: Said, text: &[u8]) -> Result<Option<Name>, AllocError>
+    ensures { IfOk result (λ name. name ≡ said_in what text.now) }
+{
     let mut at = 0;
     'lines: while let Some(line) = next_line(text, at) {
-        take_line(alloc, &mut heading, &text[line.from..line.to])?;
+        let found = said_in_line(alloc, what, &text[line.from..line.to])?;
+        if found.is_some() {
+            return Ok(found);
+        }
         at = line.next;
     }
-    Ok(heading)
+    Ok(None)
 }

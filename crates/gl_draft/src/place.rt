@@ -1,14 +1,11 @@
-ghost use Rattle.std.specs.Prelude.{◌≡◌, ◌+◌, ◌≤◌, OnOk};
+ghost use Rattle.std.specs.Prelude.{◌≡◌, ◌+◌, ◌≤◌};
 ghost use Rattle.gl_sphere.specs.Range.{IsWithin};
 ghost use Rattle.gl_sphere.specs.Sphere.{half_turn, quarter_turn};
 ghost use Rattle.gl_draft.specs.Taken.{IsNear, IsNearPlace, distance_of};
 
 use gl_sphere::{Grid, dist, sq, vector};
-use std::alloc::{AllocError, Global};
 
-/// A degree and a thousandth of a minute, in 1/100,000 minute.
-const DEGREE: u32 = 6_000_000;
-
+/// A thousandth of a minute, in 1/100,000 minute.
 const THOUSANDTH: u32 = 100;
 
 /// The size at whole thousandths of a minute that is nearest to a size.
@@ -63,19 +60,4 @@ pub fn distance(one: Grid, other: Grid) -> u64
     ensures { result ≡ distance_of one other }
 {
     dist(sq(vector(one), vector(other)))
-}
-
-/// The text of a place at whole thousandths of a minute, as the task file has it.
-pub fn place_text(alloc: Global, place: Grid) -> Result<String, AllocError> {
-    let lat = place.lat.unsigned_abs();
-    let lon = place.lon.unsigned_abs();
-    let north = if place.lat < 0 { 'S' } else { 'N' };
-    let east = if place.lon < 0 { 'W' } else { 'E' };
-    let lat_degrees = lat / DEGREE;
-    let lat_minutes = lat % DEGREE / THOUSANDTH;
-    let lon_degrees = lon / DEGREE;
-    let lon_minutes = lon % DEGREE / THOUSANDTH;
-    format!(in alloc;
-        "\"{lat_degrees:02}{lat_minutes:05}{north}{lon_degrees:03}{lon_minutes:05}{east}\""
-    )
 }

@@ -1,18 +1,27 @@
+ghost use Rattle.std.specs.Prelude.{◌≡◌, ◌++◌, IfOk, OnOk, codes};
+ghost use Rattle.std.specs.Fmt.{decimal};
+ghost use Rattle.gl_draft.specs.Refusals.{cause_text, cup_text, file_text, pair_text, refusal_text};
+
 use crate::refusal::Cause;
 use gl_cup::CupError;
 use gl_desk::Name;
+use gl_task::Key;
 use gl_text::push_u64;
 use std::alloc::{AllocError, Global};
 
 /// Appends a number, a point and another number.
-fn push_pair(line: &mut Vec<u8>, one: u64, other: u64) -> Result<(), AllocError> {
+fn push_pair(line: &mut Vec<u8>, one: u64, other: u64) -> Result<(), AllocError>
+    ensures { OnOk result (line.new.items ≡ line.old.items ++ pair_text one other) }
+{
     push_u64(line, one)?;
-    line.push(b'.')?;
+    line.extend_from_slice(b".")?;
     push_u64(line, other)
 }
 
 /// Appends the number and the place of a text that gives no task.
-fn push_cup_error(line: &mut Vec<u8>, error: CupError) -> Result<(), AllocError> {
+fn push_cup_error(line: &mut Vec<u8>, error: CupError) -> Result<(), AllocError>
+    ensures { OnOk result (line.new.items ≡ line.old.items ++ cup_text error) }
+{
     match error {
         CupError::Row(n) => {
             line.extend_from_slice(b"CUP 1 ")?;
@@ -50,8 +59,20 @@ fn push_cup_error(line: &mut Vec<u8>, error: CupError) -> Result<(), AllocError>
     }
 }
 
+/// Appends a key of the task file.
+fn push_key(line: &mut Vec<u8>, key: Key) -> Result<(), AllocError>
+    ensures { OnOk result (line.new.items
+        ≡ line.old.items ++ pair_text key.row key.item ++ codes "." ++ decimal key.part) }
+{
+    push_pair(line, u64::from(key.row), u64::from(key.item))?;
+    line.extend_from_slice(b".")?;
+    push_u64(line, u64::from(key.part))
+}
+
 /// Appends what is refused, its number and its place.
-fn push_cause(line: &mut Vec<u8>, cause: Cause) -> Result<(), AllocError> {
+fn push_cause(line: &mut Vec<u8>, cause: Cause) -> Result<(), AllocError>
+    ensures { OnOk result (line.new.items ≡ line.old.items ++ cause_text cause) }
+{
     match cause {
         Cause::NotListed | Cause::NoRecording => line.extend_from_slice(b"FILE 1 -"),
         Cause::TooLarge => line.extend_from_slice(b"FILE 3 -"),
@@ -63,25 +84,33 @@ fn push_cause(line: &mut Vec<u8>, cause: Cause) -> Result<(), AllocError> {
         Cause::Task(number, key) => {
             line.extend_from_slice(b"TASK ")?;
             push_u64(line, u64::from(number))?;
-            line.push(b' ')?;
-            push_pair(line, u64::from(key.row), u64::from(key.item))?;
-            line.push(b'.')?;
-            push_u64(line, u64::from(key.part))
+            line.extend_from_slice(b" ")?;
+            push_key(line, key)
         }
         Cause::Differs => line.extend_from_slice(b"CUP 13 -"),
         Cause::Stopped(_) => Err(AllocError),
     }
 }
 
+/// Appends the file that is named.
+fn push_file(line: &mut Vec<u8>, file: &Name, cause: Cause) -> Result<(), AllocError>
+    ensures { OnOk result (line.new.items ≡ line.old.items ++ file_text file.now cause) }
+{
+    match cause {
+        Cause::NoRecording => line.extend_from_slice(b"*.IGC"),
+        _ => line.extend_from_slice(file.as_str().as_bytes()),
+    }
+}
+
 /// The line that a refused run says.
-pub fn refusal_line(alloc: Global, file: &Name, cause: Cause) -> Result<Vec<u8>, AllocError> {
+#[tactic(auto, unfolding(crate::specs::Refusals::refusal_text))]
+pub fn refusal_line(alloc: Global, file: &Name, cause: Cause) -> Result<Vec<u8>, AllocError>
+    ensures { IfOk result (λ line. line.items ≡ refusal_text file.now cause) }
+{
     let mut line = Vec::from_slice(alloc, b"REFUSED ")?;
     push_cause(&mut line, cause)?;
-    line.push(b' ')?;
-    match cause {
-        Cause::NoRecording => line.extend_from_slice(b"*.IGC")?,
-        _ => line.extend_from_slice(file.as_str().as_bytes())?,
-    }
-    line.push(b'\n')?;
+    line.extend_from_slice(b" ")?;
+    push_file(&mut line, file, cause)?;
+    line.extend_from_slice(b"\n")?;
     Ok(line)
 }

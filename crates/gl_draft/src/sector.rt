@@ -1,7 +1,7 @@
-ghost use Rattle.std.specs.Prelude.{◌≡◌, ◌+◌, ◌%◌, nat_lt, unsigned_abs, IfSome};
-ghost use Rattle.gl_sphere.specs.Sphere.{quarter_turn};
-ghost use Rattle.gl_draft.specs.Draft.{first_radial, second_radial};
-ghost use Rattle.gl_draft.specs.Sector.{IsAxisOf, IsOutside, IsWay, IsWayTo};
+ghost use Rattle.std.specs.Prelude.{◌≡◌, IfNone, IfSome};
+ghost use Rattle.gl_draft.specs.Bearing.{HasNoBearing};
+ghost use Rattle.gl_draft.specs.Draft.{first_radial, second_radial, turned_about};
+ghost use Rattle.gl_draft.specs.Sector.{HasNoAxis, HasNoOutside, HasNoWayBy, IsAxisOf, IsOutside, IsWay, IsWayTo, is_off_pole};
 
 use crate::angle::bearing;
 use crate::draft::Axis;
@@ -28,21 +28,22 @@ pub fn radials(middle: u32, half_angle: u32) -> (u32, u32)
 
 /// The opposite direction, in thousandths of a degree.
 pub fn turned_about(way: u32) -> u32
-    ensures { result ≡ (way + 180_000) % 360_000 }
+    ensures { result ≡ turned_about way }
 {
     ((u64::from(way) + WHOLE_TURN / 2) % WHOLE_TURN) as u32
 }
 
 /// Whether a place isn't a pole, nor becomes one when it is rounded.
 pub fn is_off_pole(place: Grid) -> bool
-    ensures { result ≡ nat_lt (unsigned_abs place.lat + 50) quarter_turn }
+    ensures { result ≡ is_off_pole place }
 {
     u64::from(place.lat.unsigned_abs()) + 50 < QUARTER_TURN
 }
 
 /// The direction from a place to another, in thousandths of a degree.
 fn way_to(from: Grid, to: Grid) -> Option<u32>
-    ensures { IfSome result (IsWayTo from to) }
+    ensures some { IfSome result (IsWayTo from to) }
+    ensures none { IfNone result (HasNoBearing from to) }
 {
     let angle = bearing(from, to)?;
     Some(thousandths(angle))
@@ -50,18 +51,22 @@ fn way_to(from: Grid, to: Grid) -> Option<u32>
 
 /// The direction that lies outside the turn at a point, in thousandths of a degree.
 fn way_outside(before: Grid, here: Grid, next: Grid) -> Option<u32>
-    ensures { IfSome result (IsOutside before here next) }
+    ensures some { IfSome result (IsOutside before here next) }
+    ensures none { IfNone result (HasNoOutside before here next) }
 {
     let back = bearing(here, before)?;
     let on = bearing(here, next)?;
-    let angle = outside(back, on)?;
-    Some(thousandths(angle))
+    match outside(back, on) {
+        Some(angle) => Some(thousandths(angle)),
+        None => None,
+    }
 }
 
 /// The direction that the style of a turn point's zone says, in thousandths of a degree. None where
 /// it isn't defined: between places that are one point or opposite ones, and outside no turn.
 fn way_of(turn: Turn<'_>) -> Option<u32>
-    ensures { IfSome result (IsWay turn.entry) }
+    ensures some { IfSome result (IsWay turn.entry) }
+    ensures none { IfNone result (HasNoWayBy turn.entry.here.now.zone.style turn.entry) }
 {
     let here = turn.here.place;
     match turn.here.zone.style {
@@ -76,7 +81,8 @@ fn way_of(turn: Turn<'_>) -> Option<u32>
 /// The axis of a sector at a turn point: it lies outside the turn where it is symmetrical. None
 /// where the direction isn't defined.
 pub fn axis_of(turn: Turn<'_>) -> Option<Axis>
-    ensures { IfSome result (IsAxisOf turn.entry) }
+    ensures some { IfSome result (IsAxisOf turn.entry) }
+    ensures none { IfNone result (HasNoAxis turn.entry) }
 {
     if !is_off_pole(turn.here.place) {
         return None;

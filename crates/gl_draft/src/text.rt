@@ -1,101 +1,90 @@
-ghost use Rattle.std.specs.Prelude.{◌≡◌, ◌≢◌, true, IfOk, IfErr, OnOk};
-ghost use Rattle.gl_task_file.specs.Reading.{IsReadFrom, IsRefusalOf};
-ghost use Rattle.gl_task_file.specs.declared.error.TaskError.TheVariants.{Memory};
-ghost use Rattle.gl_draft.specs.Causes.{IsNoFault};
-ghost use Rattle.gl_draft.specs.Draft.{HasDraft, IsDraftText, IsNoTask};
-ghost use Rattle.gl_draft.specs.Line.{filled_text, is_open};
-ghost use Rattle.std.specs.List.{list_any};
+ghost use Rattle.std.specs.Prelude.{◌≡◌, [], IfOk, IfErr, OnOk, true, false};
+ghost use Rattle.gl_task_file.specs.Reading.{IsReadFrom};
+ghost use Rattle.gl_draft.specs.Code.Text.{HasTask};
+ghost use Rattle.gl_draft.specs.Draft.{AreLinesOf, IsDraftText, IsNoDraft, IsNoTask, has_draft};
+ghost use Rattle.gl_draft.specs.Line.{filled_text, marked_text};
 
 use crate::comparison::has_draft;
 use crate::draft::Draft;
-use crate::line::{Line, any_open, filled_text, marked_text};
+use crate::line::{Filling, Line, text_with};
+use crate::lines::Lines;
 use crate::refusal::Cause;
-use crate::way::{say_day, say_entrant, say_finish, say_start, say_zone};
+use crate::way::say_draft;
 use gl_task::Task;
 use gl_task_file::{TaskError, read_task};
 use std::alloc::{AllocError, Global};
 
-/// The lines of a draft, behind some that are there.
-fn push_lines(alloc: Global, lines: &mut Vec<Line>, draft: &Draft) -> Result<(), AllocError> {
-    say_day(alloc, lines, draft)?;
-    say_start(alloc, lines, draft.start, draft.opens)?;
-    for zone in draft.zones.as_slice() {
-        say_zone(alloc, lines, zone)?;
-    }
-    say_finish(alloc, lines, draft.finish)?;
-    for (n, entrant) in draft.entrants.as_slice().iter().enumerate() {
-        say_entrant(alloc, lines, entrant, n)?;
-    }
-    Ok(())
-}
-
-/// The task that the lines are once they are filled in with the values on trial, where it has all
-/// that was taken.
-fn filled_task(alloc: Global, lines: &[Line], draft: &Draft) -> Result<Task, Cause>
-    ensures reads { IfOk result (λ task. IsReadFrom (filled_text lines.now) task) }
-    ensures has { IfOk result (λ task. HasDraft draft.now task) }
-    ensures no_fault { IfErr result IsNoFault }
+/// Tests that a task has all that was taken.
+fn test_task(task: &Task, draft: &Draft) -> Result<(), Cause>
+    ensures ok { OnOk result (has_draft draft.now task.now ≡ true) }
+    ensures refused { IfErr result (λ why.
+        (has_draft draft.now task.now ≡ false) × (why ≡ Cause.Differs)) }
 {
-    let text = filled_text(alloc, lines)?;
-    let task = read_task(alloc, &text)?;
-    if has_draft(draft, &task) {
-        Ok(task)
+    if has_draft(draft, task) {
+        Ok(())
     } else {
         Err(Cause::Differs)
     }
 }
 
-/// Why a text gives no task.
-fn wrong_in(alloc: Global, text: &[u8]) -> Result<TaskError, Cause>
-    ensures known { IfOk result (λ wrong. wrong ≢ Memory) }
-    ensures refused { IfOk result (λ wrong. IsRefusalOf text.now wrong) }
-    ensures no_fault { IfErr result IsNoFault }
+/// The task that lines say, filled in with some values.
+fn filled_task(alloc: Global, lines: &[Line], draft: &Draft) -> Result<Task, Cause>
+    requires { AreLinesOf draft.now lines.now }
+    ensures ok { IfOk result (IsReadFrom (filled_text lines.now)) }
+    ensures refused { IfErr result (IsNoDraft draft.now) }
 {
-    match read_task(alloc, text) {
-        Ok(_) => Err(Cause::Differs),
-        Err(TaskError::Memory) => Err(Cause::from(AllocError)),
-        Err(wrong) => Ok(wrong),
+    let text = text_with(alloc, Filling::Trial, lines)?;
+    match read_task(alloc, &text) {
+        Ok(task) => Ok(task),
+        Err(wrong) => Err(Cause::from(wrong)),
     }
 }
 
-/// Tests that a text with a mark in it gives no task.
-fn test_marked(alloc: Global, text: &[u8]) -> Result<(), Cause>
-    ensures ok { OnOk result (IsNoTask text.now) }
-    ensures no_fault { IfErr result IsNoFault }
+/// Tests that lines, filled in with some values, read as a task that has all that was taken.
+fn test_filled(alloc: Global, lines: &[Line], draft: &Draft) -> Result<(), Cause>
+    requires { AreLinesOf draft.now lines.now }
+    ensures ok { OnOk result (HasTask draft.now lines.now) }
+    ensures refused { IfErr result (IsNoDraft draft.now) }
 {
-    let _wrong = wrong_in(alloc, text)?;
-    Ok(())
+    let task = filled_task(alloc, lines, draft)?;
+    match test_task(&task, draft) {
+        Ok(()) => Ok(()),
+        Err(cause) => Err(cause),
+    }
 }
 
-/// Tests that a text gives no task where one of its lines is left to fill in.
-fn test_text(alloc: Global, lines: &[Line], text: &[u8]) -> Result<(), Cause>
-    ensures ok { OnOk result (list_any is_open lines.now ≡ true → IsNoTask text.now) }
-    ensures no_fault { IfErr result IsNoFault }
+/// The text of lines with the marks, which gives no task.
+fn marked(alloc: Global, lines: &[Line], draft: &Draft) -> Result<Vec<u8>, Cause>
+    requires { AreLinesOf draft.now lines.now }
+    ensures ok { IfOk result (λ text.
+        (text.items ≡ marked_text lines.now) × IsNoTask text.items) }
+    ensures refused { IfErr result (IsNoDraft draft.now) }
 {
-    if any_open(lines) {
-        test_marked(alloc, text)
-    } else {
-        Ok(())
+    let text = text_with(alloc, Filling::Mark, lines)?;
+    match read_task(alloc, &text) {
+        Ok(_task) => Err(Cause::Differs),
+        Err(TaskError::Memory) => Err(Cause::from(AllocError)),
+        Err(_) => Ok(text),
     }
 }
 
 /// The text of lines, where it is the text of a draft.
 fn tested_text(alloc: Global, lines: &[Line], draft: &Draft) -> Result<Vec<u8>, Cause>
+    requires { AreLinesOf draft.now lines.now }
     ensures ok { IfOk result (λ text. IsDraftText draft.now text.items) }
-    ensures no_fault { IfErr result IsNoFault }
+    ensures refused { IfErr result (IsNoDraft draft.now) }
 {
-    let _task = filled_task(alloc, lines, draft)?;
-    let text = marked_text(alloc, lines)?;
-    test_text(alloc, lines, &text)?;
-    Ok(text)
+    test_filled(alloc, lines, draft)?;
+    marked(alloc, lines, draft)
 }
 
 /// The text of a task file for what was taken, behind some lines of remarks.
-pub fn draft_text(alloc: Global, remarks: Vec<Line>, draft: &Draft) -> Result<Vec<u8>, Cause>
+pub fn draft_text(alloc: Global, remarks: Lines, draft: &Draft) -> Result<Vec<u8>, Cause>
+    requires { remarks ≡ [] }
     ensures ok { IfOk result (λ text. IsDraftText draft.now text.items) }
-    ensures no_fault { IfErr result IsNoFault }
+    ensures refused { IfErr result (IsNoDraft draft.now) }
 {
     let mut lines = remarks;
-    push_lines(alloc, &mut lines, draft)?;
-    tested_text(alloc, &lines, draft)
+    say_draft(alloc, &mut lines, draft)?;
+    tested_text(alloc, lines.as_slice(), draft)
 }

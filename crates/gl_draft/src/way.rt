@@ -1,123 +1,106 @@
+ghost use Rattle.std.specs.Prelude.{◌≡◌, ◌++◌, ◌∷◌, [], OnOk, slice_index};
+ghost use Rattle.std.specs.List.{flat_map};
+ghost use Rattle.gl_draft.specs.declared.line.Line.TheVariants as line;
+ghost use Rattle.gl_draft.specs.declared.value.Value.TheVariants as value;
+ghost use Rattle.gl_draft.specs.Draft.{amount_or_open, axis_lines, course_lines, date_lines, day_lines, entrant_lines, entrants_lines, finish_lines, kind_lines, lines_of, number_line, part_lines, radials_about, second_lines, start_lines, zone_lines};
+
 use crate::draft::{Axis, Draft, Finish, Kind, Part, Sector, Start, Zone};
 use crate::entrant::Entrant;
-use crate::line::Line;
-use crate::place::place_text;
-use crate::quoted::{quoted, remark};
+use crate::lines::Lines;
+use crate::plain::plain_text;
 use crate::sector::{radials, turned_about};
+use crate::value::Value;
+use crate::word::{Key, Section};
+use gl_desk::Name;
 use jiff_core::civil::Date;
 use std::alloc::{AllocError, Global};
 
-/// Appends a whole line.
-pub fn say(lines: &mut Vec<Line>, line: String) -> Result<(), AllocError> {
-    lines.push(Line::Said(line))?;
-    Ok(())
-}
-
-/// Appends a whole line that is known.
-fn say_text(alloc: Global, lines: &mut Vec<Line>, line: &str) -> Result<(), AllocError> {
-    say(lines, String::from_str(alloc, line)?)
-}
-
 /// Appends a key with a number.
-fn say_number(
-    alloc: Global,
-    lines: &mut Vec<Line>,
-    key: &str,
-    number: u32,
-) -> Result<(), AllocError> {
-    say(lines, format!(in alloc; "{key} = {number}")?)
+fn say_amount(lines: &mut Lines, key: Key, n: u32) -> Result<(), AllocError>
+    ensures { OnOk result (lines.new ≡ lines.old ++ line.Said key (value.Amount n) ∷ []) }
+{
+    lines.say(key, Value::Amount(n))
 }
 
-/// Appends a key whose value is left to fill in, and a value on trial.
-fn ask(alloc: Global, lines: &mut Vec<Line>, key: &str, trial: &str) -> Result<(), AllocError> {
-    lines.push(Line::Open {
-        key: String::from_str(alloc, key)?,
-        trial: String::from_str(alloc, trial)?,
-    })?;
-    Ok(())
+/// Appends a key with a text.
+fn say_text(alloc: Global, lines: &mut Lines, key: Key, text: &Name) -> Result<(), AllocError>
+    ensures { OnOk result (lines.new ≡ lines.old ++ line.Said key (value.Text text.now) ∷ []) }
+{
+    lines.say(key, Value::Text(Name::from_text(alloc, text.as_str())?))
 }
 
-/// Appends a key with a number, or left to fill in.
-fn say_or_ask(
-    alloc: Global,
-    lines: &mut Vec<Line>,
-    key: &str,
-    number: Option<u32>,
-    trial: &str,
-) -> Result<(), AllocError> {
-    match number {
-        Some(number) => say_number(alloc, lines, key, number),
-        None => ask(alloc, lines, key, trial),
-    }
-}
-
-/// The text of a day, if it is one of the calendar.
-fn date_text(alloc: Global, day: i32) -> Result<Option<String>, AllocError> {
-    match Date::from_unix_epoch_day(i64::from(day)) {
-        Ok(date) => {
-            let year = date.year;
-            let month = date.month;
-            let day = date.day;
-            Ok(Some(format!(in alloc; "date = \"{year:04}-{month:02}-{day:02}\"")?))
-        }
-        Err(_) => Ok(None),
-    }
-}
-
-/// Appends the keys of the day.
-pub fn say_day(alloc: Global, lines: &mut Vec<Line>, draft: &Draft) -> Result<(), AllocError> {
-    let date = match draft.date {
-        Some(day) => date_text(alloc, day)?,
-        None => None,
-    };
+/// Appends the day.
+fn say_date(lines: &mut Lines, date: Option<Date>) -> Result<(), AllocError>
+    ensures { OnOk result (lines.new ≡ lines.old ++ date_lines date) }
+{
     match date {
-        Some(date) => say(lines, date)?,
-        None => ask(alloc, lines, "date", "\"2000-01-01\"")?,
-    }
-    match draft.kind {
-        Kind::Racing => say_text(alloc, lines, "kind = \"racing\"")?,
-        Kind::Area { minimum } => {
-            say_text(alloc, lines, "kind = \"area\"")?;
-            say_or_ask(alloc, lines, "minimum", minimum, "1")?;
+        Some(day) => lines.say(Key::Date, Value::Day(day)),
+        None => {
+            lines.note("the day, such as \"2026-07-18\"")?;
+            lines.ask(Key::Date, 0)
         }
     }
-    say_text(
-        alloc,
-        lines,
-        "# the last second of the day that counts, from midnight UTC",
+}
+
+/// Appends the minimum of an area task.
+fn say_minimum(lines: &mut Lines, minimum: Option<u32>) -> Result<(), AllocError>
+    ensures { OnOk result (lines.new ≡ lines.old ++ amount_or_open Key.Minimum minimum) }
+{
+    lines.note("the least time in seconds: 3 hours are 10800")?;
+    match minimum {
+        Some(seconds) => say_amount(lines, Key::Minimum, seconds),
+        None => lines.ask(Key::Minimum, 0),
+    }
+}
+
+/// Appends the kind.
+fn say_kind(lines: &mut Lines, kind: Kind) -> Result<(), AllocError>
+    ensures { OnOk result (lines.new ≡ lines.old ++ kind_lines kind) }
+{
+    match kind {
+        Kind::Racing => lines.say(Key::Kind, Value::Racing),
+        Kind::Area { minimum } => {
+            lines.say(Key::Kind, Value::Area)?;
+            say_minimum(lines, minimum)
+        }
+    }
+}
+
+/// Appends a remark with what the SeeYou file says of the opening.
+fn note_opening(alloc: Global, lines: &mut Lines, opens: Option<u32>) -> Result<(), AllocError>
+    ensures { OnOk result (lines.new ≡ lines.old) }
+{
+    let Some(seconds) = opens else {
+        return Ok(());
+    };
+    let hours = seconds / 3_600;
+    let minutes = seconds / 60 % 60;
+    let rest = seconds % 60;
+    let text = format!(in alloc;
+        "the SeeYou file has {hours:02}:{minutes:02}:{rest:02}: as UTC that is {seconds}; convert local time first"
     )?;
-    ask(alloc, lines, "closes", "100000")
+    lines.note(text.as_str())
 }
 
-/// Appends a key with a place.
-fn say_place(
+/// Appends the start. When it opens and closes is left to fill in.
+fn say_start(
     alloc: Global,
-    lines: &mut Vec<Line>,
-    key: &str,
-    place: gl_sphere::Grid,
-) -> Result<(), AllocError> {
-    let text = place_text(alloc, place)?;
-    say(lines, format!(in alloc; "{key} = {text}")?)
-}
-
-/// Appends the start.
-pub fn say_start(
-    alloc: Global,
-    lines: &mut Vec<Line>,
+    lines: &mut Lines,
     start: Start,
     opens: Option<u32>,
-) -> Result<(), AllocError> {
-    say_text(alloc, lines, "\n[start]")?;
-    say_place(alloc, lines, "at", start.at)?;
-    say_place(alloc, lines, "towards", start.towards)?;
-    say_number(alloc, lines, "half", start.half)?;
-    say_text(
-        alloc,
-        lines,
-        "# the first and the last second of the start, from midnight UTC",
-    )?;
-    say_or_ask(alloc, lines, "open", opens, "0")?;
-    ask(alloc, lines, "close", "100000")
+) -> Result<(), AllocError>
+    ensures { OnOk result (lines.new ≡ lines.old ++ start_lines start) }
+{
+    lines.gap()?;
+    lines.head(Section::Start)?;
+    lines.say(Key::At, Value::Place(start.at))?;
+    lines.say(Key::Towards, Value::Place(start.towards))?;
+    say_amount(lines, Key::Half, start.half)?;
+    lines.note("the start opens, in seconds from midnight UTC: 11:30 UTC is 41400")?;
+    note_opening(alloc, lines, opens)?;
+    lines.ask(Key::Opening, 0)?;
+    lines.note("the start closes: 12:00 UTC is 43200")?;
+    lines.ask(Key::Close, 0)
 }
 
 /// An angle in degrees, by its thousandths.
@@ -129,138 +112,242 @@ fn degrees(alloc: Global, thousandths: u32) -> Result<String, AllocError> {
 
 /// Appends how far the rounding of a direction moves the edge of a sector at its radius, at most. A
 /// direction is rounded by at most 0.00051 degrees, which are 891 centimetres in a million metres.
-fn say_rounding(alloc: Global, lines: &mut Vec<Line>, outer: u32) -> Result<(), AllocError> {
+fn note_rounding(alloc: Global, lines: &mut Lines, outer: u32) -> Result<(), AllocError>
+    ensures { OnOk result (lines.new ≡ lines.old) }
+{
     let centimetres = (u64::from(outer) * 891).div_ceil(1_000_000);
     let metres = centimetres / 100;
     let rest = centimetres % 100;
-    let line = format!(in alloc;
-        "# directions are rounded by at most 0.00051 degrees, {metres}.{rest:02} m at the radius"
+    let text = format!(in alloc;
+        "directions are rounded by at most 0.00051 degrees, {metres}.{rest:02} m at the radius"
     )?;
-    say(lines, line)
+    lines.note(text.as_str())
 }
 
 /// Appends the two radials of a sector that lies about a direction.
 fn say_radials(
     alloc: Global,
-    lines: &mut Vec<Line>,
+    lines: &mut Lines,
     middle: u32,
     half_angle: u32,
-) -> Result<(), AllocError> {
+) -> Result<(), AllocError>
+    ensures { OnOk result (lines.new ≡ lines.old ++ axis_lines (Axis.About middle) half_angle) }
+{
     let (from, to) = radials(middle, half_angle);
     let half = degrees(alloc, half_angle)?;
     let about = degrees(alloc, middle)?;
-    let line = format!(in alloc; "# outside the turn: {half} degrees to each side of {about}")?;
-    say(lines, line)?;
-    say_number(alloc, lines, "from", from)?;
-    say_number(alloc, lines, "to", to)
+    let text = format!(in alloc; "outside the turn: {half} degrees to each side of {about}")?;
+    lines.note(text.as_str())?;
+    say_amount(lines, Key::From, from)?;
+    say_amount(lines, Key::To, to)
 }
 
-/// Appends a remark with the two radials of a sector, if it lies about a direction.
-fn note_radials(
-    alloc: Global,
-    lines: &mut Vec<Line>,
-    middle: u32,
-    half_angle: u32,
-) -> Result<(), AllocError> {
+/// Appends the radials that a sector has if it lies about a direction.
+fn offer_radials(lines: &mut Lines, middle: u32, half_angle: u32) -> Result<(), AllocError>
+    ensures { OnOk result (lines.new ≡ lines.old ++ radials_about middle half_angle ∷ []) }
+{
     let (from, to) = radials(middle, half_angle);
-    let about = degrees(alloc, middle)?;
-    let line = format!(in alloc; "# if it lies about {about}: from = {from}, to = {to}")?;
-    say(lines, line)
+    lines.offer(middle, from, to)
 }
 
 /// Appends the two radials of a sector that lies about a direction or the opposite one, left to
-/// fill in, with remarks that say both.
+/// fill in, below remarks that say both.
 fn ask_radials(
     alloc: Global,
-    lines: &mut Vec<Line>,
+    lines: &mut Lines,
     middle: u32,
     half_angle: u32,
-) -> Result<(), AllocError> {
+) -> Result<(), AllocError>
+    ensures { OnOk result (lines.new ≡ lines.old ++ axis_lines (Axis.Either middle) half_angle) }
+{
     let half = degrees(alloc, half_angle)?;
-    let line = format!(in alloc;
-        "# {half} degrees to each side, but of which direction? Programs differ: look at the map."
+    let text = format!(in alloc;
+        "{half} degrees to each side, but of which direction? Programs differ: look at the map."
     )?;
-    say(lines, line)?;
-    note_radials(alloc, lines, middle, half_angle)?;
-    note_radials(alloc, lines, turned_about(middle), half_angle)?;
-    ask(alloc, lines, "from", "0")?;
-    ask(alloc, lines, "to", "0")
+    lines.note(text.as_str())?;
+    offer_radials(lines, middle, half_angle)?;
+    offer_radials(lines, turned_about(middle), half_angle)?;
+    lines.ask(Key::From, 0)?;
+    lines.ask(Key::To, 0)
 }
 
-/// Appends a sector.
-fn say_sector(alloc: Global, lines: &mut Vec<Line>, sector: Sector) -> Result<(), AllocError> {
-    say_number(alloc, lines, "outer", sector.outer)?;
-    say_rounding(alloc, lines, sector.outer)?;
-    match sector.axis {
-        Axis::About(middle) => say_radials(alloc, lines, middle, sector.half_angle),
-        Axis::Either(middle) => ask_radials(alloc, lines, middle, sector.half_angle),
+/// Appends which way a sector lies.
+fn say_axis(alloc: Global, lines: &mut Lines, axis: Axis, half_angle: u32) -> Result<(), AllocError>
+    ensures { OnOk result (lines.new ≡ lines.old ++ axis_lines axis half_angle) }
+{
+    match axis {
+        Axis::About(middle) => say_radials(alloc, lines, middle, half_angle),
+        Axis::Either(middle) => ask_radials(alloc, lines, middle, half_angle),
     }
 }
 
 /// Appends a part of a zone.
-fn say_part(alloc: Global, lines: &mut Vec<Line>, part: Part) -> Result<(), AllocError> {
-    say_text(alloc, lines, "[[zone.part]]")?;
+fn say_part(alloc: Global, lines: &mut Lines, part: Part) -> Result<(), AllocError>
+    ensures { OnOk result (lines.new ≡ lines.old ++ part_lines part) }
+{
+    lines.head(Section::Part)?;
     match part {
-        Part::Circle(radius) => say_number(alloc, lines, "radius", radius),
-        Part::Sector(sector) => say_sector(alloc, lines, sector),
+        Part::Circle(radius) => say_amount(lines, Key::Radius, radius),
+        Part::Sector(
+            Sector {
+                outer,
+                half_angle,
+                axis,
+            },
+        ) => {
+            say_amount(lines, Key::Outer, outer)?;
+            note_rounding(alloc, lines, outer)?;
+            say_axis(alloc, lines, axis, half_angle)
+        }
     }
 }
 
-/// Appends a zone.
-pub fn say_zone(alloc: Global, lines: &mut Vec<Line>, zone: &Zone) -> Result<(), AllocError> {
-    say_text(alloc, lines, "")?;
-    say(lines, remark(alloc, zone.name.as_slice())?)?;
-    say_text(alloc, lines, "[[zone]]")?;
-    say_place(alloc, lines, "at", zone.at)?;
-    say_part(alloc, lines, zone.part)?;
-    match zone.second {
+/// Appends the second part of a zone, if it has one.
+fn say_second(alloc: Global, lines: &mut Lines, part: Option<Part>) -> Result<(), AllocError>
+    ensures { OnOk result (lines.new ≡ lines.old ++ second_lines part) }
+{
+    match part {
         Some(part) => say_part(alloc, lines, part),
         None => Ok(()),
     }
 }
 
+/// Appends a remark with the name of a zone.
+fn note_name(alloc: Global, lines: &mut Lines, name: &[u8]) -> Result<(), AllocError>
+    ensures { OnOk result (lines.new ≡ lines.old) }
+{
+    let text = plain_text(alloc, name)?;
+    lines.note(text.as_str())
+}
+
+/// Appends a zone.
+fn say_zone(alloc: Global, lines: &mut Lines, zone: &Zone) -> Result<(), AllocError>
+    ensures { OnOk result (lines.new ≡ lines.old ++ zone_lines zone.now) }
+{
+    lines.gap()?;
+    note_name(alloc, lines, zone.name.as_slice())?;
+    lines.head(Section::Zone)?;
+    lines.say(Key::At, Value::Place(zone.at))?;
+    say_part(alloc, lines, zone.part)?;
+    say_second(alloc, lines, zone.second)
+}
+
+/// Appends zones.
+fn say_zones(alloc: Global, lines: &mut Lines, zones: &[Zone]) -> Result<(), AllocError>
+    ensures { OnOk result (lines.new ≡ lines.old ++ flat_map zone_lines zones.now) }
+{
+    'zones: for zone in zones {
+        say_zone(alloc, lines, zone)?;
+    }
+    Ok(())
+}
+
 /// Appends the finish.
-pub fn say_finish(alloc: Global, lines: &mut Vec<Line>, finish: Finish) -> Result<(), AllocError> {
-    say_text(alloc, lines, "\n[finish]")?;
+fn say_finish(lines: &mut Lines, finish: Finish) -> Result<(), AllocError>
+    ensures { OnOk result (lines.new ≡ lines.old ++ finish_lines finish) }
+{
+    lines.gap()?;
+    lines.head(Section::Finish)?;
     match finish {
         Finish::Ring { at, radius } => {
-            say_place(alloc, lines, "at", at)?;
-            say_number(alloc, lines, "ring", radius)
+            lines.say(Key::At, Value::Place(at))?;
+            say_amount(lines, Key::Ring, radius)
         }
         Finish::Gate { at, towards, half } => {
-            say_place(alloc, lines, "at", at)?;
-            say_number(alloc, lines, "half", half)?;
-            say_text(
-                alloc,
-                lines,
-                "# straight on from the last turn point, on the far side of the earth from it",
+            lines.say(Key::At, Value::Place(at))?;
+            say_amount(lines, Key::Half, half)?;
+            lines.note(
+                "straight on from the last turn point, on the far side of the earth from it",
             )?;
-            say_place(alloc, lines, "towards", towards)
+            lines.say(Key::Towards, Value::Place(towards))
         }
     }
 }
 
-/// Appends an entrant, the n-th.
-pub fn say_entrant(
+/// Appends the local rules, which are left out.
+fn say_rules(lines: &mut Lines) -> Result<(), AllocError>
+    ensures { OnOk result (lines.new ≡ lines.old ++ line.Head Section.Rules ∷ []) }
+{
+    lines.gap()?;
+    lines.head(Section::Rules)?;
+    lines.note("local rules go here, such as: ceiling = 1900")
+}
+
+/// Appends the number of an entrant, the n-th.
+fn say_number(
     alloc: Global,
-    lines: &mut Vec<Line>,
-    entrant: &Entrant,
-    n: usize,
-) -> Result<(), AllocError> {
-    say_text(alloc, lines, "\n[[entrant]]")?;
-    match &entrant.number {
-        Some(number) => {
-            let number = quoted(alloc, number.as_str())?;
-            say(lines, format!(in alloc; "number = {number}")?)?;
-        }
-        None => {
-            let trial = format!(in alloc; "\"TRIAL{n}\"")?;
-            ask(alloc, lines, "number", trial.as_str())?;
-        }
+    lines: &mut Lines,
+    number: &Option<Name>,
+    n: u64,
+) -> Result<(), AllocError>
+    ensures { OnOk result (lines.new ≡ lines.old ++ number_line n number.now ∷ []) }
+{
+    match number {
+        Some(number) => say_text(alloc, lines, Key::Number, number),
+        None => lines.ask(Key::Number, n),
     }
-    let name = quoted(alloc, entrant.name.as_str())?;
-    let file = quoted(alloc, entrant.file.as_str())?;
-    say(lines, format!(in alloc; "name = {name}")?)?;
-    say_text(alloc, lines, "handicap = 1000")?;
-    say(lines, format!(in alloc; "file = {file}")?)
+}
+
+/// Appends an entrant, the n-th.
+fn say_entrant(
+    alloc: Global,
+    lines: &mut Lines,
+    entrant: &Entrant,
+    n: u64,
+) -> Result<(), AllocError>
+    ensures { OnOk result (lines.new ≡ lines.old ++ entrant_lines n entrant.now) }
+{
+    lines.gap()?;
+    lines.head(Section::Entrant)?;
+    say_number(alloc, lines, &entrant.number, n)?;
+    say_text(alloc, lines, Key::Name, &entrant.name)?;
+    say_amount(lines, Key::Handicap, 1_000)?;
+    say_text(alloc, lines, Key::File, &entrant.file)
+}
+
+/// Appends entrants.
+fn say_entrants(alloc: Global, lines: &mut Lines, entrants: &[Entrant]) -> Result<(), AllocError>
+    ensures { OnOk result (lines.new ≡ lines.old ++ entrants_lines 0 entrants.now) }
+{
+    let mut n: u64 = 0;
+    let mut left = entrants;
+    'entrants: while let Some((entrant, rest)) = left.split_first() {
+        say_entrant(alloc, lines, entrant, n)?;
+        n += 1;
+        left = rest;
+    }
+    Ok(())
+}
+
+/// Appends the lines of the day itself.
+#[tactic(auto, unfolding(crate::specs::Draft::day_lines))]
+fn say_day(lines: &mut Lines, date: Option<Date>, kind: Kind) -> Result<(), AllocError>
+    ensures { OnOk result (lines.new ≡ lines.old ++ day_lines date kind) }
+{
+    say_date(lines, date)?;
+    say_kind(lines, kind)?;
+    lines.note("the last second of the day that counts, from midnight UTC: 20:00 UTC is 72000")?;
+    lines.ask(Key::Closes, 0)?;
+    lines.note("a file of airspace goes here, such as: airspace = \"AIRSPACE.TXT\"")
+}
+
+/// Appends the start, the zones and the finish.
+#[tactic(auto, unfolding(crate::specs::Draft::course_lines))]
+fn say_course(alloc: Global, lines: &mut Lines, draft: &Draft) -> Result<(), AllocError>
+    ensures { OnOk result (lines.new
+        ≡ lines.old ++ course_lines draft.now.start draft.now.zones draft.now.finish) }
+{
+    say_start(alloc, lines, draft.start, draft.opens)?;
+    say_zones(alloc, lines, draft.zones.as_slice())?;
+    say_finish(lines, draft.finish)
+}
+
+/// Appends all lines of a draft.
+pub fn say_draft(alloc: Global, lines: &mut Lines, draft: &Draft) -> Result<(), AllocError>
+    ensures { OnOk result (lines.new ≡ lines.old ++ lines_of draft.now) }
+{
+    say_day(lines, draft.date, draft.kind)?;
+    say_course(alloc, lines, draft)?;
+    say_rules(lines)?;
+    say_entrants(alloc, lines, draft.entrants.as_slice())
 }

@@ -1,6 +1,6 @@
 ghost use Rattle.std.specs.Prelude.{◌≡◌, option_map};
 ghost use Rattle.gl_draft.specs.Code.Run.{asked_by};
-ghost use Rattle.gl_draft.specs.Words.{file_alone, number_in, pair_of, words_of};
+ghost use Rattle.gl_draft.specs.Words.{file_alone, is_file, number_in, pair_of, words_of};
 
 use gl_desk::Name;
 use gl_text::is_file_name;
@@ -26,11 +26,18 @@ fn number_in(word: &[u8]) -> Option<u32>
     gl_text::read_digits(word)
 }
 
+/// Whether a word is the name of a file, and no option.
+fn is_file(word: &Name) -> bool
+    ensures { result ≡ is_file word.now }
+{
+    is_file_name(word.as_str()) && !word.as_str().as_bytes().starts_with(b"--")
+}
+
 /// A file and the number of its task.
 fn read_pair<'a>(file: &'a Name, number: &Name) -> Option<Words<'a>>
     ensures { option_map asked_by result ≡ pair_of file.now number.now }
 {
-    if !is_file_name(file.as_str()) {
+    if !is_file(file) {
         return None;
     }
     let task = number_in(number.as_str().as_bytes())?;
@@ -44,7 +51,7 @@ fn read_pair<'a>(file: &'a Name, number: &Name) -> Option<Words<'a>>
 fn read_file(file: &Name) -> Option<Words<'_>>
     ensures { option_map asked_by result ≡ file_alone file.now }
 {
-    if is_file_name(file.as_str()) {
+    if is_file(file) {
         Some(Words { file, task: None })
     } else {
         None

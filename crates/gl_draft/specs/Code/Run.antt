@@ -1,37 +1,52 @@
 -- What the code is asked for and finds in a run, and what stops it.
-use Rattle.std.specs.Prelude.{Option, None, Some, Result, Ok, Err, ℕ, List, ◌≡◌}
-use Rattle.gl_desk.specs.Desk.{FilesByName}
+use Rattle.std.specs.Prelude.{Option, None, Some, Result, Ok, Err, ℕ, List, ◌≡◌, ◌≤◌, length}
+use Rattle.gl_cup.specs.Refusal.{IsRefusalOf}
+use Rattle.gl_cup.specs.declared.error.CupError.{CupError}
+use Rattle.gl_desk.specs.Desk.{FilesByName, IsSeenIn}
+use Rattle.gl_desk.specs.Limits.{most_bytes}
 use Rattle.gl_desk.specs.declared.error.DeskError.{DeskError}
-use Rattle.gl_draft.specs.Causes.{stop_at}
-use Rattle.gl_draft.specs.Run.{IsMadeFor}
+use Rattle.gl_draft.specs.Causes.{cause_of_cup, stop_at, stop_of_cause}
+use Rattle.gl_draft.specs.Run.{IsAnswer, IsRefusedWith}
+use Rattle.gl_draft.specs.Taken.{IsMade}
+use Rattle.gl_draft.specs.declared.answer.Status as code_status
+use Rattle.gl_draft.specs.declared.answer.Status.TheVariants as status
 use Rattle.gl_draft.specs.Words.{Asked}
-use Rattle.gl_draft.specs.declared.answer.Status.TheVariants.{Done}
 use Rattle.gl_draft.specs.declared.command.Answer as code_answer
 use Rattle.gl_draft.specs.declared.refusal.Cause as code_cause
-use Rattle.gl_draft.specs.declared.refusal.Cause.TheVariants as cause
 use Rattle.gl_draft.specs.declared.words.Words as code_words
 
--- what stopped the making of a task file, if something did
-abbrev pub stop_of_cause : code_cause.Cause → Option DeskError
-stop_of_cause cause.NotListed = None
-stop_of_cause cause.TooLarge = None
-stop_of_cause cause.NoRecording = None
-stop_of_cause (cause.Cup error) = None
-stop_of_cause (cause.Shape line point) = None
-stop_of_cause (cause.Task number key) = None
-stop_of_cause cause.Differs = None
-stop_of_cause (cause.Stopped stop) = Some stop
-
+-- what stopped a call, if something did
 abbrev pub stop_in : {X : Type 0} → Result X code_cause.Cause → Option DeskError
 stop_in (Ok x) = None
 stop_in (Err why) = stop_of_cause why
 
--- an answer stops nothing; where the run is done, it is the text of a task file that is made for
--- the words
-pub record IsAnswer (folder : Option FilesByName) (words : List (List ℕ))
+-- an answer of a run that nothing stopped
+pub record Answers (folder : Option FilesByName) (words : List (List ℕ))
     (answer : code_answer.Answer) : Type 0 where
   pub goes : stop_at answer.status ≡ None
-  pub made : answer.status ≡ Done → IsMadeFor folder words answer.text.items
+  pub is : IsAnswer folder words answer.status answer.text.items
 
 abbrev pub asked_by : code_words.Words → Asked
 asked_by words = (words.file.now, words.task)
+
+-- the bytes of the file that is asked for
+pub record IsFileIn (folder : Option FilesByName) (file bytes : List ℕ) : Type 0 where
+  pub seen : IsSeenIn folder file (Some bytes)
+  pub short : length bytes ≤ most_bytes
+
+-- why bytes give no task
+pub record IsNoCup (bytes : List ℕ) (which : Option ℕ) (why : code_cause.Cause) : Type 0 where
+  pub error : CupError
+  pub refused : IsRefusalOf bytes which error
+  pub why_is : why ≡ cause_of_cup error
+
+-- an answer to words of the right form, which nothing stopped
+abbrev pub IsGivenFor : Option FilesByName → Asked → code_status.Status → List ℕ → Type 0
+IsGivenFor folder asked status.Done text = IsMade folder asked text
+IsGivenFor folder asked status.Words text = ⊥
+IsGivenFor folder asked status.Refused text = IsRefusedWith folder asked text
+IsGivenFor folder asked status.Desk text = ⊥
+IsGivenFor folder asked status.Memory text = ⊥
+
+abbrev pub IsAnswerFor : Option FilesByName → Asked → code_answer.Answer → Type 0
+IsAnswerFor folder asked answer = IsGivenFor folder asked answer.status answer.text.items

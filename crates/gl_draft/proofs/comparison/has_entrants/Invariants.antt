@@ -1,10 +1,10 @@
-use Rattle.std.proofs.Common.{length}
-use Rattle.gl_draft.specs.Draft.{Each, HasEntrant}
+use Rattle.std.proofs.Common.{◌≡◌, length}
+use Rattle.gl_draft.specs.Draft.{each, has_entrant}
 use Rattle.gl_draft.proofs.comparison.has_entrants.Given as goal
 
--- where those that are left are the same, all are
+-- those that are left decide
 abbrev pub invariant-entrants : goal.invariant-entrants
-invariant-entrants l = Each HasEntrant l.left l.right → Each HasEntrant l.entrants l.made
+invariant-entrants l = each has_entrant l.entrants l.made ≡ each has_entrant l.left l.right
 
 abbrev pub decreases-entrants : goal.decreases-entrants
 decreases-entrants l = length l.left

@@ -1,10 +1,10 @@
-use Rattle.std.proofs.Common.{length}
-use Rattle.gl_draft.specs.Draft.{Each, HasZone}
+use Rattle.std.proofs.Common.{◌≡◌, length}
+use Rattle.gl_draft.specs.Draft.{each, has_zone}
 use Rattle.gl_draft.proofs.comparison.has_zones.Given as goal
 
--- where those that are left are the same, all are
+-- those that are left decide
 abbrev pub invariant-zones : goal.invariant-zones
-invariant-zones l = Each HasZone l.left l.right → Each HasZone l.zones l.made
+invariant-zones l = each has_zone l.zones l.made ≡ each has_zone l.left l.right
 
 abbrev pub decreases-zones : goal.decreases-zones
 decreases-zones l = length l.left

@@ -1,9 +1,21 @@
-use Rattle.std.proofs.Common.{IfSome, Option, subst}
-use Rattle.gl_draft.specs.declared.draft.Zone.{Zone}
-use Rattle.gl_draft.specs.Taken.{IsZoneFor}
+use Rattle.std.proofs.Common.{refl, rules}
+use Rattle.gl_draft.specs.Code.Course.{shape}
 use Rattle.gl_draft.proofs.course.turn_zone.Goals as goal
 
-pub returns-in-Some-2-clause-ok : goal.returns-in-Some-2-clause-ok
-returns-in-Some-2-clause-ok c =
-    let P : Option Zone → Type 0 = λ zone. IfSome zone (IsZoneFor c.in-Some.turn) in
-    record { turn = c.in-Some.turn; turn_is = c.in-Some.ensures; zone_is = subst P c.in-Some-2.is c.in_ok-zone.ensures }
+pub returns-in-Some-clause-ok : goal.returns-in-Some-clause-ok
+returns-in-Some-clause-ok c = record {
+  turn = c.turn_at-turn.result;
+  turn_is = c.turn_at-turn.ensures;
+  zone_is = search rules;
+}
+
+pub returns-in-None-clause-refused : goal.returns-in-None-clause-refused
+returns-in-None-clause-refused c = shape _ _ refl (
+  record {
+    turn = c.turn_at-turn.result;
+    turn_is = c.turn_at-turn.ensures;
+    shape = search rules;
+    line_is = refl;
+  },
+  refl,
+)

@@ -1,0 +1,112 @@
+ghost use Rattle.std.specs.Prelude.{◌≡◌, ℕ, List, None, Some, IfOk, IfErr};
+ghost use Rattle.gl_desk.specs.Answers.{OnlyReads};
+ghost use Rattle.gl_desk.specs.Desk.{HasFile, IsSeenIn};
+ghost use Rattle.gl_igc.specs.Reading.{recording_of};
+ghost use Rattle.gl_draft.specs.Causes.{IsStopped};
+ghost use Rattle.gl_draft.specs.Code.Run.{stop_in};
+ghost use Rattle.gl_draft.specs.Heading.{is_igc, said_in};
+ghost use Rattle.gl_draft.specs.Recordings.{IsRecordingOf, day_in, is_taken, read_part};
+
+use crate::heading::{Said, said_in};
+use crate::refusal::Cause;
+use gl_desk::{Desk, DeskError, MOST_BYTES, Name, ReadError, read_all};
+use gl_igc::{IgcError, read_igc};
+use gl_text::is_file_name;
+use std::alloc::{AllocError, Global};
+
+/// A recording: its file, and what it says of who flew and when.
+#[derive(Debug, Drop)]
+pub struct Recording {
+    pub file: Name,
+    pub number: Option<Name>,
+    pub pilot: Option<Name>,
+    /// The day, as the number of days from 1970-01-01, if the recording reads.
+    pub day: Option<i32>,
+    /// The number of its refusal, if it doesn't.
+    pub refusal: Option<u32>,
+}
+
+/// Whether a name ends in `.igc`, in small letters or capitals.
+fn is_igc(name: &str) -> bool
+    ensures { result ≡ is_igc name.now }
+{
+    let bytes = name.as_bytes();
+    bytes.len() >= 4 && bytes[bytes.len() - 4..].eq_ignore_ascii_case(b".igc")
+}
+
+/// Whether a file of the folder is a recording that a task file can name.
+pub fn is_taken(name: &Name) -> bool
+    ensures { result ≡ is_taken name.now }
+{
+    is_igc(name.as_str()) && is_file_name(name.as_str())
+}
+
+/// The day of a recording, or the number of its refusal.
+#[derive(Clone, Copy, Debug, PartialEq, Eq)]
+struct Outcome {
+    day: Option<i32>,
+    refusal: Option<u32>,
+}
+
+/// The day of a recording, if it reads.
+fn outcome_of(alloc: Global, text: &[u8]) -> Result<Outcome, AllocError>
+    ensures { IfOk result (λ outcome. outcome.day ≡ day_in (recording_of text.now None)) }
+{
+    match read_igc(alloc, text, None) {
+        Ok(recording) => Ok(Outcome {
+            day: Some(recording.date),
+            refusal: None,
+        }),
+        Err(IgcError::Memory) => Err(AllocError),
+        Err(error) => Ok(Outcome {
+            day: None,
+            refusal: error.number(),
+        }),
+    }
+}
+
+/// What a recording says by its text.
+fn recording_of(alloc: Global, file: &Name, text: &[u8]) -> Result<Recording, AllocError>
+    ensures file { IfOk result (λ r. r.file ≡ file.now) }
+    ensures number { IfOk result (λ r. r.number ≡ said_in Said.Number text.now) }
+    ensures pilot { IfOk result (λ r. r.pilot ≡ said_in Said.Pilot text.now) }
+    ensures day { IfOk result (λ r. r.day ≡ day_in (recording_of text.now None)) }
+{
+    let outcome = outcome_of(alloc, text)?;
+    Ok(Recording {
+        file: Name::from_text(alloc, file.as_str())?,
+        number: said_in(alloc, Said::Number, text)?,
+        pilot: said_in(alloc, Said::Pilot, text)?,
+        day: outcome.day,
+        refusal: outcome.refusal,
+    })
+}
+
+/// What is read of a file: nothing where it has too many bytes.
+fn read_part<D: Desk>(alloc: Global, desk: &mut D, file: &Name) -> Result<Vec<u8>, Cause>
+    requires { HasFile (D.told desk.old).folder file.now }
+    ensures part { IfOk result (λ part. (bytes : List ℕ)
+        × IsSeenIn (D.told desk.old).folder file.now (Some bytes)
+        × (part.items ≡ read_part bytes)) }
+    ensures goes { IfErr result IsStopped }
+    ensures reads { OnlyReads (stop_in result) (D.told desk.old) (D.told desk.new) }
+{
+    match read_all(alloc, desk, file, MOST_BYTES) {
+        Ok(text) => Ok(text),
+        Err(ReadError::TooLarge) => Ok(Vec::new(alloc)),
+        Err(ReadError::Fault) => Err(Cause::Stopped(DeskError::Failed)),
+        Err(ReadError::Memory) => Err(Cause::Stopped(DeskError::Memory)),
+    }
+}
+
+/// A recording of the folder.
+pub fn see_recording<D: Desk>(alloc: Global, desk: &mut D, file: &Name) -> Result<Recording, Cause>
+    requires { HasFile (D.told desk.old).folder file.now }
+    ensures is { IfOk result (IsRecordingOf (D.told desk.old).folder file.now) }
+    ensures goes { IfErr result IsStopped }
+    ensures reads { OnlyReads (stop_in result) (D.told desk.old) (D.told desk.new) }
+{
+    let text = read_part(alloc, desk, file)?;
+    let recording = recording_of(alloc, file, &text)?;
+    Ok(recording)
+}
