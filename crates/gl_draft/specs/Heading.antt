@@ -1,5 +1,5 @@
 -- What a recording says of who flew, and its name.
-use Rattle.std.specs.Prelude.{ℕ, ◌+◌, ◌-◌, nat_le, ◌==◌, ◌&&◌, if◌then◌else◌, codes, length, List, [], ◌∷◌, take, drop, filter, map, Bool, Option, None, Some, option_map, option_and_then, position, slice_index, slice_range, encode_utf8}
+use Rattle.std.specs.Prelude.{ℕ, ◌+◌, ◌-◌, nat_le, ◌==◌, ◌&&◌, if◌then◌else◌, codes, length, List, [], take, drop, filter, map, Bool, Option, None, Some, option_map, option_and_then, position, slice_index, slice_range, encode_utf8}
 use Rattle.std.specs.Char.{is_ascii_alphanumeric, to_ascii_lowercase}
 use Rattle.std.specs.List.{flat_map}
 use Rattle.std.specs.Str.{byte, chars, is_utf8, trim}

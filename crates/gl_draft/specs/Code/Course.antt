@@ -1,8 +1,7 @@
 -- Why there is no course: a shape that a task file can't say, or want of memory.
-use Rattle.std.specs.Prelude.{◌≡◌, ℕ, ◌+◌, List, length}
+use Rattle.std.specs.Prelude.{◌≡◌, ℕ, List}
 use Rattle.gl_cup.specs.declared.point.CupPoint.{CupPoint}
 use Rattle.gl_desk.specs.declared.error.DeskError.TheVariants.{Memory}
-use Rattle.gl_draft.specs.declared.draft.Zone.{Zone}
 use Rattle.gl_draft.specs.declared.refusal.Cause as code
 use Rattle.gl_draft.specs.declared.refusal.Cause.TheVariants as cause
 use Rattle.gl_draft.specs.declared.turn.Turn.{Turn}

@@ -1,4 +1,4 @@
-use Rattle.std.proofs.Common.{◌≡◌, ◌+◌, ◌-◌, arith, ℕ, List, length, subst}
+use Rattle.std.proofs.Common.{◌≡◌, ◌+◌, arith, ℕ, List, length, subst}
 use Rattle.std.proofs.Common.{rules}
 use Rattle.std.specs.Prelude.{IfErr}
 use Rattle.std.proofs.lemmas.Result.{IfErr-weaker}

@@ -1,7 +1,6 @@
 use Rattle.std.proofs.Common.{arith, rules}
 use Rattle.std.proofs.lemmas.Grind.{common_steps}
 use Rattle.gl_draft.specs.Code.Course.{memory, shape}
-use Rattle.gl_draft.specs.Turn.{IsTurnAt}
 use Rattle.gl_draft.proofs.ZoneLemmas.{next_zones}
 use Rattle.gl_draft.proofs.course.zones_of.Goals as goal
 
