@@ -12,7 +12,7 @@ use crate::course::{Course, course_of, kind_of};
 use crate::draft::Draft;
 use crate::entrant::{common_day, entrants_of};
 use crate::folder::read_recordings;
-use crate::recording::Recording;
+use crate::recording::{Recording, is_left_out};
 use crate::refusal::Cause;
 use crate::refusal_line::refusal_line;
 use crate::remarks::remarks;
@@ -74,13 +74,14 @@ fn read_task_file<D: Desk>(
     task_of(alloc, &bytes, words)
 }
 
-/// The task that the words ask for, and the recordings, in a folder that lists these names.
+/// The task that the words ask for, the recordings, and whether some were left out, in a folder that
+/// lists these names.
 fn see_listed<D: Desk>(
     alloc: Global,
     desk: &mut D,
     names: Vec<Name>,
     words: Words<'_>,
-) -> Result<(CupTask, Vec<Recording>), Cause>
+) -> Result<(CupTask, Vec<Recording>, bool), Cause>
     requires { ListsNames (D.told desk.old).folder names.items }
     ensures sources { IfOk result (λ seen.
         AreSources (D.told desk.old).folder (asked_by words.entry) seen.0 seen.1.items) }
@@ -88,16 +89,17 @@ fn see_listed<D: Desk>(
     ensures reads { OnlyReads (stop_in result) (D.told desk.old) (D.told desk.new) }
 {
     let task = read_task_file(alloc, desk, &names, words)?;
+    let left_out = names.iter().any(|name| is_left_out(name));
     let recordings = read_recordings(alloc, desk, names)?;
-    Ok((task, recordings))
+    Ok((task, recordings, left_out))
 }
 
-/// The task that the words ask for, and the recordings of the folder.
+/// The task that the words ask for, the recordings of the folder, and whether some were left out.
 fn see_folder<D: Desk>(
     alloc: Global,
     desk: &mut D,
     words: Words<'_>,
-) -> Result<(CupTask, Vec<Recording>), Cause>
+) -> Result<(CupTask, Vec<Recording>, bool), Cause>
     ensures sources { IfOk result (λ seen.
         AreSources (D.told desk.old).folder (asked_by words.entry) seen.0 seen.1.items) }
     ensures refused { IfErr result (IsRefused (D.told desk.old).folder (asked_by words.entry)) }
@@ -150,15 +152,16 @@ fn text_of(
     words: Words<'_>,
     task: &CupTask,
     recordings: &[Recording],
+    left_out: bool,
 ) -> Result<Vec<u8>, Cause>
     requires some { 0 < length recordings.now }
     requires points { 3 ≤ length task.now.points }
     ensures ok { IfOk result (λ text. IsTextOf task.now recordings.now text.items) }
     ensures refused { IfErr result (IsUnmade task.now recordings.now) }
 {
-    let remarks = remarks(alloc, words, task, recordings)?;
+    let remarks = remarks(alloc, words, task, recordings, left_out)?;
     let draft = draft_of(alloc, task, recordings)?;
-    draft_text(alloc, remarks, &draft)
+    draft_text(alloc, remarks, &draft, recordings)
 }
 
 /// The text of the task file for a task and recordings.
@@ -167,6 +170,7 @@ fn make_text(
     words: Words<'_>,
     task: &CupTask,
     recordings: &[Recording],
+    left_out: bool,
 ) -> Result<Vec<u8>, Cause>
     requires { 3 ≤ length task.now.points }
     ensures ok { IfOk result (λ text. IsTextOf task.now recordings.now text.items) }
@@ -175,7 +179,7 @@ fn make_text(
     if recordings.is_empty() {
         return Err(Cause::NoRecording);
     }
-    text_of(alloc, words, task, recordings)
+    text_of(alloc, words, task, recordings, left_out)
 }
 
 /// The text of the task file that the words ask for.
@@ -186,7 +190,7 @@ fn make_file<D: Desk>(alloc: Global, desk: &mut D, words: Words<'_>) -> Result<V
     ensures reads { OnlyReads (stop_in result) (D.told desk.old) (D.told desk.new) }
 {
     let seen = see_folder(alloc, desk, words)?;
-    make_text(alloc, words, &seen.0, &seen.1)
+    make_text(alloc, words, &seen.0, &seen.1, seen.2)
 }
 
 /// What a run ends with: the status, and the text that it says.

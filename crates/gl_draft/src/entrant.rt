@@ -79,7 +79,7 @@ fn copied(alloc: Global, name: &Option<Name>) -> Result<Option<Name>, AllocError
 }
 
 /// The number of a recording, or else of its file's name.
-fn number_of(alloc: Global, recording: &Recording) -> Result<Option<Name>, AllocError>
+pub fn number_of(alloc: Global, recording: &Recording) -> Result<Option<Name>, AllocError>
     ensures { IfOk result (λ number.
         number ≡ option_or recording.now.number (number_by_file recording.now.file)) }
 {
@@ -102,7 +102,7 @@ fn pilot_of(alloc: Global, recording: &Recording) -> Result<Name, AllocError>
 }
 
 /// Whether an entrant has a number.
-fn has_number(number: &Name, other: &Option<Name>) -> bool
+pub fn has_number(number: &Name, other: &Option<Name>) -> bool
     ensures { result ≡ has_number number.now other.now }
 {
     match other {
@@ -205,6 +205,11 @@ fn day_of_all(recordings: &[Recording], day: i32) -> Option<i32>
     } else {
         None
     }
+}
+
+/// Whether recordings are of several days, as far as their days are known.
+pub fn are_of_several_days(recordings: &[Recording]) -> bool {
+    first_day(recordings).is_some() && common_day(recordings).is_none()
 }
 
 /// The day that all recordings have whose day is known.

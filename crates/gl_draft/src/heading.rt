@@ -2,7 +2,7 @@ ghost use Rattle.std.specs.Prelude.{◌≡◌, ◌==◌, IfOk, option_map, posit
 ghost use Rattle.std.specs.Str.{byte};
 ghost use Rattle.gl_draft.specs.Heading.{has_form, is_headed, kept, letters_of, plain_text, said_in, said_in_line, value_of};
 
-use crate::plain::plain_text;
+use crate::plain::{plain_text, read_utf8};
 use gl_desk::Name;
 use gl_text::{is_name, is_number, next_line};
 use std::alloc::{AllocError, Global};
@@ -94,6 +94,37 @@ pub fn said_in(alloc: Global, what: Said, text: &[u8]) -> Result<Option<Name>, A
         let found = said_in_line(alloc, what, &text[line.from..line.to])?;
         if found.is_some() {
             return Ok(found);
+        }
+        at = line.next;
+    }
+    Ok(None)
+}
+
+/// How a text of a recording is read that isn't plain.
+#[derive(Clone, Copy, Debug, PartialEq, Eq)]
+pub struct Spelling {
+    /// It isn't UTF-8, and is read as Latin-1.
+    pub is_latin: bool,
+    /// It has control characters, which are dropped.
+    pub has_controls: bool,
+}
+
+/// How some bytes are read.
+fn spelling_of(bytes: &[u8]) -> Spelling {
+    Spelling {
+        is_latin: read_utf8(bytes).is_none(),
+        has_controls: bytes.iter().any(|byte| *byte < 32 || *byte == 127),
+    }
+}
+
+/// How the first line is read that says who flew in the form.
+pub fn spelling_in(alloc: Global, what: Said, text: &[u8]) -> Result<Option<Spelling>, AllocError> {
+    let mut at = 0;
+    'lines: while let Some(line) = next_line(text, at) {
+        let bytes = &text[line.from..line.to];
+        let found = said_in_line(alloc, what, bytes)?;
+        if found.is_some() {
+            return Ok(Some(spelling_of(bytes)));
         }
         at = line.next;
     }

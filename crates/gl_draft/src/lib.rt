@@ -19,6 +19,7 @@ mod heading;
 mod line;
 mod lines;
 mod middle;
+mod notes;
 mod place;
 mod plain;
 mod recording;

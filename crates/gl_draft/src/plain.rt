@@ -40,7 +40,7 @@ fn push_latin(text: &mut String, bytes: &[u8]) -> Result<(), AllocError>
 }
 
 /// The text of bytes in UTF-8.
-fn read_utf8(bytes: &[u8]) -> Option<&str>
+pub fn read_utf8(bytes: &[u8]) -> Option<&str>
     ensures some { IfSome result (λ text. text.now ≡ bytes.now) }
     ensures is { is_some result ≡ is_utf8 bytes.now }
 {

@@ -7,12 +7,15 @@ ghost use Rattle.gl_draft.specs.Code.Run.{stop_in};
 ghost use Rattle.gl_draft.specs.Heading.{is_igc, said_in};
 ghost use Rattle.gl_draft.specs.Recordings.{IsRecordingOf, day_in, is_taken, read_part};
 
-use crate::heading::{Said, said_in};
+use crate::heading::{Said, Spelling, said_in, spelling_in};
 use crate::refusal::Cause;
 use gl_desk::{Desk, DeskError, MOST_BYTES, Name, ReadError, read_all};
 use gl_igc::{IgcError, read_igc};
 use gl_text::is_file_name;
 use std::alloc::{AllocError, Global};
+
+/// The number with which a recording of too many bytes is refused.
+const TOO_LARGE: u32 = 7;
 
 /// A recording: its file, and what it says of who flew and when.
 #[derive(Debug, Drop)]
@@ -20,6 +23,8 @@ pub struct Recording {
     pub file: Name,
     pub number: Option<Name>,
     pub pilot: Option<Name>,
+    /// How the pilot's name is read.
+    pub spelling: Option<Spelling>,
     /// The day, as the number of days from 1970-01-01, if the recording reads.
     pub day: Option<i32>,
     /// The number of its refusal, if it doesn't.
@@ -39,6 +44,11 @@ pub fn is_taken(name: &Name) -> bool
     ensures { result ≡ is_taken name.now }
 {
     is_igc(name.as_str()) && is_file_name(name.as_str())
+}
+
+/// Whether a file of the folder is a recording that a task file can't name.
+pub fn is_left_out(name: &Name) -> bool {
+    is_igc(name.as_str()) && !is_file_name(name.as_str())
 }
 
 /// The day of a recording, or the number of its refusal.
@@ -65,8 +75,13 @@ fn outcome_of(alloc: Global, text: &[u8]) -> Result<Outcome, AllocError>
     }
 }
 
-/// What a recording says by its text.
-fn recording_of(alloc: Global, file: &Name, text: &[u8]) -> Result<Recording, AllocError>
+/// What a recording says by its text, or by none if it wasn't read.
+fn recording_of(
+    alloc: Global,
+    file: &Name,
+    text: &[u8],
+    is_read: bool,
+) -> Result<Recording, AllocError>
     ensures file { IfOk result (λ r. r.file ≡ file.now) }
     ensures number { IfOk result (λ r. r.number ≡ said_in Said.Number text.now) }
     ensures pilot { IfOk result (λ r. r.pilot ≡ said_in Said.Pilot text.now) }
@@ -77,23 +92,28 @@ fn recording_of(alloc: Global, file: &Name, text: &[u8]) -> Result<Recording, Al
         file: Name::from_text(alloc, file.as_str())?,
         number: said_in(alloc, Said::Number, text)?,
         pilot: said_in(alloc, Said::Pilot, text)?,
+        spelling: spelling_in(alloc, Said::Pilot, text)?,
         day: outcome.day,
-        refusal: outcome.refusal,
+        refusal: if is_read {
+            outcome.refusal
+        } else {
+            Some(TOO_LARGE)
+        },
     })
 }
 
-/// What is read of a file: nothing where it has too many bytes.
-fn read_part<D: Desk>(alloc: Global, desk: &mut D, file: &Name) -> Result<Vec<u8>, Cause>
+/// What is read of a file, and whether it was read: nothing is where it has too many bytes.
+fn read_part<D: Desk>(alloc: Global, desk: &mut D, file: &Name) -> Result<(Vec<u8>, bool), Cause>
     requires { HasFile (D.told desk.old).folder file.now }
     ensures part { IfOk result (λ part. (bytes : List ℕ)
         × IsSeenIn (D.told desk.old).folder file.now (Some bytes)
-        × (part.items ≡ read_part bytes)) }
+        × (part.0.items ≡ read_part bytes)) }
     ensures goes { IfErr result IsStopped }
     ensures reads { OnlyReads (stop_in result) (D.told desk.old) (D.told desk.new) }
 {
     match read_all(alloc, desk, file, MOST_BYTES) {
-        Ok(text) => Ok(text),
-        Err(ReadError::TooLarge) => Ok(Vec::new(alloc)),
+        Ok(text) => Ok((text, true)),
+        Err(ReadError::TooLarge) => Ok((Vec::new(alloc), false)),
         Err(ReadError::Fault) => Err(Cause::Stopped(DeskError::Failed)),
         Err(ReadError::Memory) => Err(Cause::Stopped(DeskError::Memory)),
     }
@@ -106,7 +126,7 @@ pub fn see_recording<D: Desk>(alloc: Global, desk: &mut D, file: &Name) -> Resul
     ensures goes { IfErr result IsStopped }
     ensures reads { OnlyReads (stop_in result) (D.told desk.old) (D.told desk.new) }
 {
-    let text = read_part(alloc, desk, file)?;
-    let recording = recording_of(alloc, file, &text)?;
+    let part = read_part(alloc, desk, file)?;
+    let recording = recording_of(alloc, file, &part.0, part.1)?;
     Ok(recording)
 }

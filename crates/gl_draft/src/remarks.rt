@@ -1,6 +1,7 @@
 ghost use Rattle.std.specs.Prelude.{◌≡◌, [], IfOk, OnOk};
 
 use crate::course::greatest_rounding;
+use crate::entrant::are_of_several_days;
 use crate::lines::Lines;
 use crate::plain::plain_text;
 use crate::recording::Recording;
@@ -40,12 +41,30 @@ fn note_rounding(alloc: Global, lines: &mut Lines, task: &CupTask) -> Result<(),
     lines.note(text.as_str())
 }
 
+/// Appends what is to be known of the day and its recordings.
+fn note_recordings(
+    lines: &mut Lines,
+    recordings: &[Recording],
+    left_out: bool,
+) -> Result<(), AllocError>
+    ensures { OnOk result (lines.new ≡ lines.old) }
+{
+    if are_of_several_days(recordings) {
+        lines.note("The recordings are of several days: take out what isn't of this one.")?;
+    }
+    if left_out {
+        lines.note("Some recordings are left out, since their names can't be written here.")?;
+    }
+    lines.note("Everybody has the handicap 1000: change it if there are handicaps.")
+}
+
 /// The remarks at the head of the file.
 pub fn remarks(
     alloc: Global,
     words: Words<'_>,
     task: &CupTask,
     recordings: &[Recording],
+    left_out: bool,
 ) -> Result<Lines, AllocError>
     ensures { IfOk result (λ lines. lines ≡ []) }
 {
@@ -53,6 +72,6 @@ pub fn remarks(
     note_source(alloc, &mut lines, words, task)?;
     lines.note("Fill in each line that says FILL IN; score refuses the file until then.")?;
     note_rounding(alloc, &mut lines, task)?;
-    lines.note("Everybody has the handicap 1000: change it if there are handicaps.")?;
+    note_recordings(&mut lines, recordings, left_out)?;
     Ok(lines)
 }

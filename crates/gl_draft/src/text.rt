@@ -8,6 +8,7 @@ use crate::comparison::has_draft;
 use crate::draft::Draft;
 use crate::line::{Filling, Line, text_with};
 use crate::lines::Lines;
+use crate::recording::Recording;
 use crate::refusal::Cause;
 use crate::way::say_draft;
 use gl_task::Task;
@@ -78,13 +79,18 @@ fn tested_text(alloc: Global, lines: &[Line], draft: &Draft) -> Result<Vec<u8>, 
     marked(alloc, lines, draft)
 }
 
-/// The text of a task file for what was taken, behind some lines of remarks.
-pub fn draft_text(alloc: Global, remarks: Lines, draft: &Draft) -> Result<Vec<u8>, Cause>
+/// The text of a task file for what was taken of recordings and a task, behind some remarks.
+pub fn draft_text(
+    alloc: Global,
+    remarks: Lines,
+    draft: &Draft,
+    recordings: &[Recording],
+) -> Result<Vec<u8>, Cause>
     requires { remarks ≡ [] }
     ensures ok { IfOk result (λ text. IsDraftText draft.now text.items) }
     ensures refused { IfErr result (IsNoDraft draft.now) }
 {
     let mut lines = remarks;
-    say_draft(alloc, &mut lines, draft)?;
+    say_draft(alloc, &mut lines, draft, recordings)?;
     tested_text(alloc, lines.as_slice(), draft)
 }

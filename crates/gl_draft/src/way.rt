@@ -5,9 +5,11 @@ ghost use Rattle.gl_draft.specs.declared.value.Value.TheVariants as value;
 ghost use Rattle.gl_draft.specs.Draft.{amount_or_open, axis_lines, course_lines, date_lines, day_lines, entrant_lines, entrants_lines, finish_lines, kind_lines, lines_of, number_line, part_lines, radials_about, second_lines, start_lines, zone_lines};
 
 use crate::draft::{Axis, Draft, Finish, Kind, Part, Sector, Start, Zone};
-use crate::entrant::Entrant;
+use crate::entrant::{Entrant, are_of_several_days};
 use crate::lines::Lines;
+use crate::notes::{Seen, note_number, note_pilot, note_recording, recording_at};
 use crate::plain::plain_text;
+use crate::recording::Recording;
 use crate::sector::{radials, turned_about};
 use crate::value::Value;
 use crate::word::{Key, Section};
@@ -58,7 +60,12 @@ fn say_kind(lines: &mut Lines, kind: Kind) -> Result<(), AllocError>
     ensures { OnOk result (lines.new ≡ lines.old ++ kind_lines kind) }
 {
     match kind {
-        Kind::Racing => lines.say(Key::Kind, Value::Racing),
+        Kind::Racing => {
+            lines.note(
+                "the SeeYou file has no TaskTime and no AAT=1: if it is an area task, write so",
+            )?;
+            lines.say(Key::Kind, Value::Racing)
+        }
         Kind::Area { minimum } => {
             lines.say(Key::Kind, Value::Area)?;
             say_minimum(lines, minimum)
@@ -292,6 +299,7 @@ fn say_number(
 fn say_entrant(
     alloc: Global,
     lines: &mut Lines,
+    seen: &Seen<'_>,
     entrant: &Entrant,
     n: u64,
 ) -> Result<(), AllocError>
@@ -299,20 +307,40 @@ fn say_entrant(
 {
     lines.gap()?;
     lines.head(Section::Entrant)?;
+    let recording = recording_at(seen, n);
+    if let Some(recording) = recording {
+        note_number(alloc, lines, seen, entrant, recording)?;
+    }
     say_number(alloc, lines, &entrant.number, n)?;
+    if let Some(recording) = recording {
+        note_pilot(lines, recording)?;
+    }
     say_text(alloc, lines, Key::Name, &entrant.name)?;
     say_amount(lines, Key::Handicap, 1_000)?;
+    if let Some(recording) = recording {
+        note_recording(alloc, lines, seen, recording)?;
+    }
     say_text(alloc, lines, Key::File, &entrant.file)
 }
 
 /// Appends entrants.
-fn say_entrants(alloc: Global, lines: &mut Lines, entrants: &[Entrant]) -> Result<(), AllocError>
+fn say_entrants(
+    alloc: Global,
+    lines: &mut Lines,
+    entrants: &[Entrant],
+    recordings: &[Recording],
+) -> Result<(), AllocError>
     ensures { OnOk result (lines.new ≡ lines.old ++ entrants_lines 0 entrants.now) }
 {
+    let seen = Seen {
+        entrants,
+        recordings,
+        is_of_several_days: are_of_several_days(recordings),
+    };
     let mut n: u64 = 0;
     let mut left = entrants;
     'entrants: while let Some((entrant, rest)) = left.split_first() {
-        say_entrant(alloc, lines, entrant, n)?;
+        say_entrant(alloc, lines, &seen, entrant, n)?;
         n += 1;
         left = rest;
     }
@@ -343,11 +371,16 @@ fn say_course(alloc: Global, lines: &mut Lines, draft: &Draft) -> Result<(), All
 }
 
 /// Appends all lines of a draft.
-pub fn say_draft(alloc: Global, lines: &mut Lines, draft: &Draft) -> Result<(), AllocError>
+pub fn say_draft(
+    alloc: Global,
+    lines: &mut Lines,
+    draft: &Draft,
+    recordings: &[Recording],
+) -> Result<(), AllocError>
     ensures { OnOk result (lines.new ≡ lines.old ++ lines_of draft.now) }
 {
     say_day(lines, draft.date, draft.kind)?;
     say_course(alloc, lines, draft)?;
     say_rules(lines)?;
-    say_entrants(alloc, lines, draft.entrants.as_slice())
+    say_entrants(alloc, lines, draft.entrants.as_slice(), recordings)
 }

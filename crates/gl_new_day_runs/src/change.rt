@@ -1,7 +1,11 @@
 use crate::folder::answer;
 use anyhow::{Context, Result};
 use csv::{ReaderBuilder, StringRecord};
+use gl_draft::Status;
 use std::{fs, io};
+
+/// The file with the recordings of the folder.
+const RECORDINGS: &str = "recordings.txt";
 
 /// A change of a file: what it shows, the file, a part of its text, what stands in its place, the
 /// words, and the expected answer: the status, and what is said or a part of it.
@@ -38,11 +42,21 @@ fn changed(rt: &HostRuntime, file: &str, old: &str, new: &str) -> Result<String>
     Ok(format!(in rt.alloc(); "{before}{new}{after}")?)
 }
 
+/// What the words are answered with a changed file in the folder.
+fn answer_with(rt: &HostRuntime, file: &str, text: &str, words: &str) -> Result<(Status, String)> {
+    if file == RECORDINGS {
+        let cup = fs::read(rt, "xcsoar.cup")?;
+        return answer(rt.alloc(), text, &cup, words);
+    }
+    let recordings = fs::read_to_string(rt, RECORDINGS)?;
+    answer(rt.alloc(), recordings.as_str(), text.as_bytes(), words)
+}
+
 /// Whether a row is answered as expected. If it isn't, it is said.
 fn is_expected(rt: &HostRuntime, row: &StringRecord) -> Result<bool> {
     let change = Change::of_row(row).context("a row without seven fields")?;
     let text = changed(rt, change.file, change.old, change.new)?;
-    let (status, said) = answer(rt.alloc(), text.as_bytes(), change.words)?;
+    let (status, said) = answer_with(rt, change.file, text.as_str(), change.words)?;
     let number = format!(in rt.alloc(); "{}", status.number())?;
     if number.as_str() == change.status && said.as_str().contains(change.expected) {
         return Ok(true);

@@ -1,25 +1,8 @@
-use anyhow::Result;
+use anyhow::{Context, Result};
 use gl_desk::{Desk, MemDesk, Name};
 use gl_draft::{Status, run};
 use std::alloc::{AllocError, Global};
 use std::{fs, str};
-
-/// The recordings of the folder: of two pilots whose H lines say who they are, and of one whose
-/// don't.
-const RECORDINGS: [(&str, &str); 3] = [
-    (
-        "b.igc",
-        "AXXX\nHFDTE180726\nHFPLTPILOTINCHARGE: Zo\u{e9} Archer \nHFCIDCOMPETITIONID:K7\nB1000000000000N00000000EA0100001000\n",
-    ),
-    (
-        "47AV3K11.IGC",
-        "AXXX\nHFDTE180726\nHFCIDCOMPETITIONID:\nB1000000000000N00000000EA0100001000\n",
-    ),
-    (
-        "c.Igc",
-        "AXXX\nHFDTE180726\nHFPLTPILOT:Tom \"T\" Field\nHFCID:27\nB1000000000000N00000000EA0100001000\n",
-    ),
-];
 
 /// Appends a text to a file.
 fn append(alloc: Global, desk: &mut MemDesk, name: &str, text: &[u8]) -> Result<()> {
@@ -28,16 +11,23 @@ fn append(alloc: Global, desk: &mut MemDesk, name: &str, text: &[u8]) -> Result<
     Ok(())
 }
 
-/// A folder with the recordings and a file of a task, whose call with this number fails.
-fn folder(alloc: Global, cup: &[u8], failing: u64) -> Result<MemDesk> {
+/// Appends the recordings of a text, each of which stands behind a line with its name.
+fn append_recordings(alloc: Global, desk: &mut MemDesk, recordings: &str) -> Result<()> {
+    for part in recordings.split("== ").skip(1) {
+        let (name, text) = part.split_once('\n').context("a recording without a text")?;
+        append(alloc, desk, name, text.as_bytes())?;
+    }
+    Ok(())
+}
+
+/// A folder with recordings and a file of a task, whose call with this number fails.
+fn folder(alloc: Global, recordings: &str, cup: &[u8], failing: u64) -> Result<MemDesk> {
     let mut failures = Vec::new(alloc);
     if failing > 0 {
         failures.push(failing)?;
     }
     let mut desk = MemDesk::new(alloc, Vec::new(alloc), failures)?;
-    for (name, text) in RECORDINGS.iter() {
-        append(alloc, &mut desk, name, text.as_bytes())?;
-    }
+    append_recordings(alloc, &mut desk, recordings)?;
     append(alloc, &mut desk, "TASK.CUP", cup)?;
     append(alloc, &mut desk, "NOTE.TXT", b"not a recording")?;
     Ok(desk)
@@ -52,9 +42,15 @@ fn words_of(alloc: Global, text: &str) -> Result<Vec<Name>, AllocError> {
     Ok(words)
 }
 
-/// What the words are answered in the folder with a file of a task: the status, and what is said.
-pub fn answer(alloc: Global, cup: &[u8], words: &str) -> Result<(Status, String)> {
-    let mut desk = folder(alloc, cup, 0)?;
+/// What the words are answered in a folder with recordings and a file of a task: the status, and what
+/// is said.
+pub fn answer(
+    alloc: Global,
+    recordings: &str,
+    cup: &[u8],
+    words: &str,
+) -> Result<(Status, String)> {
+    let mut desk = folder(alloc, recordings, cup, 0)?;
     let status = run(alloc, &words_of(alloc, words)?, &mut desk);
     let said = str::from_utf8(desk.printed())?;
     Ok((status, String::from_str(alloc, said)?))
@@ -62,9 +58,10 @@ pub fn answer(alloc: Global, cup: &[u8], words: &str) -> Result<(Status, String)
 
 /// Says what is made of a task of a file of `data/`.
 pub fn show(rt: &HostRuntime, file: &str, number: &str) -> Result<()> {
+    let recordings = fs::read_to_string(rt, "recordings.txt")?;
     let cup = fs::read(rt, file)?;
     let words = format!(in rt.alloc(); "TASK.CUP {number}")?;
-    let (_, said) = answer(rt.alloc(), &cup, words.as_str())?;
+    let (_, said) = answer(rt.alloc(), recordings.as_str(), &cup, words.as_str())?;
     println!(rt; "{file} {number}:")?;
     print!(rt; "{}", said.as_str())?;
     Ok(())
@@ -74,11 +71,12 @@ pub fn show(rt: &HostRuntime, file: &str, number: &str) -> Result<()> {
 /// folder is made by five calls, and a run makes one to list it, two for each file, and one to say
 /// its answer.
 pub fn try_failing(rt: &HostRuntime) -> Result<()> {
+    let recordings = fs::read_to_string(rt, "recordings.txt")?;
     let cup = fs::read(rt, "club.cup")?;
     let mut failed: u64 = 0;
     let mut silent: u64 = 0;
     for number in 6u64..16 {
-        let mut desk = folder(rt.alloc(), &cup, number)?;
+        let mut desk = folder(rt.alloc(), recordings.as_str(), &cup, number)?;
         let words = words_of(rt.alloc(), "TASK.CUP 1")?;
         if run(rt.alloc(), &words, &mut desk) == Status::Desk {
             failed = failed.saturating_add(1);
