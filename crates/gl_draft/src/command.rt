@@ -74,8 +74,8 @@ fn read_task_file<D: Desk>(
     task_of(alloc, &bytes, words)
 }
 
-/// The task that the words ask for, the recordings, and whether some were left out, in a folder that
-/// lists these names.
+/// The task that the words ask for, the recordings, and whether some were left out, in a folder
+/// that lists these names.
 fn see_listed<D: Desk>(
     alloc: Global,
     desk: &mut D,

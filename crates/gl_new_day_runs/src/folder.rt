@@ -42,8 +42,8 @@ fn words_of(alloc: Global, text: &str) -> Result<Vec<Name>, AllocError> {
     Ok(words)
 }
 
-/// What the words are answered in a folder with recordings and a file of a task: the status, and what
-/// is said.
+/// What the words are answered in a folder with recordings and a file of a task: the status, and
+/// what is said.
 pub fn answer(
     alloc: Global,
     recordings: &str,
