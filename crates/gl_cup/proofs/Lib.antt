@@ -1,4 +1,3 @@
 pub mod PointLemmas
-pub mod Refusals
 pub mod RowLemmas
 pub mod TaskLemmas

@@ -3,10 +3,11 @@ use Rattle.std.proofs.Common.{◌≡◌, ◌∙◌, refl, ℕ, suc, ◌+◌, ◌
 use Rattle.std.proofs.lemmas.Grind.{common_steps}
 use Rattle.gl_cup.specs.declared.error.CupError.{CupError}
 use Rattle.gl_cup.specs.declared.error.CupError.TheVariants as cup
-use Rattle.gl_cup.specs.Detail.{zone_at}
-use Rattle.gl_cup.specs.TaskRows.{first_unknown, first_zoneless, place_of}
+use Rattle.gl_cup.specs.Detail.{or_else, zone_at}
+use Rattle.gl_cup.specs.TaskRows.{damage_of, first_unplaced, first_zoneless, name_fault}
+use Rattle.gl_cup.specs.Waypoint.{place_of}
 use Rattle.gl_cup.specs.declared.row.Row.{Row}
-use Rattle.gl_cup.specs.declared.waypoint.Waypoint.{Waypoint}
+use Rattle.gl_cup.specs.declared.waypoint.Columns.{Columns}
 use Rattle.gl_cup.specs.declared.zone.ObsZone.{ObsZone}
 
 -- the names from one on
@@ -14,15 +15,28 @@ names_at : (names : List (List ℕ)) (n : ℕ) (name : List ℕ) → n < length 
 names_at names n name inside is =
     rw add-one (drop-cons names n name inside ∙ ap (λ (x : List ℕ). x ∷ drop (suc n) names) (sym is))
 
--- where none is unknown, the first is known, and so are those behind it
-none_known : (b : Bool) (n : ℕ) (rest : Option ℕ) → cond b (Some n) rest ≡ None → (b ≡ false) × (rest ≡ None)
-none_known true n rest is = absurd (cc)
-none_known false n rest is = (refl, is)
+-- where nothing is found first, nothing is found behind it
+neither : (one other : Option CupError) → or_else one other ≡ None → (one ≡ None) × (other ≡ None)
+neither None other is = (refl, is)
+neither (Some why) other is = absurd (cc)
 
-pub first_known : (ws : List Waypoint) (n : ℕ) (names : List (List ℕ)) (name : List ℕ) → n < length names → name ≡ get_or names n name → first_unknown ws n (drop n names) ≡ None
-    → (is_none (place_of name ws) ≡ false) × (first_unknown ws (n + 1) (drop (n + 1) names) ≡ None)
-first_known ws n names name inside is all =
-    none_known _ n _ (sym (ap (first_unknown ws n) (names_at names n name inside is)) ∙ all)
+-- a name with which nothing is wrong has a place
+has_place : (missing : Bool) (why : CupError) → cond missing (Some why) None ≡ None → missing ≡ false
+has_place true why is = absurd (cc)
+has_place false why is = refl
+
+placed : (c : Columns) (ws : List Row) (line n : ℕ) (name : List ℕ) → name_fault c ws line n name ≡ None → is_none (place_of c name ws) ≡ false
+unfolding name_fault
+placed c ws line n name is =
+    has_place _ _ (neither (damage_of c ws name) _ is).1
+
+-- where nothing is wrong with names, nothing is with the first, nor with those behind it
+pub first_placed : (c : Columns) (ws : List Row) (line n : ℕ) (names : List (List ℕ)) (name : List ℕ) → n < length names → name ≡ get_or names n name → first_unplaced c ws line n (drop n names) ≡ None
+    → (is_none (place_of c name ws) ≡ false) × (first_unplaced c ws line (n + 1) (drop (n + 1) names) ≡ None)
+first_placed c ws line n names name inside is all =
+    let both : (name_fault c ws line n name ≡ None) × (first_unplaced c ws line (n + 1) (drop (n + 1) names) ≡ None) =
+    neither _ _ (sym (ap (first_unplaced c ws line n) (names_at names n name inside is)) ∙ all) in
+    (placed c ws line n name both.0, both.1)
 
 -- a point with a zone leaves the answer to those behind it
 pub passes_zone : (details : List Row) (n : ℕ) (names : List (List ℕ)) (name : List ℕ) → n < length names → name ≡ get_or names n name → is_none (zone_at details n) ≡ false

@@ -32,14 +32,14 @@ metres_in unit number =
 abbrev pub without_last : ℕ → List ℕ → List ℕ
 without_last n text = take (length text - n) text
 
--- the metres of a length: kilometres, nautical miles, miles or metres
+-- the metres of a length: kilometres, nautical miles, miles or metres, which need no unit
 unfoldable pub radius_of : List ℕ → Option ℕ
 radius_of text =
     if ends_with nat_eq text (codes "km") then metres_in 1_000_000 (without_last 2 text)
     else (if ends_with nat_eq text (codes "nm") then metres_in 1_852_000 (without_last 2 text)
     else (if ends_with nat_eq text (codes "ml") then metres_in 1_609_344 (without_last 2 text)
     else (if ends_with nat_eq text (codes "m") then metres_in 1_000 (without_last 1 text)
-    else None)))
+    else metres_in 1_000 text)))
 
 -- the seconds of a clock, HH:MM:SS, below 24 hours
 unfoldable pub clock_of : List ℕ → Option ℕ

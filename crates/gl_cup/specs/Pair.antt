@@ -1,10 +1,12 @@
 -- Fields of the form KEY=VALUE.
-use Rattle.std.specs.Prelude.{ℕ, ◌+◌, ◌==◌, ◌&&◌, ◌||◌, not, nat_lt, if◌then◌else◌, codes, Bool, true, List, [], ◌∷◌, length, take, drop, Option, None, Some, position, option_and_then}
+use Rattle.std.specs.Prelude.{ℕ, ◌+◌, ◌==◌, ◌&&◌, ◌||◌, not, nat_lt, if◌then◌else◌, codes, Bool, true, false, List, [], ◌∷◌, length, take, drop, Option, None, Some, position, option_and_then, option_map}
 use Rattle.std.specs.List.{find, list_any}
 use Rattle.std.specs.Str.{byte}
 use Rattle.gl_text.specs.Forms.{is_text}
+use Rattle.gl_cup.specs.Decimal.{radius_of}
 use Rattle.gl_cup.specs.declared.pair.Keys as code
 use Rattle.gl_cup.specs.declared.pair.Keys.TheVariants as keys
+use Rattle.gl_cup.specs.declared.pair.PassedKey.{PassedKey}
 
 -- what stands before a place, or all where there is none
 abbrev pub before : List ℕ → Option ℕ → List ℕ
@@ -25,7 +27,17 @@ abbrev pub value_of : List ℕ → List (List ℕ) → Option (List ℕ)
 value_of key fields =
     option_and_then (behind_key key) (find (λ field. is_text (key_of field) key) fields)
 
--- the keys of a zone's line
+-- the keys of the line of options
+abbrev pub is_options_key : List ℕ → Bool
+is_options_key key =
+    is_text key (codes "Options") || is_text key (codes "NoStart")
+    || is_text key (codes "TaskTime") || is_text key (codes "RandomOrder")
+    || is_text key (codes "WpDis") || is_text key (codes "NearDis")
+    || is_text key (codes "NearAlt") || is_text key (codes "MinDis")
+    || is_text key (codes "MaxPts") || is_text key (codes "BeforePts")
+    || is_text key (codes "AfterPts") || is_text key (codes "Bonus")
+
+-- those of a zone's line
 abbrev pub is_zone_key : List ℕ → Bool
 is_zone_key key =
     is_text key (codes "ObsZone") || is_text key (codes "Style") || is_text key (codes "R1")
@@ -33,27 +45,54 @@ is_zone_key key =
     || is_text key (codes "A12") || is_text key (codes "Line") || is_text key (codes "AAT")
     || is_text key (codes "Move") || is_text key (codes "Reduce")
 
--- those of the line of options
-abbrev pub is_options_key : List ℕ → Bool
-is_options_key key =
-    is_text key (codes "Options") || is_text key (codes "NoStart")
-    || is_text key (codes "TaskTime") || is_text key (codes "WpDis")
-    || is_text key (codes "NearDis") || is_text key (codes "NearAlt")
-    || is_text key (codes "MinDis") || is_text key (codes "RandomOrder")
-    || is_text key (codes "MaxPts") || is_text key (codes "BeforePts")
-    || is_text key (codes "AfterPts") || is_text key (codes "Bonus")
-
 abbrev pub is_key : code.Keys → List ℕ → Bool
-is_key keys.Zone key = is_zone_key key
 is_key keys.Options key = is_options_key key
+is_key keys.Zone key = is_zone_key key
+is_key keys.Any key = true
+is_key keys.None key = false
+
+-- the length that stands behind a key
+abbrev pub length_behind : List ℕ → List ℕ → Option ℕ
+length_behind key field = option_and_then radius_of (behind_key key field)
+
+abbrev pub is_zero : Option ℕ → Bool
+is_zero None = false
+is_zero (Some n) = n == 0
+
+-- a field says that there is no greatest altitude
+abbrev pub is_no_altitude : List ℕ → Bool
+is_no_altitude field =
+    is_text (key_of field) (codes "MaxAlt") && is_zero (length_behind (codes "MaxAlt") field)
+
+-- a field has a further key whose value changes nothing
+abbrev pub is_nothing : List ℕ → Bool
+is_nothing field = is_no_altitude field || is_text field (codes "SpeedStyle=0")
+
+-- a field has a key that a line can't have
+abbrev pub is_foreign : code.Keys → List ℕ → Bool
+is_foreign known field = not (is_key known (key_of field)) && not (is_nothing field)
+
+-- the key of the first field that has one
+abbrev pub foreign_key : code.Keys → List (List ℕ) → Option (List ℕ)
+foreign_key known fields = option_map key_of (find (is_foreign known) fields)
 
 -- a field has a key
 abbrev pub has_key : List ℕ → List ℕ → Bool
 has_key key field = is_text (key_of field) key
 
--- each field has one of the keys, and no key comes twice
-abbrev pub are_known : code.Keys → List (List ℕ) → Bool
-are_known known [] = true
-are_known known (field ∷ fields) =
-    is_key known (key_of field) && not (list_any (has_key (key_of field)) fields)
-    && are_known known fields
+-- the key of each field comes once
+abbrev pub are_once : List (List ℕ) → Bool
+are_once [] = true
+are_once (field ∷ fields) =
+    not (list_any (has_key (key_of field)) fields) && are_once fields
+
+-- a field of a line is passed over, and the scorer is told so
+abbrev pub is_passed : code.Keys → List ℕ → Bool
+is_passed keys.Options field = is_nothing field
+is_passed keys.Zone field = is_nothing field
+is_passed keys.Any field = true
+is_passed keys.None field = is_nothing field
+
+abbrev pub passed_by : code.Keys → ℕ → List ℕ → List PassedKey
+passed_by known line field =
+    if is_passed known field then record { line = line; key = key_of field } ∷ [] else []

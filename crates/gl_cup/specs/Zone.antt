@@ -3,9 +3,8 @@ use Rattle.std.specs.Prelude.{ℕ, nat_le, nat_lt, ◌==◌, ◌&&◌, ◌||◌,
 use Rattle.std.specs.Str.{byte}
 use Rattle.gl_text.specs.Digits.{◌>>=◌, number_of}
 use Rattle.gl_cup.specs.Decimal.{radius_of, thousandths_of}
-use Rattle.gl_cup.specs.Pair.{are_known, value_of}
+use Rattle.gl_cup.specs.Pair.{value_of}
 use Rattle.gl_text.specs.Forms.{is_text}
-use Rattle.gl_cup.specs.declared.pair.Keys.TheVariants as keys
 use Rattle.gl_cup.specs.declared.zone.ObsZone.{ObsZone}
 use Rattle.gl_cup.specs.declared.zone.Style as code
 use Rattle.gl_cup.specs.declared.zone.Style.TheVariants as style
@@ -82,8 +81,9 @@ head_of fields = do
   way ← style_of name
   Some (point, way)
 
-unfoldable pub zone_in : List (List ℕ) → Option ObsZone
-zone_in fields = do
+-- the zone that the fields of a line say
+unfoldable pub zone_of : List (List ℕ) → Option ObsZone
+zone_of fields = do
   head ← head_of fields
   radii ← radii_of fields
   angles ← angles_of fields
@@ -99,7 +99,3 @@ zone_in fields = do
     is_line = flags.0;
     is_area = flags.1;
   })
-
--- the zone of fields with known keys
-unfoldable pub zone_of : List (List ℕ) → Option ObsZone
-zone_of fields = if are_known keys.Zone fields then zone_in fields else None

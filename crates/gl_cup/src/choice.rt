@@ -6,7 +6,7 @@ use crate::field::Field;
 use crate::row::Row;
 
 /// Whether the first field of a row is, or begins with, a word.
-fn begins_with(fields: &[Field], word: &[u8]) -> bool
+pub fn begins_with(fields: &[Field], word: &[u8]) -> bool
     ensures { result ≡ begins_with fields.now word.now }
 {
     match fields {

@@ -84,7 +84,7 @@ fn metres_in(unit: u64, number: &[u8]) -> Option<u32>
     Some(((millimetres + 500) / 1_000) as u32)
 }
 
-/// The metres of a length in km, nm (nautical miles), ml (miles) or m.
+/// The metres of a length in km, nm (nautical miles), ml (miles), or m, as without a unit.
 #[tactic(auto, unfolding(crate::specs::Decimal::radius_of))]
 pub fn read_radius(text: &[u8]) -> Option<u32>
     ensures { result ≡ radius_of text.now }
@@ -98,7 +98,7 @@ pub fn read_radius(text: &[u8]) -> Option<u32>
     } else if text.ends_with(b"m") {
         metres_in(METRE, &text[..text.len() - 1])
     } else {
-        None
+        metres_in(METRE, text)
     }
 }
 

@@ -1,30 +1,63 @@
-ghost use Rattle.std.specs.Prelude.{◌≡◌, None, Some, [], IfErr, OnOk, option_map};
-ghost use Rattle.std.specs.List.{find, list_any};
-ghost use Rattle.gl_cup.specs.Detail.{detail_of, first_refused, is_again, is_beyond, is_refused, is_zone_of, options_among, options_said, zone_at, zone_in};
+ghost use Rattle.std.specs.Prelude.{◌≡◌, ◌≢◌, ◌++◌, None, Some, [], IfErr, IfOk, OnOk, option_map};
+ghost use Rattle.std.specs.List.{find, flat_map, list_any};
+ghost use Rattle.gl_cup.specs.declared.error.CupError.TheVariants.{Memory};
+ghost use Rattle.gl_cup.specs.Detail.{detail_of, fault_of, first_fault, is_again, is_beyond, is_misplaced, is_zone_of, key_fault, keys_of, options_among, options_said, passed_among, passed_in, said_by, zone_at, zone_in};
 
-use crate::choice::is_headed;
+use crate::choice::{begins_with, is_headed};
 use crate::error::CupError;
+use crate::field::Field;
 use crate::options::{Options, read_options};
+use crate::pair::{Keys, PassedKey, are_once, foreign_key, push_all_passed};
 use crate::row::Row;
 use crate::zone::{ObsZone, read_zone};
+use std::alloc::{AllocError, Global};
 
 /// A row below a task.
 #[derive(Clone, Copy, Debug, PartialEq, Eq)]
 enum Detail {
     Options(Options),
     Zone(ObsZone),
+    /// A row that says nothing of the task.
+    Nothing,
 }
 
-/// What a row below a task says, if it reads.
+/// Which keys the fields of a row below a task may have, by the first one.
+fn keys_of(fields: &[Field]) -> Keys
+    ensures { result ≡ keys_of fields.now }
+{
+    if is_headed(fields, b"Options") {
+        Keys::Options
+    } else if begins_with(fields, b"ObsZone=") {
+        Keys::Zone
+    } else if begins_with(fields, b"Version=") {
+        Keys::Any
+    } else {
+        Keys::None
+    }
+}
+
+/// What the fields of a row say.
+fn said_by(keys: Keys, fields: &[Field]) -> Option<Detail>
+    ensures { result ≡ said_by keys fields.now }
+{
+    match keys {
+        Keys::Options => Some(Detail::Options(read_options(fields)?)),
+        Keys::Zone => Some(Detail::Zone(read_zone(fields)?)),
+        Keys::Any => Some(Detail::Nothing),
+        Keys::None => None,
+    }
+}
+
+/// What a row below a task says, if it reads, and no key comes twice.
 #[tactic(auto, unfolding(crate::specs::Detail::detail_of))]
 fn detail_of(row: &Row) -> Option<Detail>
     ensures { result ≡ detail_of row.now }
 {
     let fields = row.fields.as_slice();
-    if is_headed(fields, b"Options") {
-        Some(Detail::Options(read_options(fields)?))
+    if are_once(fields) {
+        said_by(keys_of(fields), fields)
     } else {
-        Some(Detail::Zone(read_zone(fields)?))
+        None
     }
 }
 
@@ -34,8 +67,7 @@ fn zone_in(detail: Option<Detail>) -> Option<ObsZone>
 {
     match detail {
         Some(Detail::Zone(zone)) => Some(zone),
-        Some(Detail::Options(_)) => None,
-        None => None,
+        _ => None,
     }
 }
 
@@ -55,8 +87,8 @@ fn is_beyond(points: u64, detail: Detail) -> bool
     ensures { result ≡ is_beyond points detail }
 {
     match detail {
-        Detail::Options(_) => false,
         Detail::Zone(zone) => zone.point >= points,
+        _ => false,
     }
 }
 
@@ -68,26 +100,56 @@ fn is_said(detail: Detail, rows: &[Row]) -> bool
 }
 
 /// Whether a row doesn't read, is of no point, or says what one before it says.
-#[tactic(auto, unfolding(crate::specs::Detail::is_refused))]
-fn is_refused(points: u64, before: &[Row], row: &Row) -> bool
-    ensures { result ≡ is_refused points before.now row.now }
+fn is_misplaced(points: u64, before: &[Row], detail: Option<Detail>) -> bool
+    ensures { result ≡ is_misplaced points before.now detail }
 {
-    match detail_of(row) {
+    match detail {
         Some(detail) => is_beyond(points, detail) || is_said(detail, before),
         None => true,
     }
 }
 
-/// Tests that each row reads, is of one of so many points, and says what none before it says.
-pub fn test_details(rows: &[Row], points: u64) -> Result<(), CupError>
-    ensures ok { OnOk result (first_refused points [] rows.now ≡ None) }
-    ensures refused { IfErr result (λ e.
-        option_map (λ row. CupError.Detail row.line) (first_refused points [] rows.now)
-        ≡ Some e) }
+/// That a row has a key which its line can't have, if it does.
+fn key_fault(alloc: Global, row: &Row) -> Result<Option<CupError>, AllocError>
+    ensures { IfOk result (λ fault. fault ≡ key_fault row.now) }
+{
+    let fields = row.fields.as_slice();
+    match foreign_key(keys_of(fields), fields) {
+        Some(key) => Ok(Some(CupError::Key(row.line, Field::from_slice(alloc, key)?))),
+        None => Ok(None),
+    }
+}
+
+/// What is wrong with a row below a task of so many points, behind others.
+#[tactic(auto, unfolding(crate::specs::Detail::fault_of))]
+fn fault_of(
+    alloc: Global,
+    points: u64,
+    before: &[Row],
+    row: &Row,
+) -> Result<Option<CupError>, AllocError>
+    ensures { IfOk result (λ fault. fault ≡ fault_of points before.now row.now) }
+{
+    if let Some(fault) = key_fault(alloc, row)? {
+        return Ok(Some(fault));
+    }
+    if is_misplaced(points, before, detail_of(row)) {
+        Ok(Some(CupError::Detail(row.line)))
+    } else {
+        Ok(None)
+    }
+}
+
+/// Tests that each row has known keys, reads, is of one of so many points, and says what none
+/// before it says.
+pub fn test_details(alloc: Global, rows: &[Row], points: u64) -> Result<(), CupError>
+    ensures ok { OnOk result (first_fault points [] rows.now ≡ None) }
+    ensures refused { IfErr result (λ e. e ≢ Memory
+        → first_fault points [] rows.now ≡ Some e) }
 {
     'rows: for (n, row) in rows.iter().enumerate() {
-        if is_refused(points, &rows[..n], row) {
-            return Err(CupError::Detail(row.line));
+        if let Some(fault) = fault_of(alloc, points, &rows[..n], row)? {
+            return Err(fault);
         }
     }
     Ok(())
@@ -99,8 +161,7 @@ fn options_said(detail: Option<Detail>) -> Option<Options>
 {
     match detail {
         Some(Detail::Options(options)) => Some(options),
-        Some(Detail::Zone(_)) => None,
-        None => None,
+        _ => None,
     }
 }
 
@@ -147,4 +208,23 @@ pub fn zone_at(rows: &[Row], point: u64) -> Option<(ObsZone, u64)>
     let row = row_of(rows, point)?;
     let zone = zone_in(detail_of(row))?;
     Some((zone, row.line))
+}
+
+/// Appends the keys of a row that are passed over.
+fn push_passed_in(alloc: Global, passed: &mut Vec<PassedKey>, row: &Row) -> Result<(), AllocError>
+    ensures { OnOk result (passed.new.items ≡ passed.old.items ++ passed_in row.now) }
+{
+    let fields = row.fields.as_slice();
+    push_all_passed(alloc, passed, keys_of(fields), row.line, fields)
+}
+
+/// The keys of the rows below a task that are passed over.
+pub fn passed_among(alloc: Global, rows: &[Row]) -> Result<Vec<PassedKey>, AllocError>
+    ensures { IfOk result (λ passed. passed.items ≡ passed_among rows.now) }
+{
+    let mut passed = Vec::new(alloc);
+    'rows: for row in rows {
+        push_passed_in(alloc, &mut passed, row)?;
+    }
+    Ok(passed)
 }

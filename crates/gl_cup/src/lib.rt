@@ -18,6 +18,7 @@ mod zone;
 
 pub use error::CupError;
 pub use field::Field;
+pub use pair::PassedKey;
 pub use point::{CupPoint, CupTask};
 pub use reader::read_cup;
 pub use zone::{ObsZone, Style};

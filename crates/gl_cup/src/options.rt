@@ -1,10 +1,10 @@
 ghost use Rattle.std.specs.Prelude.{◌≡◌};
-ghost use Rattle.gl_cup.specs.Options.{flag_with, options_in, options_of, some_time, time_of};
+ghost use Rattle.gl_cup.specs.Options.{options_of, some_time, time_of};
 ghost use Rattle.gl_cup.specs.Pair.{value_of};
 
 use crate::decimal::read_clock;
 use crate::field::Field;
-use crate::pair::{Keys, are_known, value_of};
+use crate::pair::value_of;
 use crate::zone::flag_at;
 
 /// What the `Options` line of a task says.
@@ -33,43 +33,18 @@ fn time_at(fields: &[Field], key: &[u8]) -> Option<Option<u32>>
     }
 }
 
-/// Whether a task with a time is measured by its waypoints.
-fn flag_with(time: Option<u32>, fields: &[Field]) -> Option<bool>
-    ensures { result ≡ flag_with time fields.now }
-{
-    match time {
-        Some(_) => flag_at(fields, b"WpDis"),
-        None => Some(false),
-    }
-}
-
-/// The options of fields whose keys are known. Points that may be flown in any order are no task
-/// that can be said, and don't read; nor does a time for a task that is measured by its waypoints.
-#[tactic(auto, unfolding(crate::specs::Options::options_in))]
-fn options_in(fields: &[Field]) -> Option<Options>
-    ensures { result ≡ options_in fields.now }
-{
-    let any_order = flag_at(fields, b"RandomOrder")?;
-    let opens = time_at(fields, b"NoStart")?;
-    let time = time_at(fields, b"TaskTime")?;
-    let by_waypoints = flag_with(time, fields)?;
-    if any_order {
-        None
-    } else if by_waypoints {
-        None
-    } else {
-        Some(Options { opens, time })
-    }
-}
-
-/// The options of a line that begins with `Options`.
+/// What the fields of a line of options say. Points that may be flown in any order are no task that
+/// can be said, and don't read.
 #[tactic(auto, unfolding(crate::specs::Options::options_of))]
 pub fn read_options(fields: &[Field]) -> Option<Options>
     ensures { result ≡ options_of fields.now }
 {
-    if are_known(Keys::Options, fields) {
-        options_in(fields)
-    } else {
+    let any_order = flag_at(fields, b"RandomOrder")?;
+    let opens = time_at(fields, b"NoStart")?;
+    let time = time_at(fields, b"TaskTime")?;
+    if any_order {
         None
+    } else {
+        Some(Options { opens, time })
     }
 }

@@ -1,10 +1,12 @@
-ghost use Rattle.std.specs.Prelude.{◌≡◌, ◌==◌, option_map, position};
-ghost use Rattle.gl_cup.specs.Pair.{are_known, behind_key, has_key, is_key, is_options_key, is_zone_key, key_of, value_of};
+ghost use Rattle.std.specs.Prelude.{◌≡◌, ◌==◌, ◌++◌, OnOk, option_map, position};
+ghost use Rattle.gl_cup.specs.Pair.{are_once, behind_key, foreign_key, has_key, is_foreign, is_key, is_no_altitude, is_nothing, is_options_key, is_passed, is_zone_key, key_of, length_behind, passed_by, value_of};
 ghost use Rattle.gl_text.specs.Forms.{is_text};
-ghost use Rattle.std.specs.List.{find, list_any};
+ghost use Rattle.std.specs.List.{find, flat_map, list_any};
 ghost use Rattle.std.specs.Str.{byte};
 
+use crate::decimal::read_radius;
 use crate::field::Field;
+use std::alloc::{AllocError, Global};
 
 /// Where the first `=` of a field stands.
 fn equals_at(field: &[u8]) -> Option<usize>
@@ -49,14 +51,17 @@ pub fn value_of<'a>(fields: &'a [Field], key: &[u8]) -> Option<&'a [u8]>
     behind_key(field_with(fields, key)?.as_slice(), key)
 }
 
-/// Which keys the fields of a line may have.
+/// Which keys the fields of a line below a task may have.
 #[derive(Clone, Copy, Debug, PartialEq, Eq)]
 pub enum Keys {
-    /// Those of a zone's line. `Move` and `Reduce` are passed over.
-    Zone,
-    /// Those of the line of options. Those behind `TaskTime` are passed over, but for `WpDis` and
-    /// `RandomOrder`.
+    /// Those of the line of options.
     Options,
+    /// Those of a zone's line.
+    Zone,
+    /// Any, on a line that says nothing of the task.
+    Any,
+    /// None, on a line that can't be used.
+    None,
 }
 
 /// Whether two texts are the same.
@@ -66,7 +71,26 @@ pub fn is_text(one: &[u8], other: &[u8]) -> bool
     one == other
 }
 
-/// Whether a key is one of a zone's line.
+/// Whether a key is one of the line of options. Those from `WpDis` on, but for `RandomOrder`, are
+/// passed over: there are other rules of scoring here.
+fn is_options_key(key: &[u8]) -> bool
+    ensures { result ≡ is_options_key key.now }
+{
+    is_text(key, b"Options")
+        || is_text(key, b"NoStart")
+        || is_text(key, b"TaskTime")
+        || is_text(key, b"RandomOrder")
+        || is_text(key, b"WpDis")
+        || is_text(key, b"NearDis")
+        || is_text(key, b"NearAlt")
+        || is_text(key, b"MinDis")
+        || is_text(key, b"MaxPts")
+        || is_text(key, b"BeforePts")
+        || is_text(key, b"AfterPts")
+        || is_text(key, b"Bonus")
+}
+
+/// Whether a key is one of a zone's line. `Move` and `Reduce` are passed over.
 fn is_zone_key(key: &[u8]) -> bool
     ensures { result ≡ is_zone_key key.now }
 {
@@ -83,32 +107,54 @@ fn is_zone_key(key: &[u8]) -> bool
         || is_text(key, b"Reduce")
 }
 
-/// Whether a key is one of the line of options.
-fn is_options_key(key: &[u8]) -> bool
-    ensures { result ≡ is_options_key key.now }
-{
-    is_text(key, b"Options")
-        || is_text(key, b"NoStart")
-        || is_text(key, b"TaskTime")
-        || is_text(key, b"WpDis")
-        || is_text(key, b"NearDis")
-        || is_text(key, b"NearAlt")
-        || is_text(key, b"MinDis")
-        || is_text(key, b"RandomOrder")
-        || is_text(key, b"MaxPts")
-        || is_text(key, b"BeforePts")
-        || is_text(key, b"AfterPts")
-        || is_text(key, b"Bonus")
-}
-
 /// Whether a key is one of those that a line may have.
 fn is_key(keys: Keys, key: &[u8]) -> bool
     ensures { result ≡ is_key keys key.now }
 {
     match keys {
-        Keys::Zone => is_zone_key(key),
         Keys::Options => is_options_key(key),
+        Keys::Zone => is_zone_key(key),
+        Keys::Any => true,
+        Keys::None => false,
     }
+}
+
+/// The length that stands behind a key.
+fn length_behind(field: &[u8], key: &[u8]) -> Option<u32>
+    ensures { result ≡ length_behind key.now field.now }
+{
+    read_radius(behind_key(field, key)?)
+}
+
+/// Whether a field says that there is no greatest altitude.
+fn is_no_altitude(field: &[u8]) -> bool
+    ensures { result ≡ is_no_altitude field.now }
+{
+    is_text(key_of(field), b"MaxAlt") && length_behind(field, b"MaxAlt") == Some(0)
+}
+
+/// Whether a field has a further key whose value changes nothing.
+fn is_nothing(field: &[u8]) -> bool
+    ensures { result ≡ is_nothing field.now }
+{
+    is_no_altitude(field) || is_text(field, b"SpeedStyle=0")
+}
+
+/// Whether a field has a key that a line of this kind can't have.
+fn is_foreign(keys: Keys, field: &[u8]) -> bool
+    ensures { result ≡ is_foreign keys field.now }
+{
+    !is_key(keys, key_of(field)) && !is_nothing(field)
+}
+
+/// The key of the first field that has one which the line can't have.
+pub fn foreign_key(keys: Keys, fields: &[Field]) -> Option<&[u8]>
+    ensures { option_map (λ key. key.now) result ≡ foreign_key keys fields.now }
+{
+    let field = fields
+        .iter()
+        .find(|field| is_foreign(keys, field.as_slice()))?;
+    Some(key_of(field.as_slice()))
 }
 
 /// Whether one of some fields has a key.
@@ -120,17 +166,69 @@ fn has_key(fields: &[Field], key: &[u8]) -> bool
         .any(|field| is_text(key_of(field.as_slice()), key))
 }
 
-/// Whether the keys of fields are all known, and each comes once.
-pub fn are_known(keys: Keys, fields: &[Field]) -> bool
-    ensures { result ≡ are_known keys fields.now }
+/// Whether the key of each field comes once.
+pub fn are_once(fields: &[Field]) -> bool
+    ensures { result ≡ are_once fields.now }
 {
     let mut rest = fields;
     'fields: while let Some((field, others)) = rest.split_first() {
-        let key = key_of(field.as_slice());
-        if !is_key(keys, key) || has_key(others, key) {
+        if has_key(others, key_of(field.as_slice())) {
             return false;
         }
         rest = others;
     }
     true
+}
+
+/// A key that is passed over, and its line.
+#[derive(Debug, Drop)]
+pub struct PassedKey {
+    pub line: u64,
+    pub key: Field,
+}
+
+/// Whether a field of a line is passed over, and the scorer is told so.
+fn is_passed(keys: Keys, field: &[u8]) -> bool
+    ensures { result ≡ is_passed keys field.now }
+{
+    match keys {
+        Keys::Any => true,
+        _ => is_nothing(field),
+    }
+}
+
+/// Appends the key of a field, if it is passed over.
+fn push_passed(
+    alloc: Global,
+    passed: &mut Vec<PassedKey>,
+    keys: Keys,
+    line: u64,
+    field: &[u8],
+) -> Result<(), AllocError>
+    ensures { OnOk result
+        (passed.new.items ≡ passed.old.items ++ passed_by keys line field.now) }
+{
+    if !is_passed(keys, field) {
+        return Ok(());
+    }
+    let key = Field::from_slice(alloc, key_of(field))?;
+    passed.push(PassedKey { line, key })?;
+    Ok(())
+}
+
+/// Appends the keys of fields that are passed over.
+pub fn push_all_passed(
+    alloc: Global,
+    passed: &mut Vec<PassedKey>,
+    keys: Keys,
+    line: u64,
+    fields: &[Field],
+) -> Result<(), AllocError>
+    ensures { OnOk result
+        (passed.new.items ≡ passed.old.items ++ flat_map (passed_by keys line) fields.now) }
+{
+    'fields: for field in fields {
+        push_passed(alloc, passed, keys, line, field.as_slice())?;
+    }
+    Ok(())
 }

@@ -1,4 +1,5 @@
 use crate::field::Field;
+use crate::pair::PassedKey;
 use crate::zone::ObsZone;
 use gl_sphere::Grid;
 use gl_text::Items;
@@ -23,4 +24,6 @@ pub struct CupTask {
     pub opens: Option<u32>,
     /// How long the task takes, in seconds, if that is said.
     pub time: Option<u32>,
+    /// The keys below it that are passed over.
+    pub passed: Items<PassedKey>,
 }

@@ -1,79 +1,25 @@
-ghost use Rattle.std.specs.Prelude.{◌≡◌, ◌≢◌, ◌<◌, ◌≤◌, None, Some, IfOk, IfErr, OnOk, false, is_none, length, option_map, slice_get};
-ghost use Rattle.std.specs.List.{find, list_all};
+ghost use Rattle.std.specs.Prelude.{◌≡◌, ◌≢◌, ◌<◌, ◌≤◌, ◌∷◌, None, Some, IfOk, IfErr, OnOk, false, is_none, length, option_map, slice_get};
+ghost use Rattle.gl_sphere.specs.PlaceText.{place_of as pair_of};
 ghost use Rattle.gl_cup.specs.declared.error.CupError.TheVariants.{Memory};
-ghost use Rattle.gl_cup.specs.Detail.{options_among, zone_at};
-ghost use Rattle.gl_cup.specs.Reading.{ArePoints, IsHeader, IsPoint, IsTaskOf};
-ghost use Rattle.gl_cup.specs.Refusal.{IsRefusalOf, header_refused};
-ghost use Rattle.gl_cup.specs.TaskRows.{agrees, first_unknown, first_zoneless, is_one_place, names_in, place_of, refused_points, refused_task};
-ghost use Rattle.gl_text.specs.Forms.{is_text};
+ghost use Rattle.gl_cup.specs.Choice.{choice, task_rows, waypoint_rows};
+ghost use Rattle.gl_cup.specs.Detail.{options_among, passed_among, zone_at};
+ghost use Rattle.gl_cup.specs.Reading.{ArePoints, IsPoint, IsTaskBelow, IsTaskBy, IsTaskIn, IsTaskOf};
+ghost use Rattle.gl_cup.specs.Refusal.{IsRefusalOf, refusal_by, refusal_in};
+ghost use Rattle.gl_cup.specs.TaskRows.{break_of, damage_of, first_unplaced, first_zoneless, name_fault, names_in, refused_fields, refused_points, refused_task};
+ghost use Rattle.gl_cup.specs.Waypoint.{place_of};
 
 use crate::choice::{choose, split_at_mark};
-use crate::detail::{options_among, test_details, zone_at};
+use crate::detail::{options_among, passed_among, test_details, zone_at};
 use crate::error::CupError;
 use crate::field::Field;
 use crate::point::{CupPoint, CupTask};
-use crate::row::{Row, read_rows};
-use crate::waypoint::{Columns, Waypoint, read_columns, read_waypoints};
-use gl_sphere::Grid;
+use crate::row::{Row, first_broken, is_wide, read_rows};
+use crate::waypoint::{Columns, first_damaged, place_of, read_columns};
 use gl_text::Items;
 use std::alloc::Global;
 
-/// The columns of the header, which is the first row, and the rows below it.
-fn read_header(rows: &[Row]) -> Result<(Columns, &[Row]), CupError>
-    ensures ok { IfOk result (λ read. IsHeader rows.now read.0 read.1.now) }
-    ensures refused { IfErr result (λ e. header_refused rows.now ≡ Some e) }
-{
-    let [header, rest @ ..] = rows else {
-        return Err(CupError::Empty);
-    };
-    match read_columns(header.fields.as_slice()) {
-        Some(columns) => Ok((columns, rest)),
-        None => Err(CupError::Header(header.line)),
-    }
-}
-
-/// The first waypoint with a name.
-fn first_named<'a>(waypoints: &'a [Waypoint], name: &[u8]) -> Option<&'a Waypoint>
-    ensures { option_map (λ waypoint. waypoint.now) result
-        ≡ find (λ waypoint. is_text waypoint.name name.now) waypoints.now }
-{
-    waypoints
-        .iter()
-        .find(|waypoint| waypoint.name.as_slice() == name)
-}
-
-/// Whether two places are one.
-fn is_one_place(a: Grid, b: Grid) -> bool
-    ensures { result ≡ is_one_place a b }
-{
-    a.lat == b.lat && a.lon == b.lon
-}
-
-/// Whether all waypoints with a name have one place.
-fn all_agree(waypoints: &[Waypoint], name: &[u8], place: Grid) -> bool
-    ensures { result ≡ list_all (agrees name.now place) waypoints.now }
-{
-    waypoints.iter().all(|waypoint| waypoint.name.as_slice() != name
-        || is_one_place(waypoint.place, place))
-}
-
-/// The place of the waypoints with a name. None where there is no such waypoint, and where two of
-/// them have two places.
-#[tactic(auto, unfolding(crate::specs::TaskRows::place_of))]
-fn place_of(name: &[u8], waypoints: &[Waypoint]) -> Option<Grid>
-    ensures { result ≡ place_of name.now waypoints.now }
-{
-    let place = first_named(waypoints, name)?.place;
-    if all_agree(waypoints, name, place) {
-        Some(place)
-    } else {
-        None
-    }
-}
-
 /// The description of a task, and the names of its points: the fields behind the description and
-/// the
-/// take-off, and before the landing. There are at least three.
+/// the take-off, and before the landing. There are at least three.
 fn names_of(row: &Row) -> Result<(&Field, &[Field]), CupError>
     ensures title { IfOk result (λ read. slice_get row.now.fields 0 ≡ Some read.0.now) }
     ensures names { IfOk result (λ read. read.1.now ≡ names_in row.now.fields) }
@@ -88,15 +34,38 @@ fn names_of(row: &Row) -> Result<(&Field, &[Field]), CupError>
     Ok((&fields[0], &fields[2..fields.len() - 1]))
 }
 
-/// Tests that each name of a task's points is known.
-fn test_names(waypoints: &[Waypoint], names: &[Field], line: u64) -> Result<(), CupError>
-    ensures ok { OnOk result (first_unknown waypoints.now 0 names.now ≡ None) }
+/// That a waypoint has a name but no place, if one has.
+fn damage_of(columns: &Columns, points: &[Row], name: &[u8]) -> Option<CupError>
+    ensures { result ≡ damage_of columns.now points.now name.now }
+{
+    let row = first_damaged(columns, points, name)?;
+    Some(CupError::Waypoint(row.line))
+}
+
+/// What is wrong with the name of a point.
+#[tactic(auto, unfolding(crate::specs::TaskRows::name_fault))]
+fn name_fault(columns: &Columns, points: &[Row], name: &[u8], at: (u64, u64)) -> Option<CupError>
+    ensures { result ≡ name_fault columns.now points.now at.0 at.1 name.now }
+{
+    let damage = damage_of(columns, points, name);
+    if damage.is_some() {
+        return damage;
+    }
+    match place_of(columns, points, name) {
+        Some(_) => None,
+        None => Some(CupError::Unknown(at.0, at.1)),
+    }
+}
+
+/// Tests that each name of a task's points is that of waypoints with one place.
+fn test_names(columns: &Columns, points: &[Row], names: &[Field], line: u64) -> Result<(), CupError>
+    ensures ok { OnOk result (first_unplaced columns.now points.now line 0 names.now ≡ None) }
     ensures refused { IfErr result (λ e.
-        option_map (CupError.Unknown line) (first_unknown waypoints.now 0 names.now) ≡ Some e) }
+        first_unplaced columns.now points.now line 0 names.now ≡ Some e) }
 {
     'names: for (n, name) in names.iter().enumerate() {
-        if place_of(name.as_slice(), waypoints).is_none() {
-            return Err(CupError::Unknown(line, n as u64));
+        if let Some(fault) = name_fault(columns, points, name.as_slice(), (line, n as u64)) {
+            return Err(fault);
         }
     }
     Ok(())
@@ -105,19 +74,20 @@ fn test_names(waypoints: &[Waypoint], names: &[Field], line: u64) -> Result<(), 
 /// A point of a task with its place and its zone.
 fn read_point(
     alloc: Global,
-    waypoints: &[Waypoint],
+    columns: &Columns,
+    points: &[Row],
     details: &[Row],
     name: &Field,
     at: (u64, u64),
 ) -> Result<CupPoint, CupError>
-    requires { is_none (place_of name.now waypoints.now) ≡ false }
-    ensures ok { IfOk result (IsPoint waypoints.now details.now at.1 name.now) }
+    requires { is_none (place_of columns.now name.now points.now) ≡ false }
+    ensures ok { IfOk result (IsPoint columns.now points.now details.now at.1 name.now) }
     ensures refused { IfErr result (λ e. e ≢ Memory
         → (zone_at details.now at.1 ≡ None) × (e ≡ CupError.NoZone at.0 at.1)) }
 {
     let (line, point) = at;
     let (Some(place), Some((zone, line))) = (
-        place_of(name.as_slice(), waypoints),
+        place_of(columns, points, name.as_slice()),
         zone_at(details, point),
     ) else {
         return Err(CupError::NoZone(line, point));
@@ -133,86 +103,153 @@ fn read_point(
 /// The points of some names.
 fn named_points(
     alloc: Global,
-    waypoints: &[Waypoint],
+    columns: &Columns,
+    points: &[Row],
     details: &[Row],
     names: &[Field],
     line: u64,
 ) -> Result<Vec<CupPoint>, CupError>
-    requires { first_unknown waypoints.now 0 names.now ≡ None }
-    ensures ok { IfOk result (λ points.
-        ArePoints waypoints.now details.now 0 names.now points.items) }
-    ensures zoned { IfOk result (λ points. first_zoneless details.now 0 names.now ≡ None) }
+    requires { first_unplaced columns.now points.now line 0 names.now ≡ None }
+    ensures ok { IfOk result (λ made.
+        ArePoints columns.now points.now details.now 0 names.now made.items) }
+    ensures zoned { IfOk result (λ made. first_zoneless details.now 0 names.now ≡ None) }
     ensures refused { IfErr result (λ e. e ≢ Memory
         → option_map (CupError.NoZone line) (first_zoneless details.now 0 names.now) ≡ Some e) }
 {
-    let mut points = Vec::new(alloc);
+    let mut made = Vec::new(alloc);
     'names: for (n, name) in names.iter().enumerate() {
-        points.push(read_point(alloc, waypoints, details, name, (line, n as u64))?)?;
+        made.push(read_point(alloc, columns, points, details, name, (line, n as u64))?)?;
     }
-    Ok(points)
+    Ok(made)
 }
 
 /// The points of a task by their names.
 #[tactic(auto, unfolding(crate::specs::TaskRows::refused_points))]
 fn tested_points(
     alloc: Global,
-    waypoints: &[Waypoint],
+    columns: &Columns,
+    points: &[Row],
     details: &[Row],
     names: &[Field],
     line: u64,
 ) -> Result<Vec<CupPoint>, CupError>
-    ensures ok { IfOk result (λ points.
-        ArePoints waypoints.now details.now 0 names.now points.items) }
-    ensures right { IfOk result (λ points.
-        refused_points waypoints.now line details.now names.now ≡ None) }
+    ensures ok { IfOk result (λ made.
+        ArePoints columns.now points.now details.now 0 names.now made.items) }
+    ensures right { IfOk result (λ made.
+        refused_points columns.now points.now line details.now names.now ≡ None) }
     ensures refused { IfErr result (λ e. e ≢ Memory
-        → refused_points waypoints.now line details.now names.now ≡ Some e) }
+        → refused_points columns.now points.now line details.now names.now ≡ Some e) }
 {
-    test_names(waypoints, names, line)?;
-    test_details(details, names.len() as u64)?;
-    named_points(alloc, waypoints, details, names, line)
+    test_names(columns, points, names, line)?;
+    test_details(alloc, details, names.len() as u64)?;
+    named_points(alloc, columns, points, details, names, line)
+}
+
+/// Tests that a task's row and those below it are whole.
+fn test_rows(row: &Row, details: &[Row]) -> Result<(), CupError>
+    ensures ok { OnOk result (break_of (row.now ∷ details.now) ≡ None) }
+    ensures refused { IfErr result (λ e. break_of (row.now ∷ details.now) ≡ Some e) }
+{
+    if !row.is_whole {
+        return Err(CupError::Row(row.line));
+    }
+    match first_broken(details) {
+        Some(broken) => Err(CupError::Row(broken.line)),
+        None => Ok(()),
+    }
+}
+
+/// The description and the points of a task.
+#[tactic(auto, unfolding(crate::specs::TaskRows::refused_fields))]
+fn read_fields<'a>(
+    alloc: Global,
+    columns: &Columns,
+    points: &[Row],
+    row: &'a Row,
+    details: &[Row],
+) -> Result<(&'a Field, Vec<CupPoint>), CupError>
+    ensures title { IfOk result (λ read. slice_get row.now.fields 0 ≡ Some read.0.now) }
+    ensures made { IfOk result (λ read. ArePoints columns.now points.now details.now 0
+        (names_in row.now.fields) read.1.items) }
+    ensures right { IfOk result (λ read.
+        refused_fields columns.now points.now row.now details.now ≡ None) }
+    ensures refused { IfErr result (λ e. e ≢ Memory
+        → refused_fields columns.now points.now row.now details.now ≡ Some e) }
+{
+    let (title, names) = names_of(row)?;
+    let made = tested_points(alloc, columns, points, details, names, row.line)?;
+    Ok((title, made))
 }
 
 /// The task of a row and those below it.
 #[tactic(auto, unfolding(crate::specs::TaskRows::refused_task))]
 fn read_task(
     alloc: Global,
-    waypoints: &[Waypoint],
+    columns: &Columns,
+    points: &[Row],
     row: &Row,
     details: &[Row],
 ) -> Result<CupTask, CupError>
-    ensures points { IfOk result (λ task.
-        ArePoints waypoints.now details.now 0 (names_in row.now.fields) task.points) }
-    ensures title { IfOk result (λ task. slice_get row.now.fields 0 ≡ Some task.title) }
-    ensures says { IfOk result (λ task.
-        options_among details.now ≡ record { opens = task.opens; time = task.time }) }
-    ensures right { IfOk result (λ task.
-        refused_task waypoints.now row.now details.now ≡ None) }
+    ensures ok { IfOk result (IsTaskBy columns.now points.now row.now details.now) }
     ensures refused { IfErr result (λ e. e ≢ Memory
-        → refused_task waypoints.now row.now details.now ≡ Some e) }
+        → refused_task columns.now points.now row.now details.now ≡ Some e) }
 {
-    let (title, names) = names_of(row)?;
-    let points = tested_points(alloc, waypoints, details, names, row.line)?;
+    test_rows(row, details)?;
+    let (title, made) = read_fields(alloc, columns, points, row, details)?;
     let options = options_among(details);
     Ok(CupTask {
         title: Field::from_slice(alloc, title.as_slice())?,
-        points: Items::from_vec(points),
+        points: Items::from_vec(made),
         opens: options.opens,
         time: options.time,
+        passed: Items::from_vec(passed_among(alloc, details)?),
     })
+}
+
+/// The task that is chosen of the rows below a header.
+fn task_below(
+    alloc: Global,
+    columns: &Columns,
+    rest: &[Row],
+    which: Option<u32>,
+) -> Result<CupTask, CupError>
+    ensures ok { IfOk result (IsTaskBelow columns.now rest.now which) }
+    ensures refused { IfErr result (λ e. e ≢ Memory
+        → refusal_by columns.now (waypoint_rows rest.now) (choice which (task_rows rest.now))
+        ≡ Some e) }
+{
+    let (points, tasks) = split_at_mark(rest);
+    let (row, details) = choose(tasks, which)?;
+    read_task(alloc, columns, points, row, details)
+}
+
+/// The task of rows, the first of which is the header.
+fn task_in(alloc: Global, rows: &[Row], which: Option<u32>) -> Result<CupTask, CupError>
+    ensures ok { IfOk result (IsTaskIn rows.now which) }
+    ensures refused { IfErr result (λ e. e ≢ Memory → refusal_in which rows.now ≡ Some e) }
+{
+    let [header, rest @ ..] = rows else {
+        return Err(CupError::Empty);
+    };
+    if !header.is_whole {
+        return Err(CupError::Row(header.line));
+    }
+    match read_columns(header.fields.as_slice()) {
+        Some(columns) => task_below(alloc, &columns, rest, which),
+        None => Err(CupError::Header(header.line)),
+    }
 }
 
 /// Reads a task of a text in the SeeYou form (docs/cup.md): the one of a number, counted from 1, or
 /// the only one.
+#[tactic(auto, unfolding(crate::specs::Refusal::refusal_of))]
 pub fn read_cup(alloc: Global, text: &[u8], which: Option<u32>) -> Result<CupTask, CupError>
     ensures ok { IfOk result (IsTaskOf text.now which) }
     ensures refused { IfErr result (IsRefusalOf text.now which) }
 {
+    if is_wide(text) {
+        return Err(CupError::Wide);
+    }
     let rows = read_rows(alloc, text)?;
-    let (columns, rest) = read_header(&rows)?;
-    let (points, tasks) = split_at_mark(rest);
-    let waypoints = read_waypoints(alloc, &columns, points)?;
-    let (row, details) = choose(tasks, which)?;
-    let task = read_task(alloc, &waypoints, row, details)?;
-    Ok(task)
+    task_in(alloc, &rows, which)
 }

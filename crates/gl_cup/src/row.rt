@@ -1,23 +1,23 @@
-ghost use Rattle.std.specs.Prelude.{◌≡◌, ◌≢◌, Some, None, [], IfOk, IfErr, OnOk, option_map, false, true, ◌++◌};
+ghost use Rattle.std.specs.Prelude.{◌≡◌, Some, None, [], IfOk, OnOk, option_map, ◌++◌};
+ghost use Rattle.std.specs.List.{find};
 ghost use Rattle.csv.specs.Machine.{next_record};
 ghost use Rattle.csv.specs.Reading.{default_config, strip_bom};
 ghost use Rattle.csv.specs.Records.{fields_of};
 ghost use Rattle.csv.specs.declared.parser.State.TheVariants as st;
-ghost use Rattle.gl_text.specs.Lines.{lines_of};
-ghost use Rattle.gl_cup.specs.declared.error.CupError.TheVariants.{Memory};
-ghost use Rattle.gl_cup.specs.Row.{fields_of_line, first_broken, has_return, is_row, quotes_match, row_at, row_broken, rows_of};
+ghost use Rattle.gl_cup.specs.Row.{fields_of_line, has_return, is_broken, is_whole, is_wide, quotes_match, row_at, row_of, rows_of};
 
-use crate::error::CupError;
 use crate::field::Field;
 use csv::{ByteRecord, Error, ReaderBuilder};
 use gl_text::{Items, next_line};
 use std::alloc::{AllocError, Global};
 
-/// A line that isn't empty: its number, from 1, and its fields.
+/// A line that isn't empty: its number, from 1, its fields, and whether its quotes match and no CR
+/// stands in it.
 #[derive(Debug, Drop)]
 pub struct Row {
     pub line: u64,
     pub fields: Items<Field>,
+    pub is_whole: bool,
 }
 
 /// Whether the quotes of a line are even in number.
@@ -36,9 +36,9 @@ fn has_return(line: &[u8]) -> bool
 }
 
 /// Whether the quotes of a line match, and no CR stands in it.
-#[tactic(auto, unfolding(crate::specs::Row::is_row))]
-fn is_row(line: &[u8]) -> bool
-    ensures { result ≡ is_row line.now }
+#[tactic(auto, unfolding(crate::specs::Row::is_whole))]
+fn is_whole(line: &[u8]) -> bool
+    ensures { result ≡ is_whole line.now }
 {
     quotes_match(line) && !has_return(line)
 }
@@ -85,29 +85,19 @@ fn read_fields(alloc: Global, line: &[u8]) -> Result<Vec<Field>, AllocError>
 }
 
 /// The row of a line.
-fn read_row(alloc: Global, line: &[u8], number: u64) -> Result<Row, CupError>
-    ensures line { IfOk result (λ row. row.line ≡ number) }
-    ensures fields { IfOk result (λ row. row.fields ≡ fields_of_line line.now) }
-    ensures passes { IfOk result (λ row. is_row line.now ≡ true) }
-    ensures refused { IfErr result (λ e. e ≢ Memory
-        → (e ≡ CupError.Row number) × (is_row line.now ≡ false)) }
+fn read_row(alloc: Global, line: &[u8], number: u64) -> Result<Row, AllocError>
+    ensures { IfOk result (λ row. row ≡ row_of number line.now) }
 {
-    if !is_row(line) {
-        return Err(CupError::Row(number));
-    }
     Ok(Row {
         line: number,
         fields: Items::from_vec(read_fields(alloc, line)?),
+        is_whole: is_whole(line),
     })
 }
 
 /// Takes the row of a line, unless the line is empty.
-#[tactic(auto, unfolding(crate::specs::Row::is_row))]
-fn take_line(alloc: Global, rows: &mut Vec<Row>, line: &[u8], number: u64) -> Result<(), CupError>
-    ensures ok { OnOk result (rows.new.items ≡ rows.old.items ++ row_at number line.now) }
-    ensures passes { OnOk result (is_row line.now ≡ true) }
-    ensures refused { IfErr result (λ e. e ≢ Memory
-        → (e ≡ CupError.Row number) × (is_row line.now ≡ false)) }
+fn take_line(alloc: Global, rows: &mut Vec<Row>, line: &[u8], number: u64) -> Result<(), AllocError>
+    ensures { OnOk result (rows.new.items ≡ rows.old.items ++ row_at number line.now) }
 {
     if line.is_empty() {
         return Ok(());
@@ -117,11 +107,8 @@ fn take_line(alloc: Global, rows: &mut Vec<Row>, line: &[u8], number: u64) -> Re
 }
 
 /// The rows of a text: its lines that aren't empty.
-pub fn read_rows(alloc: Global, text: &[u8]) -> Result<Vec<Row>, CupError>
-    ensures ok { IfOk result (λ rows. rows.items ≡ rows_of text.now) }
-    ensures passes { IfOk result (λ rows. first_broken 1 (lines_of text.now) ≡ None) }
-    ensures refused { IfErr result (λ e. e ≢ Memory
-        → row_broken (first_broken 1 (lines_of text.now)) ≡ Some e) }
+pub fn read_rows(alloc: Global, text: &[u8]) -> Result<Vec<Row>, AllocError>
+    ensures { IfOk result (λ rows. rows.items ≡ rows_of text.now) }
 {
     let mut rows = Vec::new(alloc);
     let mut number = 0;
@@ -132,4 +119,27 @@ pub fn read_rows(alloc: Global, text: &[u8]) -> Result<Vec<Row>, CupError>
         at = line.next;
     }
     Ok(rows)
+}
+
+/// The first of some rows that isn't whole.
+pub fn first_broken(rows: &[Row]) -> Option<&Row>
+    ensures { option_map (λ row. row.now) result ≡ find is_broken rows.now }
+{
+    rows.iter().find(|row| !row.is_whole)
+}
+
+/// Whether a text is in UTF-16: it begins with its mark, or one of its first two bytes is 0.
+#[tactic(auto, unfolding(crate::specs::Row::is_wide))]
+pub fn is_wide(text: &[u8]) -> bool
+    ensures { result ≡ is_wide text.now }
+{
+    match text {
+        [first, second, ..] => {
+            *first == 0
+                || *second == 0
+                || (*first == 255 && *second == 254)
+                || (*first == 254 && *second == 255)
+        }
+        _ => false,
+    }
 }

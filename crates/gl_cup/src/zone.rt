@@ -1,10 +1,10 @@
 ghost use Rattle.std.specs.Prelude.{◌≡◌};
 ghost use Rattle.gl_cup.specs.Pair.{value_of};
-ghost use Rattle.gl_cup.specs.Zone.{angle_or_none, angles_of, flag_in, flag_of, flags_of, head_of, length_or_none, point_of, radii_of, style_of, within_turn, zone_in, zone_of};
+ghost use Rattle.gl_cup.specs.Zone.{angle_or_none, angles_of, flag_in, flag_of, flags_of, head_of, length_or_none, point_of, radii_of, style_of, within_turn, zone_of};
 
 use crate::decimal::{read_radius, read_thousandths};
 use crate::field::Field;
-use crate::pair::{Keys, are_known, is_text, value_of};
+use crate::pair::{is_text, value_of};
 use gl_text::read_digits;
 
 /// Which way the middle of a zone points.
@@ -160,10 +160,10 @@ fn read_flags(fields: &[Field]) -> Option<(bool, bool)>
     Some((line, area))
 }
 
-/// The zone of fields whose keys are known.
-#[tactic(auto, unfolding(crate::specs::Zone::zone_in))]
-fn zone_in(fields: &[Field]) -> Option<ObsZone>
-    ensures { result ≡ zone_in fields.now }
+/// The zone that the fields of a line say.
+#[tactic(auto, unfolding(crate::specs::Zone::zone_of))]
+pub fn read_zone(fields: &[Field]) -> Option<ObsZone>
+    ensures { result ≡ zone_of fields.now }
 {
     let (point, style) = read_head(fields)?;
     let (radius, second_radius) = read_radii(fields)?;
@@ -180,16 +180,4 @@ fn zone_in(fields: &[Field]) -> Option<ObsZone>
         is_line,
         is_area,
     })
-}
-
-/// The zone of a line that begins with `ObsZone=`.
-#[tactic(auto, unfolding(crate::specs::Zone::zone_of))]
-pub fn read_zone(fields: &[Field]) -> Option<ObsZone>
-    ensures { result ≡ zone_of fields.now }
-{
-    if are_known(Keys::Zone, fields) {
-        zone_in(fields)
-    } else {
-        None
-    }
 }

@@ -13,8 +13,9 @@ use Rattle.gl_draft.specs.declared.refusal.Cause.TheVariants as cause
 
 -- a text that gives no task; want of memory is no such cause
 abbrev pub cause_of_cup : CupError → code.Cause
-cause_of_cup (cup.Row line) = cause.Cup (cup.Row line)
+cause_of_cup cup.Wide = cause.Cup cup.Wide
 cause_of_cup cup.Empty = cause.Cup cup.Empty
+cause_of_cup (cup.Row line) = cause.Cup (cup.Row line)
 cause_of_cup (cup.Header line) = cause.Cup (cup.Header line)
 cause_of_cup (cup.Waypoint line) = cause.Cup (cup.Waypoint line)
 cause_of_cup cup.NoTask = cause.Cup cup.NoTask
@@ -22,6 +23,7 @@ cause_of_cup cup.Several = cause.Cup cup.Several
 cause_of_cup cup.NoSuchTask = cause.Cup cup.NoSuchTask
 cause_of_cup (cup.TooFewPoints line) = cause.Cup (cup.TooFewPoints line)
 cause_of_cup (cup.Unknown line point) = cause.Cup (cup.Unknown line point)
+cause_of_cup (cup.Key line key) = cause.Cup (cup.Key line key)
 cause_of_cup (cup.Detail line) = cause.Cup (cup.Detail line)
 cause_of_cup (cup.NoZone line point) = cause.Cup (cup.NoZone line point)
 cause_of_cup cup.Memory = cause.Stopped desk.Memory

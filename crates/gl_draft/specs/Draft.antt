@@ -1,5 +1,5 @@
 -- What is taken into a task file, its lines, and what a task has of it.
-use Rattle.std.specs.Prelude.{◌≡◌, ◌≢◌, ℕ, ◌+◌, ◌-◌, ◌*◌, ◌%◌, ◌==◌, ◌&&◌, filter, is_none, List, [], ◌∷◌, ◌++◌, Bool, true, false, Option, None, Some}
+use Rattle.std.specs.Prelude.{◌≡◌, ◌≢◌, ℕ, ◌+◌, ◌-◌, ◌*◌, ◌%◌, ◌==◌, ◌&&◌, filter, if◌then◌else◌, is_none, List, [], ◌∷◌, ◌++◌, Bool, true, false, Option, None, Some}
 use Rattle.std.specs.List.{flat_map}
 use Rattle.std.specs.Ordering.{int_eq}
 use Rattle.jiff_core.specs.Date.{epoch_day}
@@ -94,11 +94,17 @@ axis_lines (axis.Either middle) half_angle =
     radials_about middle half_angle ∷ radials_about (turned_about middle) half_angle ∷
     Open key.From 0 ∷ Open key.To 0 ∷ []
 
+-- where a sector begins, unless that is its centre
+abbrev pub inner_lines : ℕ → List Line
+inner_lines inner =
+    if inner == 0 then [] else Said key.Inner (value.Amount inner) ∷ []
+
 abbrev pub part_lines : draft_part.Part → List Line
 part_lines (taken_part.Circle radius) =
     Head section.Part ∷ Said key.Radius (value.Amount radius) ∷ []
 part_lines (taken_part.Sector sector) =
-    Head section.Part ∷ Said key.Outer (value.Amount sector.outer) ∷ []
+    Head section.Part ∷ inner_lines sector.inner
+    ++ Said key.Outer (value.Amount sector.outer) ∷ []
     ++ axis_lines sector.axis sector.half_angle
 
 abbrev pub second_lines : Option draft_part.Part → List Line
@@ -174,10 +180,11 @@ has_radials (axis.About middle) half_angle made =
     (made.from == first_radial middle half_angle) && (made.to == second_radial middle half_angle)
 has_radials (axis.Either middle) half_angle made = true
 
--- the sector begins at its centre, and has the radius and the radials
+-- the sector has the centre, the radii and the radials
 abbrev pub has_sector : Grid → draft_sector.Sector → zone_sector.Sector → Bool
 has_sector centre sector made =
-    is_at made.centre centre && (made.inner == 0) && is_length made.outer sector.outer
+    is_at made.centre centre && is_length made.inner sector.inner
+    && is_length made.outer sector.outer
     && has_radials sector.axis sector.half_angle made
 
 -- the part is of the same kind, about the same place, with the same radius

@@ -3,6 +3,7 @@ use Rattle.std.specs.Prelude.{ℕ, ◌++◌, codes, List, []}
 use Rattle.std.specs.Fmt.{decimal}
 use Rattle.gl_cup.specs.declared.error.CupError.{CupError}
 use Rattle.gl_cup.specs.declared.error.CupError.TheVariants as cup
+use Rattle.gl_draft.specs.Heading.{plain_text}
 use Rattle.gl_draft.specs.declared.refusal.Cause as code
 use Rattle.gl_draft.specs.declared.refusal.Cause.TheVariants as cause
 
@@ -12,6 +13,7 @@ pair_text line point = decimal line ++ codes "." ++ decimal point
 
 -- the number and the place of a text that gives no task
 abbrev pub cup_text : CupError → List ℕ
+cup_text cup.Wide = codes "CUP 14 -"
 cup_text (cup.Row line) = codes "CUP 1 " ++ decimal line
 cup_text cup.Empty = codes "CUP 2 -"
 cup_text (cup.Header line) = codes "CUP 3 " ++ decimal line
@@ -21,6 +23,8 @@ cup_text cup.Several = codes "CUP 6 -"
 cup_text cup.NoSuchTask = codes "CUP 7 -"
 cup_text (cup.TooFewPoints line) = codes "CUP 8 " ++ decimal line
 cup_text (cup.Unknown line point) = codes "CUP 9 " ++ pair_text line point
+cup_text (cup.Key line key) =
+    codes "CUP 15 " ++ decimal line ++ codes "." ++ plain_text key
 cup_text (cup.Detail line) = codes "CUP 10 " ++ decimal line
 cup_text (cup.NoZone line point) = codes "CUP 11 " ++ pair_text line point
 cup_text cup.Memory = []

@@ -1,5 +1,5 @@
 -- What is taken from a task of a SeeYou file and the recordings of a folder, and why nothing is.
-use Rattle.std.specs.Prelude.{◌≡◌, ℕ, ◌<◌, ◌≤◌, ◌+◌, ◌==◌, ◌&&◌, not, nat_le, nat_lt, List, [], ◌∷◌, length, slice_get, true, Option, None, Some, ℤ, pos, ◌+ℤ◌, ◌≤ℤ◌, ⊤, ◌||◌, is_some, Bool, false}
+use Rattle.std.specs.Prelude.{◌≡◌, ℕ, ◌<◌, ◌≤◌, ◌+◌, ◌==◌, ◌&&◌, not, nat_le, nat_lt, if◌then◌else◌, List, [], ◌∷◌, length, slice_get, true, Option, None, Some, ℤ, pos, ◌+ℤ◌, ◌≤ℤ◌, ⊤, ◌||◌, is_some, Bool, false}
 use Rattle.std.specs.List.{list_any}
 use Rattle.jiff_core.specs.Calendar.{IsEpochDay}
 use Rattle.jiff_core.specs.Date.{epoch_day}
@@ -118,10 +118,29 @@ pub record HasNoFinish (last finish : CupPoint) : Type 0 where
 abbrev pub is_part : ObsZone → Bool
 is_part zone = not zone.is_line && nat_lt 0 zone.angle && nat_le zone.angle 180_000
 
--- a sector with the radius, the half angle and the direction
+-- a part alone, or a keyhole: a sector and a full circle
+abbrev pub is_alone : ObsZone → Bool
+is_alone zone = zone.second_radius == 0
+
+abbrev pub is_keyhole : ObsZone → Bool
+is_keyhole zone =
+    not (zone.second_radius == 0) && not (zone.angle == 180_000) && (zone.second_angle == 180_000)
+
+-- a sector that begins at its second radius: two sectors with one half angle
+abbrev pub is_ring_sector : ObsZone → Bool
+is_ring_sector zone =
+    not (zone.second_radius == 0) && not (zone.angle == 180_000)
+    && (zone.second_angle == zone.angle) && nat_lt zone.second_radius zone.radius
+
+-- where a sector begins: at its second radius, or else at its centre
+abbrev pub inner_of : ObsZone → ℕ
+inner_of zone = if is_ring_sector zone then zone.second_radius else 0
+
+-- a sector with the radii, the half angle and the direction
 pub record IsSectorOf (turn : Turn) (sector : code_sector.Sector) : Type 0 where
   pub part : is_part turn.here.now.zone ≡ true
   pub narrow : (turn.here.now.zone.angle == 180_000) ≡ false
+  pub inner : sector.inner ≡ inner_of turn.here.now.zone
   pub outer : sector.outer ≡ turn.here.now.zone.radius
   pub half_angle : sector.half_angle ≡ turn.here.now.zone.angle
   pub axis : IsAxisOf turn sector.axis
@@ -142,17 +161,13 @@ HasNoPart turn =
     is_part turn.here.now.zone ≡ true
     → ((turn.here.now.zone.angle == 180_000) ≡ false) × HasNoAxis turn
 
--- a part alone, or a keyhole: a sector and a full circle
-abbrev pub is_alone : ObsZone → Bool
-is_alone zone = zone.second_radius == 0
-
-abbrev pub is_keyhole : ObsZone → Bool
-is_keyhole zone =
-    not (zone.second_radius == 0) && not (zone.angle == 180_000) && (zone.second_angle == 180_000)
+-- a task file can say the parts of a zone
+abbrev pub is_sayable : ObsZone → Bool
+is_sayable zone = is_alone zone || is_ring_sector zone || is_keyhole zone
 
 -- the second part of a zone
 abbrev pub IsSecondOf : ObsZone → Option code_part.Part → Type 0
-IsSecondOf zone None = is_alone zone ≡ true
+IsSecondOf zone None = (is_alone zone || is_ring_sector zone) ≡ true
 IsSecondOf zone (Some (Circle radius)) =
     (is_keyhole zone ≡ true) × (radius ≡ zone.second_radius)
 IsSecondOf zone (Some (Sector sector)) = ⊥
@@ -170,7 +185,7 @@ pub record IsZoneFor (turn : Turn) (zone : Zone) : Type 0 where
 -- a task file can't say the zone of a turn point
 abbrev pub HasNoZone : Turn → Type 0
 HasNoZone turn =
-    (is_alone turn.here.now.zone || is_keyhole turn.here.now.zone) ≡ true → HasNoPart turn
+    is_sayable turn.here.now.zone ≡ true → HasNoPart turn
 
 -- the zone of the turn point with a number
 pub record IsZoneAt (points : List CupPoint) (number : ℕ) (zone : Zone) : Type 0 where

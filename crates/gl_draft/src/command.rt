@@ -201,11 +201,11 @@ pub struct Answer {
 }
 
 /// What stopped the making of a task file, if something did.
-fn stop_of(cause: Cause) -> Option<DeskError>
-    ensures { result ≡ stop_of_cause cause }
+fn stop_of(cause: &Cause) -> Option<DeskError>
+    ensures { result ≡ stop_of_cause cause.now }
 {
     match cause {
-        Cause::Stopped(stop) => Some(stop),
+        Cause::Stopped(stop) => Some(*stop),
         _ => None,
     }
 }
@@ -220,11 +220,11 @@ fn answer_words<D: Desk>(alloc: Global, desk: &mut D, words: Words<'_>) -> Resul
             status: Status::Done,
             text,
         }),
-        Err(cause) => match stop_of(cause) {
+        Err(cause) => match stop_of(&cause) {
             Some(stop) => Err(stop),
             None => Ok(Answer {
                 status: Status::Refused,
-                text: refusal_line(alloc, words.file, cause)?,
+                text: refusal_line(alloc, words.file, &cause)?,
             }),
         },
     }

@@ -65,7 +65,7 @@ fn has_sector(centre: Grid, sector: Sector, made: TaskSector) -> bool
     ensures { result ≡ has_sector centre sector made }
 {
     is_at(made.centre, centre)
-        && made.inner == 0
+        && is_length(made.inner, sector.inner)
         && is_length(made.outer, sector.outer)
         && has_radials(sector.axis, sector.half_angle, made)
 }

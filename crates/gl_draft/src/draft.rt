@@ -28,9 +28,10 @@ pub enum Axis {
     Either(u32),
 }
 
-/// A sector to its radius in metres, so many thousandths of a degree to each side of its axis.
+/// A sector between two radii in metres, so many thousandths of a degree to each side of its axis.
 #[derive(Clone, Copy, Debug, PartialEq, Eq)]
 pub struct Sector {
+    pub inner: u32,
     pub outer: u32,
     pub half_angle: u32,
     pub axis: Axis,

@@ -136,8 +136,9 @@ fn note_day(alloc: Global, lines: &mut Lines, day: i32) -> Result<(), AllocError
     let year = date.year;
     let month = date.month;
     let day = date.day;
+    let day = format!(in alloc; "{year:04}-{month:02}-{day:02}")?;
     let text = format!(in alloc;
-        "the recording is of {year:04}-{month:02}-{day:02}: REFUSED 3 if that is more than a day from the date"
+        "the recording is of {day}: REFUSED 3 if that is more than a day from the date"
     )?;
     lines.note(text.as_str())
 }

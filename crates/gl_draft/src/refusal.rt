@@ -9,7 +9,7 @@ use gl_task_file::TaskError;
 use std::alloc::{AllocError, AllocFailed};
 
 /// Why no task file is made.
-#[derive(Clone, Copy, Debug)]
+#[derive(Debug, Drop)]
 pub enum Cause {
     /// The folder doesn't list the file of the task.
     NotListed,

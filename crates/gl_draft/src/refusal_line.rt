@@ -1,7 +1,9 @@
 ghost use Rattle.std.specs.Prelude.{◌≡◌, ◌++◌, IfOk, OnOk, codes};
 ghost use Rattle.std.specs.Fmt.{decimal};
+ghost use Rattle.gl_draft.specs.Heading.{plain_text};
 ghost use Rattle.gl_draft.specs.Refusals.{cause_text, cup_text, file_text, pair_text, refusal_text};
 
+use crate::plain::plain_text;
 use crate::refusal::Cause;
 use gl_cup::CupError;
 use gl_desk::Name;
@@ -18,42 +20,48 @@ fn push_pair(line: &mut Vec<u8>, one: u64, other: u64) -> Result<(), AllocError>
     push_u64(line, other)
 }
 
+/// Appends a number behind a text.
+fn push_at(line: &mut Vec<u8>, text: &[u8], n: u64) -> Result<(), AllocError>
+    ensures { OnOk result (line.new.items ≡ line.old.items ++ text.now ++ decimal n) }
+{
+    line.extend_from_slice(text)?;
+    push_u64(line, n)
+}
+
+/// Appends a number, a point and the text of a key.
+fn push_key_at(line: &mut Vec<u8>, alloc: Global, n: u64, key: &[u8]) -> Result<(), AllocError>
+    ensures { OnOk result (line.new.items
+        ≡ line.old.items ++ codes "CUP 15 " ++ decimal n ++ codes "." ++ plain_text key.now) }
+{
+    let text = plain_text(alloc, key)?;
+    push_at(line, b"CUP 15 ", n)?;
+    line.extend_from_slice(b".")?;
+    line.extend_from_slice(text.as_str().as_bytes())
+}
+
 /// Appends the number and the place of a text that gives no task.
-fn push_cup_error(line: &mut Vec<u8>, error: CupError) -> Result<(), AllocError>
-    ensures { OnOk result (line.new.items ≡ line.old.items ++ cup_text error) }
+fn push_cup_error(line: &mut Vec<u8>, alloc: Global, error: &CupError) -> Result<(), AllocError>
+    ensures { OnOk result (line.new.items ≡ line.old.items ++ cup_text error.now) }
 {
     match error {
-        CupError::Row(n) => {
-            line.extend_from_slice(b"CUP 1 ")?;
-            push_u64(line, n)
-        }
+        CupError::Wide => line.extend_from_slice(b"CUP 14 -"),
+        CupError::Row(n) => push_at(line, b"CUP 1 ", *n),
         CupError::Empty => line.extend_from_slice(b"CUP 2 -"),
-        CupError::Header(n) => {
-            line.extend_from_slice(b"CUP 3 ")?;
-            push_u64(line, n)
-        }
-        CupError::Waypoint(n) => {
-            line.extend_from_slice(b"CUP 4 ")?;
-            push_u64(line, n)
-        }
+        CupError::Header(n) => push_at(line, b"CUP 3 ", *n),
+        CupError::Waypoint(n) => push_at(line, b"CUP 4 ", *n),
         CupError::NoTask => line.extend_from_slice(b"CUP 5 -"),
         CupError::Several => line.extend_from_slice(b"CUP 6 -"),
         CupError::NoSuchTask => line.extend_from_slice(b"CUP 7 -"),
-        CupError::TooFewPoints(n) => {
-            line.extend_from_slice(b"CUP 8 ")?;
-            push_u64(line, n)
-        }
+        CupError::TooFewPoints(n) => push_at(line, b"CUP 8 ", *n),
         CupError::Unknown(n, point) => {
             line.extend_from_slice(b"CUP 9 ")?;
-            push_pair(line, n, point)
+            push_pair(line, *n, *point)
         }
-        CupError::Detail(n) => {
-            line.extend_from_slice(b"CUP 10 ")?;
-            push_u64(line, n)
-        }
+        CupError::Key(n, key) => push_key_at(line, alloc, *n, key.as_slice()),
+        CupError::Detail(n) => push_at(line, b"CUP 10 ", *n),
         CupError::NoZone(n, point) => {
             line.extend_from_slice(b"CUP 11 ")?;
-            push_pair(line, n, point)
+            push_pair(line, *n, *point)
         }
         CupError::Memory => Err(AllocError),
     }
@@ -70,22 +78,22 @@ fn push_key(line: &mut Vec<u8>, key: Key) -> Result<(), AllocError>
 }
 
 /// Appends what is refused, its number and its place.
-fn push_cause(line: &mut Vec<u8>, cause: Cause) -> Result<(), AllocError>
-    ensures { OnOk result (line.new.items ≡ line.old.items ++ cause_text cause) }
+fn push_cause(line: &mut Vec<u8>, alloc: Global, cause: &Cause) -> Result<(), AllocError>
+    ensures { OnOk result (line.new.items ≡ line.old.items ++ cause_text cause.now) }
 {
     match cause {
         Cause::NotListed | Cause::NoRecording => line.extend_from_slice(b"FILE 1 -"),
         Cause::TooLarge => line.extend_from_slice(b"FILE 3 -"),
-        Cause::Cup(error) => push_cup_error(line, error),
+        Cause::Cup(error) => push_cup_error(line, alloc, error),
         Cause::Shape(n, point) => {
             line.extend_from_slice(b"CUP 12 ")?;
-            push_pair(line, n, point)
+            push_pair(line, *n, *point)
         }
         Cause::Task(number, key) => {
             line.extend_from_slice(b"TASK ")?;
-            push_u64(line, u64::from(number))?;
+            push_u64(line, u64::from(*number))?;
             line.extend_from_slice(b" ")?;
-            push_key(line, key)
+            push_key(line, *key)
         }
         Cause::Differs => line.extend_from_slice(b"CUP 13 -"),
         Cause::Stopped(_) => Err(AllocError),
@@ -93,8 +101,8 @@ fn push_cause(line: &mut Vec<u8>, cause: Cause) -> Result<(), AllocError>
 }
 
 /// Appends the file that is named.
-fn push_file(line: &mut Vec<u8>, file: &Name, cause: Cause) -> Result<(), AllocError>
-    ensures { OnOk result (line.new.items ≡ line.old.items ++ file_text file.now cause) }
+fn push_file(line: &mut Vec<u8>, file: &Name, cause: &Cause) -> Result<(), AllocError>
+    ensures { OnOk result (line.new.items ≡ line.old.items ++ file_text file.now cause.now) }
 {
     match cause {
         Cause::NoRecording => line.extend_from_slice(b"*.IGC"),
@@ -104,11 +112,11 @@ fn push_file(line: &mut Vec<u8>, file: &Name, cause: Cause) -> Result<(), AllocE
 
 /// The line that a refused run says.
 #[tactic(auto, unfolding(crate::specs::Refusals::refusal_text))]
-pub fn refusal_line(alloc: Global, file: &Name, cause: Cause) -> Result<Vec<u8>, AllocError>
-    ensures { IfOk result (λ line. line.items ≡ refusal_text file.now cause) }
+pub fn refusal_line(alloc: Global, file: &Name, cause: &Cause) -> Result<Vec<u8>, AllocError>
+    ensures { IfOk result (λ line. line.items ≡ refusal_text file.now cause.now) }
 {
     let mut line = Vec::from_slice(alloc, b"REFUSED ")?;
-    push_cause(&mut line, cause)?;
+    push_cause(&mut line, alloc, cause)?;
     line.extend_from_slice(b" ")?;
     push_file(&mut line, file, cause)?;
     line.extend_from_slice(b"\n")?;

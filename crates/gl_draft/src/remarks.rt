@@ -6,7 +6,7 @@ use crate::lines::Lines;
 use crate::plain::plain_text;
 use crate::recording::Recording;
 use crate::words::Words;
-use gl_cup::CupTask;
+use gl_cup::{CupTask, PassedKey};
 use std::alloc::{AllocError, Global};
 
 /// Appends where the file comes from.
@@ -58,6 +58,26 @@ fn note_recordings(
     lines.note("Everybody has the handicap 1000: change it if there are handicaps.")
 }
 
+/// Appends a key that is passed over.
+fn note_passed(alloc: Global, lines: &mut Lines, passed: &PassedKey) -> Result<(), AllocError>
+    ensures { OnOk result (lines.new ≡ lines.old) }
+{
+    let line = passed.line;
+    let key = plain_text(alloc, passed.key.as_slice())?;
+    let text = format!(in alloc; "Line {line} of the SeeYou file: {key} is passed over.")?;
+    lines.note(text.as_str())
+}
+
+/// Appends the keys that are passed over.
+fn note_all_passed(alloc: Global, lines: &mut Lines, passed: &[PassedKey]) -> Result<(), AllocError>
+    ensures { OnOk result (lines.new ≡ lines.old) }
+{
+    'passed: for key in passed {
+        note_passed(alloc, lines, key)?;
+    }
+    Ok(())
+}
+
 /// The remarks at the head of the file.
 pub fn remarks(
     alloc: Global,
@@ -72,6 +92,7 @@ pub fn remarks(
     note_source(alloc, &mut lines, words, task)?;
     lines.note("Fill in each line that says FILL IN; score refuses the file until then.")?;
     note_rounding(alloc, &mut lines, task)?;
+    note_all_passed(alloc, &mut lines, task.passed.as_slice())?;
     note_recordings(&mut lines, recordings, left_out)?;
     Ok(lines)
 }

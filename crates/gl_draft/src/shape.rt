@@ -1,5 +1,5 @@
-ghost use Rattle.std.specs.Prelude.{◌≡◌, ◌||◌, true, false, IfNone, IfOk, IfSome};
-ghost use Rattle.gl_draft.specs.Taken.{ArePartsOf, HasNoFinish, HasNoPart, HasNoZone, IsFinishOf, IsPartOf, IsSecondOf, IsStartOf, IsTooNear, IsZoneFor, is_alone, is_gate, is_keyhole, is_part, is_ring, is_start_line, is_to_next, is_to_previous};
+ghost use Rattle.std.specs.Prelude.{◌≡◌, true, false, IfNone, IfOk, IfSome};
+ghost use Rattle.gl_draft.specs.Taken.{ArePartsOf, HasNoFinish, HasNoPart, HasNoZone, IsFinishOf, IsPartOf, IsSecondOf, IsStartOf, IsTooNear, IsZoneFor, inner_of, is_alone, is_gate, is_keyhole, is_part, is_ring, is_ring_sector, is_sayable, is_start_line, is_to_next, is_to_previous};
 
 use crate::draft::{Finish, Part, Sector, Start, Zone};
 use crate::far_side::opposite;
@@ -77,6 +77,27 @@ fn is_keyhole(zone: ObsZone) -> bool
     zone.second_radius != 0 && zone.angle != HALF_TURN && zone.second_angle == HALF_TURN
 }
 
+/// Whether a zone is a sector that begins at its second radius: two sectors with one half angle.
+fn is_ring_sector(zone: ObsZone) -> bool
+    ensures { result ≡ is_ring_sector zone }
+{
+    zone.second_radius != 0
+        && zone.angle != HALF_TURN
+        && zone.second_angle == zone.angle
+        && zone.second_radius < zone.radius
+}
+
+/// Where a sector begins: at its second radius, or else at its centre.
+fn inner_of(zone: ObsZone) -> u32
+    ensures { result ≡ inner_of zone }
+{
+    if is_ring_sector(zone) {
+        zone.second_radius
+    } else {
+        0
+    }
+}
+
 /// A start that is a line across the way to the next point; none where its zone is of another
 /// shape.
 pub fn start_of(start: &CupPoint, next: &CupPoint) -> Option<Start>
@@ -143,18 +164,20 @@ fn first_part(turn: Turn<'_>) -> Option<Part>
     }
     let axis = axis_of(turn)?;
     Some(Part::Sector(Sector {
+        inner: inner_of(zone),
         outer: zone.radius,
         half_angle: zone.angle,
         axis,
     }))
 }
 
-/// The second part of a turn point's zone, where it has one or two parts that a task file can say.
+/// The second part of a turn point's zone, where a task file can say its parts: one, or a sector
+/// and a full circle.
 fn second_part(zone: ObsZone) -> Option<Option<Part>>
     ensures some { IfSome result (IsSecondOf zone) }
-    ensures none { IfNone result ((is_alone zone || is_keyhole zone) ≡ false) }
+    ensures none { IfNone result (is_sayable zone ≡ false) }
 {
-    if is_alone(zone) {
+    if is_alone(zone) || is_ring_sector(zone) {
         return Some(None);
     }
     if is_keyhole(zone) {

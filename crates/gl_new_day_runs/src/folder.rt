@@ -90,3 +90,48 @@ pub fn try_failing(rt: &HostRuntime) -> Result<()> {
     )?;
     Ok(())
 }
+
+/// A recording of so many fixes, one a second from midnight on.
+fn fixes_of(alloc: Global, count: u64) -> Result<String> {
+    let mut text = String::from_str(alloc, "== fixes.igc\nAXXX\nHFDTE180726\n")?;
+    for second in 0..count {
+        let hours = second / 3_600 % 24;
+        let minutes = second / 60 % 60;
+        let seconds = second % 60;
+        let time = format!(in alloc; "{hours:02}{minutes:02}{seconds:02}")?;
+        text.push_str("B")?;
+        text.push_str(time.as_str())?;
+        text.push_str("0000000N00000000EA0100001000\n")?;
+    }
+    Ok(text)
+}
+
+/// The recording of a name, whose last line stands so many times in it.
+fn long_recording(alloc: Global, name: &str, line: &str, times: u64) -> Result<String, AllocError> {
+    let mut text = format!(in alloc; "== {name}\nAXXX\nHFDTE180726\n")?;
+    for _ in 0..times {
+        text.push_str(line)?;
+    }
+    Ok(text)
+}
+
+/// Says what stands above the file of a recording that is too long, where the task file is made of
+/// it alone.
+fn show_long(rt: &HostRuntime, recording: &str) -> Result<()> {
+    let cup = fs::read(rt, "xcsoar.cup")?;
+    let (_, said) = answer(rt.alloc(), recording, &cup, "TASK.CUP")?;
+    for line in said.as_str().lines() {
+        if line.contains("REFUSED") || line.starts_with("file") {
+            println!(rt; "{line}")?;
+        }
+    }
+    Ok(())
+}
+
+/// Says what is remarked of a recording of too many fixes, and of one of too many bytes.
+pub fn show_long_recordings(rt: &HostRuntime) -> Result<()> {
+    let fixes = fixes_of(rt.alloc(), 90_001)?;
+    show_long(rt, fixes.as_str())?;
+    let bytes = long_recording(rt.alloc(), "bytes.igc", "LXXXXXXXXXXXXXX\n", 1_048_576)?;
+    show_long(rt, bytes.as_str())
+}

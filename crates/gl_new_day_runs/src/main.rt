@@ -11,6 +11,8 @@ use anyhow::Result;
 fn main(rt: HostRuntime) -> Result<()> {
     change::try_all(&rt)?;
     folder::try_failing(&rt)?;
+    folder::show_long_recordings(&rt)?;
+    folder::show(&rt, "wide.cup", "1")?;
     folder::show(&rt, "xcsoar.cup", "1")?;
     folder::show(&rt, "club.cup", "2")
 }

@@ -1,6 +1,6 @@
 use Rattle.std.proofs.Common.{◌≡◌, ◌+◌, ◌++◌, length}
 use Rattle.gl_draft.specs.Draft.{entrants_lines}
-use Rattle.gl_draft.proofs.way.say_entrants.Given as goal
+use Rattle.gl_draft.proofs.entrant_line.say_entrants.Given as goal
 
 -- the lines so far, and those of the entrants that are left, are those of all
 abbrev pub invariant-entrants : goal.invariant-entrants
