@@ -4,7 +4,8 @@ use Rattle.gl_cup.specs.declared.point.CupPoint.{CupPoint}
 use Rattle.gl_cup.specs.declared.point.CupTask.{CupTask}
 use Rattle.gl_draft.specs.Code.Course as no
 use Rattle.gl_draft.specs.Code.Course.{IsNoCourse}
-use Rattle.gl_draft.specs.Taken.{IsShapeless, IsUnmade, memory, shapeless}
+use Rattle.gl_draft.specs.Made.{IsUnmade, memory, shapeless}
+use Rattle.gl_draft.specs.Taken.{IsShapeless}
 use Rattle.gl_draft.specs.declared.recording.Recording.{Recording}
 use Rattle.gl_draft.specs.declared.refusal.Cause.{Cause}
 

@@ -37,6 +37,15 @@ cause_of_task (task.Twice key) = cause.Task 4 key
 cause_of_task (task.TooMany key) = cause.Task 5 key
 cause_of_task task.Memory = cause.Stopped desk.Memory
 
+-- what is wrong with a task file that stands in the folder
+abbrev pub cause_of_file : TaskError → code.Cause
+cause_of_file task.Toml = cause.NoToml
+cause_of_file (task.Missing key) = cause.Task 2 key
+cause_of_file (task.Value key) = cause.Task 3 key
+cause_of_file (task.Twice key) = cause.Task 4 key
+cause_of_file (task.TooMany key) = cause.Task 5 key
+cause_of_file task.Memory = cause.Stopped desk.Memory
+
 -- a call of the desk failed, or there was no memory
 abbrev pub IsStopped : code.Cause → Type 0
 IsStopped (cause.Stopped stop) = ⊤
@@ -49,6 +58,7 @@ stop_of_cause cause.TooLarge = None
 stop_of_cause cause.NoRecording = None
 stop_of_cause (cause.Cup error) = None
 stop_of_cause (cause.Shape line point) = None
+stop_of_cause cause.NoToml = None
 stop_of_cause (cause.Task number key) = None
 stop_of_cause cause.Differs = None
 stop_of_cause (cause.Stopped stop) = Some stop
@@ -60,6 +70,7 @@ IsNoFault cause.TooLarge = ⊤
 IsNoFault cause.NoRecording = ⊤
 IsNoFault (cause.Cup error) = ⊤
 IsNoFault (cause.Shape line point) = ⊤
+IsNoFault cause.NoToml = ⊤
 IsNoFault (cause.Task number key) = ⊤
 IsNoFault cause.Differs = ⊤
 IsNoFault (cause.Stopped stop) = stop ≡ desk.Memory

@@ -2,7 +2,9 @@ pub mod Causes
 pub mod Code
 pub mod Draft
 pub mod Heading
+pub mod Late
 pub mod Line
+pub mod Made
 pub mod Recordings
 pub mod Refusals
 pub mod Run

@@ -36,6 +36,7 @@ cause_text cause.NoRecording = codes "FILE 1 -"
 cause_text cause.TooLarge = codes "FILE 3 -"
 cause_text (cause.Cup error) = cup_text error
 cause_text (cause.Shape line point) = codes "CUP 12 " ++ pair_text line point
+cause_text cause.NoToml = codes "TASK 1 -"
 cause_text (cause.Task number key) =
     codes "TASK " ++ decimal number ++ codes " " ++ pair_text key.row key.item ++ codes "."
     ++ decimal key.part

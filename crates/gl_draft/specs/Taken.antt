@@ -1,4 +1,4 @@
--- What is taken from a task of a SeeYou file and the recordings of a folder, and why nothing is.
+-- What is taken from a task of a SeeYou file, and why nothing is.
 use Rattle.std.specs.Prelude.{◌≡◌, ℕ, ◌<◌, ◌≤◌, ◌+◌, ◌==◌, ◌&&◌, not, nat_le, nat_lt, if◌then◌else◌, List, [], ◌∷◌, length, slice_get, true, Option, None, Some, ℤ, pos, ◌+ℤ◌, ◌≤ℤ◌, ⊤, ◌||◌, is_some, Bool, false}
 use Rattle.std.specs.List.{list_any}
 use Rattle.jiff_core.specs.Calendar.{IsEpochDay}
@@ -7,19 +7,12 @@ use Rattle.jiff_core.specs.declared.civil.date.Date.{Date}
 use Rattle.gl_draft.specs.Opposite.{IsOpposite}
 use Rattle.gl_sphere.specs.Distance.{squared_chord, written_distance}
 use Rattle.gl_sphere.specs.Place.{written_vector}
-use Rattle.gl_cup.specs.declared.error.CupError.{CupError}
 use Rattle.gl_cup.specs.declared.point.CupPoint.{CupPoint}
 use Rattle.gl_cup.specs.declared.point.CupTask.{CupTask}
 use Rattle.gl_cup.specs.declared.zone.ObsZone.{ObsZone}
 use Rattle.gl_cup.specs.declared.zone.Style as code_style
 use Rattle.gl_cup.specs.declared.zone.Style.TheVariants as style
-use Rattle.gl_cup.specs.Reading.{IsTaskOf}
-use Rattle.gl_cup.specs.Refusal.{IsRefusalOf}
-use Rattle.gl_desk.specs.declared.error.DeskError.TheVariants as desk
-use Rattle.gl_desk.specs.Desk.{FilesByName, IsLongerThan, IsSeenIn}
-use Rattle.gl_desk.specs.Limits.{most_bytes}
 use Rattle.gl_sphere.specs.declared.place.Grid.{Grid}
-use Rattle.gl_draft.specs.declared.draft.Draft.{Draft}
 use Rattle.gl_draft.specs.declared.draft.Finish as code_finish
 use Rattle.gl_draft.specs.declared.draft.Finish.TheVariants.{Ring, Gate}
 use Rattle.gl_draft.specs.declared.draft.Kind as code_kind
@@ -29,16 +22,9 @@ use Rattle.gl_draft.specs.declared.draft.Part.TheVariants.{Circle, Sector}
 use Rattle.gl_draft.specs.declared.draft.Sector as code_sector
 use Rattle.gl_draft.specs.declared.draft.Start.{Start}
 use Rattle.gl_draft.specs.declared.draft.Zone.{Zone}
-use Rattle.gl_draft.specs.declared.recording.Recording.{Recording}
-use Rattle.gl_draft.specs.declared.refusal.Cause as code_cause
-use Rattle.gl_draft.specs.declared.refusal.Cause.TheVariants as cause
 use Rattle.gl_draft.specs.declared.turn.Turn.{Turn}
-use Rattle.gl_draft.specs.Causes.{IsStopped, cause_of_cup}
-use Rattle.gl_draft.specs.Draft.{IsDraftText, IsNoDraft}
-use Rattle.gl_draft.specs.Recordings.{AreRecordingsOf, common_day, entrants_of}
 use Rattle.gl_draft.specs.Sector.{HasNoAxis, IsAxisOf}
 use Rattle.gl_draft.specs.Turn.{ArePair, IsTurnAt}
-use Rattle.gl_draft.specs.Words.{Asked}
 
 -- two angles in 1/100,000 minute are at most half a thousandth of a minute apart
 abbrev pub IsNear : ℤ → ℤ → Type 0
@@ -271,67 +257,3 @@ IsDay None None = ⊤
 IsDay None (Some day) = ¬ (IsEpochDay day)
 IsDay (Some date) None = ⊥
 IsDay (Some date) (Some day) = epoch_day date ≡ day
-
--- all that is taken from a task and recordings: the kind, the course, the entrants and the day
-pub record IsDraftOf (task : CupTask) (recordings : List Recording) (draft : Draft) : Type 0 where
-  pub kind_is : draft.kind ≡ kind_by (is_area_task task) task.time
-  pub course : IsCourseOf task.points draft.start draft.zones draft.finish
-  pub entrants : draft.entrants ≡ entrants_of recordings
-  pub date : IsDay draft.date (common_day recordings)
-
--- the task of a file of the folder, by its number or as the only one
-pub record IsTaskIn (folder : Option FilesByName) (asked : Asked) (task : CupTask) : Type 0 where
-  pub cup : List ℕ
-  pub seen : IsSeenIn folder asked.0 (Some cup)
-  pub short : length cup ≤ most_bytes
-  pub read : IsTaskOf cup asked.1 task
-
--- the task and the recordings of a folder
-pub record AreSources (folder : Option FilesByName) (asked : Asked) (task : CupTask)
-    (recordings : List Recording) : Type 0 where
-  pub task_is : IsTaskIn folder asked task
-  pub are : AreRecordingsOf folder recordings
-
--- the text of a task file for a task and recordings, of which there are some
-pub record IsTextOf (task : CupTask) (recordings : List Recording) (text : List ℕ) : Type 0 where
-  pub draft : Draft
-  pub some : 0 < length recordings
-  pub taken : IsDraftOf task recordings draft
-  pub is : IsDraftText draft text
-
--- the text of a task file for the task that is asked for and the recordings of the folder
-pub record IsMade (folder : Option FilesByName) (asked : Asked) (text : List ℕ) : Type 0 where
-  pub task : CupTask
-  pub recordings : List Recording
-  pub sources : AreSources folder asked task recordings
-  pub text_is : IsTextOf task recordings text
-
--- the folder has a task and recordings, but the first of these is wrong: there is no recording, a
--- zone is of a shape that a task file can't say, or the text says no task with what was taken
-pub data IsUnmade (task : CupTask) (recordings : List Recording) (why : code_cause.Cause)
-    : Type 0 where
-  nobody : recordings ≡ [] → why ≡ cause.NoRecording → IsUnmade task recordings why
-  shapeless : (line number : ℕ) → 0 < length recordings → IsShapeless task.points line number
-      → why ≡ cause.Shape line number → IsUnmade task recordings why
-  unsaid : (draft : Draft) → 0 < length recordings → IsDraftOf task recordings draft
-      → IsNoDraft draft why → IsUnmade task recordings why
-  memory : why ≡ cause.Stopped desk.Memory → IsUnmade task recordings why
-
--- why the file gives no task
-pub data IsNoTaskIn (folder : Option FilesByName) (asked : Asked) (why : code_cause.Cause)
-    : Type 0 where
-  not_listed : IsSeenIn folder asked.0 None → why ≡ cause.NotListed → IsNoTaskIn folder asked why
-  too_large : IsLongerThan most_bytes folder asked.0 → why ≡ cause.TooLarge
-      → IsNoTaskIn folder asked why
-  refused : (cup : List ℕ) → IsSeenIn folder asked.0 (Some cup) → length cup ≤ most_bytes
-      → (error : CupError) → IsRefusalOf cup asked.1 error → why ≡ cause_of_cup error
-      → IsNoTaskIn folder asked why
-
--- why no task file is made
-pub data IsRefused (folder : Option FilesByName) (asked : Asked) (why : code_cause.Cause)
-    : Type 0 where
-  no_task : IsNoTaskIn folder asked why → IsRefused folder asked why
-  unmade : (task : CupTask) → (recordings : List Recording)
-      → AreSources folder asked task recordings → IsUnmade task recordings why
-      → IsRefused folder asked why
-  stopped : IsStopped why → IsRefused folder asked why

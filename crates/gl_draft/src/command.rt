@@ -1,46 +1,49 @@
-ghost use Rattle.std.specs.Prelude.{◌≡◌, ◌<◌, ◌≤◌, IfErr, IfOk, length};
+ghost use Rattle.std.specs.Prelude.{◌≡◌, ◌<◌, ◌≤◌, IfErr, IfOk, None, Some, length};
 ghost use Rattle.gl_cup.specs.Reading.{IsTaskOf};
 ghost use Rattle.gl_desk.specs.Answers.{OnlyReads, stop_of};
 ghost use Rattle.gl_desk.specs.Desk.{ListsNames};
 ghost use Rattle.gl_draft.specs.Causes.{IsNoFault, stop_of_cause};
 ghost use Rattle.gl_draft.specs.Code.Run.{Answers, IsAnswerFor, IsFileIn, IsNoCup, asked_by, stop_in};
-ghost use Rattle.gl_draft.specs.Run.{IsRun};
-ghost use Rattle.gl_draft.specs.Taken.{AreSources, IsDay, IsDraftOf, IsMade, IsNoTaskIn, IsRefused, IsTaskIn, IsTextOf, IsUnmade};
+ghost use Rattle.gl_draft.specs.Made.{AreSources, IsDraftOf, IsMade, IsNoFileIn, IsNoTaskIn, IsRefused, IsTaskIn, IsTextOf, IsUnmade};
+ghost use Rattle.gl_draft.specs.Run.{IsRun, draft, late};
+ghost use Rattle.gl_draft.specs.Taken.{IsDay};
+ghost use Rattle.gl_draft.specs.Words.{words_of};
 
 use crate::answer::Status;
 use crate::course::{Course, course_of, kind_of};
 use crate::draft::Draft;
 use crate::entrant::{common_day, entrants_of};
 use crate::folder::read_recordings;
+use crate::late::make_late;
 use crate::recording::{Recording, is_left_out};
 use crate::refusal::Cause;
 use crate::refusal_line::refusal_line;
 use crate::remarks::remarks;
 use crate::text::draft_text;
-use crate::words::{USAGE, Words, read_words};
+use crate::words::{USAGE, Words, read_late, read_words};
 use gl_cup::{CupTask, read_cup};
 use gl_desk::{Desk, DeskError, MOST_BYTES, Name, ReadError, read_all};
 use gl_text::Items;
 use jiff_core::civil::Date;
 use std::alloc::{AllocError, Global};
 
-/// The bytes of the task's file, which has to be one of the folder's.
-fn read_file<D: Desk>(
+/// The bytes of a file, which has to be one of the folder's.
+pub fn read_file<D: Desk>(
     alloc: Global,
     desk: &mut D,
     names: &[Name],
-    words: Words<'_>,
+    file: &Name,
 ) -> Result<Vec<u8>, Cause>
     requires { ListsNames (D.told desk.old).folder names.now }
     ensures file { IfOk result (λ bytes.
-        IsFileIn (D.told desk.old).folder words.entry.file.now bytes.items) }
-    ensures refused { IfErr result (IsRefused (D.told desk.old).folder (asked_by words.entry)) }
+        IsFileIn (D.told desk.old).folder file.now bytes.items) }
+    ensures refused { IfErr result (IsNoFileIn (D.told desk.old).folder file.now) }
     ensures reads { OnlyReads (stop_in result) (D.told desk.old) (D.told desk.new) }
 {
-    if !names.contains(words.file) {
+    if !names.contains(file) {
         return Err(Cause::NotListed);
     }
-    match read_all(alloc, desk, words.file, MOST_BYTES) {
+    match read_all(alloc, desk, file, MOST_BYTES) {
         Ok(bytes) => Ok(bytes),
         Err(ReadError::TooLarge) => Err(Cause::TooLarge),
         Err(ReadError::Fault) => Err(Cause::Stopped(DeskError::Failed)),
@@ -70,7 +73,7 @@ fn read_task_file<D: Desk>(
     ensures refused { IfErr result (IsRefused (D.told desk.old).folder (asked_by words.entry)) }
     ensures reads { OnlyReads (stop_in result) (D.told desk.old) (D.told desk.new) }
 {
-    let bytes = read_file(alloc, desk, names, words)?;
+    let bytes = read_file(alloc, desk, names, words.file)?;
     task_of(alloc, &bytes, words)
 }
 
@@ -210,9 +213,10 @@ fn stop_of(cause: &Cause) -> Option<DeskError>
     }
 }
 
-/// The answer to words of the right form.
+/// The answer to words that ask for a task file.
 fn answer_words<D: Desk>(alloc: Global, desk: &mut D, words: Words<'_>) -> Result<Answer, DeskError>
-    ensures is { IfOk result (IsAnswerFor (D.told desk.old).folder (asked_by words.entry)) }
+    ensures is { IfOk result (IsAnswerFor (D.told desk.old).folder
+        (Some (draft (asked_by words.entry)))) }
     ensures reads { OnlyReads (stop_of result) (D.told desk.old) (D.told desk.new) }
 {
     match make_file(alloc, desk, words) {
@@ -230,13 +234,34 @@ fn answer_words<D: Desk>(alloc: Global, desk: &mut D, words: Words<'_>) -> Resul
     }
 }
 
-/// The answer to the words.
-fn answer_to<D: Desk>(alloc: Global, words: &[Name], desk: &mut D) -> Result<Answer, DeskError>
+/// The answer to words that ask for the late recordings of a task file.
+fn answer_late<D: Desk>(alloc: Global, desk: &mut D, file: &Name) -> Result<Answer, DeskError>
+    ensures is { IfOk result (IsAnswerFor (D.told desk.old).folder (Some (late file.now))) }
+    ensures reads { OnlyReads (stop_of result) (D.told desk.old) (D.told desk.new) }
+{
+    match make_late(alloc, desk, file) {
+        Ok(text) => Ok(Answer {
+            status: Status::Done,
+            text,
+        }),
+        Err(cause) => match stop_of(&cause) {
+            Some(stop) => Err(stop),
+            None => Ok(Answer {
+                status: Status::Refused,
+                text: refusal_line(alloc, file, &cause)?,
+            }),
+        },
+    }
+}
+
+/// The answer to words that ask for no task file.
+fn answer_others<D: Desk>(alloc: Global, words: &[Name], desk: &mut D) -> Result<Answer, DeskError>
+    requires { words_of words.now ≡ None }
     ensures is { IfOk result (Answers (D.told desk.old).folder words.now) }
     ensures reads { OnlyReads (stop_of result) (D.told desk.old) (D.told desk.new) }
 {
-    match read_words(words) {
-        Some(words) => answer_words(alloc, desk, words),
+    match read_late(words) {
+        Some(file) => answer_late(alloc, desk, file),
         None => Ok(Answer {
             status: Status::Words,
             text: Vec::from_slice(alloc, USAGE.as_bytes())?,
@@ -244,8 +269,19 @@ fn answer_to<D: Desk>(alloc: Global, words: &[Name], desk: &mut D) -> Result<Ans
     }
 }
 
-/// Makes a task file from the words, which are those after the program's own name, and says it in
-/// one piece. Nothing is written, and nothing is said after a call of the desk failed.
+/// The answer to the words.
+fn answer_to<D: Desk>(alloc: Global, words: &[Name], desk: &mut D) -> Result<Answer, DeskError>
+    ensures is { IfOk result (Answers (D.told desk.old).folder words.now) }
+    ensures reads { OnlyReads (stop_of result) (D.told desk.old) (D.told desk.new) }
+{
+    match read_words(words) {
+        Some(words) => answer_words(alloc, desk, words),
+        None => answer_others(alloc, words, desk),
+    }
+}
+
+/// Makes a task file, or tables of late recordings, as the words say, which are those after the
+/// program's own name, and says it in one piece. Nothing is written, and nothing is said after a call of the desk failed.
 pub fn run<D: Desk>(alloc: Global, words: &[Name], desk: &mut D) -> Status
     ensures { IsRun words.now result (D.told desk.old) (D.told desk.new) }
 {

@@ -1,4 +1,4 @@
-ghost use Rattle.std.specs.Prelude.{◌≡◌, IfOk, None, Some, option_and_then, unwrap_or};
+ghost use Rattle.std.specs.Prelude.{◌≡◌, ◌≤◌, IfOk, length, None, Some, option_and_then, unwrap_or};
 ghost use Rattle.std.specs.List.{list_all, list_any};
 ghost use Rattle.std.specs.Option.{option_or};
 ghost use Rattle.std.specs.Char.{is_ascii_alphanumeric};
@@ -6,7 +6,7 @@ ghost use Rattle.gl_igc.specs.FirstOf.{first_of};
 ghost use Rattle.gl_draft.specs.declared.entrant.Entrant.{Entrant};
 ghost use Rattle.gl_draft.specs.declared.recording.Recording.{Recording};
 ghost use Rattle.gl_draft.specs.Heading.{last_eight, number_by_file, pilot_by_file, stem_of};
-ghost use Rattle.gl_draft.specs.Recordings.{common_day, day_of_all, entrant_behind, entrants_of, has_number, is_of_day, unless_taken};
+ghost use Rattle.gl_draft.specs.Recordings.{common_day, day_of_all, entrant_behind, entrants_behind, entrants_of, has_number, is_of_day, unless_taken};
 ghost use Rattle.std.specs.Prelude.{filter};
 
 use crate::heading::{Said, read_kept};
@@ -149,11 +149,16 @@ fn entrant_behind(
     })
 }
 
-/// The entrants of recordings.
-pub fn entrants_of(alloc: Global, recordings: &[Recording]) -> Result<Vec<Entrant>, AllocError>
-    ensures { IfOk result (λ entrants. entrants.items ≡ entrants_of recordings.now) }
+/// Some entrants, and behind them those of recordings.
+pub fn entrants_behind(
+    alloc: Global,
+    before: Vec<Entrant>,
+    recordings: &[Recording],
+) -> Result<Vec<Entrant>, AllocError>
+    ensures are { IfOk result (λ all. all.items ≡ entrants_behind before.items recordings.now) }
+    ensures more { IfOk result (λ all. length before.items ≤ length all.items) }
 {
-    let mut entrants = Vec::new(alloc);
+    let mut entrants = before;
     let mut left = recordings;
     'recordings: while let Some((recording, rest)) = left.split_first() {
         let entrant = entrant_behind(alloc, &entrants, recording)?;
@@ -161,6 +166,13 @@ pub fn entrants_of(alloc: Global, recordings: &[Recording]) -> Result<Vec<Entran
         left = rest;
     }
     Ok(entrants)
+}
+
+/// The entrants of recordings.
+pub fn entrants_of(alloc: Global, recordings: &[Recording]) -> Result<Vec<Entrant>, AllocError>
+    ensures { IfOk result (λ entrants. entrants.items ≡ entrants_of recordings.now) }
+{
+    entrants_behind(alloc, Vec::new(alloc), recordings)
 }
 
 /// Whether a recording is of a day, as far as its day is known.
@@ -188,7 +200,7 @@ fn first_day(recordings: &[Recording]) -> Option<i32>
 }
 
 /// Whether all recordings are of a day, as far as their days are known.
-fn are_of_day(day: i32, recordings: &[Recording]) -> bool
+pub fn are_of_day(day: i32, recordings: &[Recording]) -> bool
     ensures { result ≡ list_all (λ (r : Recording). is_of_day day r.day) recordings.now }
 {
     recordings

@@ -18,6 +18,7 @@ mod far_side;
 mod folder;
 mod heading;
 mod key_line;
+mod late;
 mod line;
 mod lines;
 mod middle;

@@ -21,6 +21,8 @@ pub enum Cause {
     Cup(CupError),
     /// On this line, the zone of this point is of a shape that a task file can't say.
     Shape(u64, u64),
+    /// The task file isn't TOML.
+    NoToml,
     /// A task file can't say this key, or the numbers of two entrants are one.
     Task(u32, Key),
     /// What was written doesn't read as what was taken.

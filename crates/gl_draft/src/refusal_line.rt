@@ -89,6 +89,7 @@ fn push_cause(line: &mut Vec<u8>, alloc: Global, cause: &Cause) -> Result<(), Al
             line.extend_from_slice(b"CUP 12 ")?;
             push_pair(line, *n, *point)
         }
+        Cause::NoToml => line.extend_from_slice(b"TASK 1 -"),
         Cause::Task(number, key) => {
             line.extend_from_slice(b"TASK ")?;
             push_u64(line, u64::from(*number))?;

@@ -1,12 +1,12 @@
 ghost use Rattle.std.specs.Prelude.{◌≡◌, option_map};
 ghost use Rattle.gl_draft.specs.Code.Run.{asked_by};
-ghost use Rattle.gl_draft.specs.Words.{file_alone, is_file, number_in, pair_of, words_of};
+ghost use Rattle.gl_draft.specs.Words.{file_alone, is_file, late_file, late_of, number_in, pair_of, words_of};
 
 use gl_desk::Name;
 use gl_text::is_file_name;
 
 /// The line for words of another form.
-pub const USAGE: &str = "usage: TASK.CUP | TASK.CUP NUMBER\n";
+pub const USAGE: &str = "usage: TASK.CUP | TASK.CUP NUMBER | --late DAY.TOML\n";
 
 /// What the words ask for: the file, and the number of its task, if there is one.
 #[derive(Clone, Copy, Debug)]
@@ -65,6 +65,27 @@ pub fn read_words(words: &[Name]) -> Option<Words<'_>>
     match words {
         [file] => read_file(file),
         [file, number] => read_pair(file, number),
+        _ => None,
+    }
+}
+
+/// A task file, behind the word that asks for its late recordings.
+fn late_file<'a>(word: &Name, file: &'a Name) -> Option<&'a Name>
+    ensures { option_map (λ file. file.now) result ≡ late_file word.now file.now }
+{
+    if word.as_str() == "--late" && is_file(file) {
+        Some(file)
+    } else {
+        None
+    }
+}
+
+/// The task file whose late recordings the words ask for, where they are of the form.
+pub fn read_late(words: &[Name]) -> Option<&Name>
+    ensures { option_map (λ file. file.now) result ≡ late_of words.now }
+{
+    match words {
+        [word, file] => late_file(word, file),
         _ => None,
     }
 }

@@ -5,9 +5,14 @@ use Rattle.gl_cup.specs.declared.error.CupError.{CupError}
 use Rattle.gl_desk.specs.Desk.{FilesByName, IsSeenIn}
 use Rattle.gl_desk.specs.Limits.{most_bytes}
 use Rattle.gl_desk.specs.declared.error.DeskError.{DeskError}
-use Rattle.gl_draft.specs.Causes.{cause_of_cup, stop_at, stop_of_cause}
-use Rattle.gl_draft.specs.Run.{IsAnswer, IsRefusedWith}
-use Rattle.gl_draft.specs.Taken.{IsMade}
+use Rattle.gl_draft.specs.Causes.{cause_of_cup, cause_of_file, stop_at, stop_of_cause}
+use Rattle.gl_draft.specs.Late.{IsDayIn}
+use Rattle.gl_draft.specs.Recordings.{AreRecordingsOf}
+use Rattle.gl_draft.specs.Run.{Form, IsAnswer, IsMadeFor, IsRefusedFor}
+use Rattle.gl_draft.specs.declared.recording.Recording.{Recording}
+use Rattle.gl_task.specs.declared.task.Task.{Task}
+use Rattle.gl_task_file.specs.Reading.{IsRefusalOf as IsNoFile}
+use Rattle.gl_task_file.specs.declared.error.TaskError.{TaskError}
 use Rattle.gl_draft.specs.declared.answer.Status as code_status
 use Rattle.gl_draft.specs.declared.answer.Status.TheVariants as status
 use Rattle.gl_draft.specs.Words.{Asked}
@@ -40,13 +45,25 @@ pub record IsNoCup (bytes : List ℕ) (which : Option ℕ) (why : code_cause.Cau
   pub refused : IsRefusalOf bytes which error
   pub why_is : why ≡ cause_of_cup error
 
--- an answer to words of the right form, which nothing stopped
-abbrev pub IsGivenFor : Option FilesByName → Asked → code_status.Status → List ℕ → Type 0
-IsGivenFor folder asked status.Done text = IsMade folder asked text
-IsGivenFor folder asked status.Words text = ⊥
-IsGivenFor folder asked status.Refused text = IsRefusedWith folder asked text
-IsGivenFor folder asked status.Desk text = ⊥
-IsGivenFor folder asked status.Memory text = ⊥
+-- why bytes are no task file
+pub record IsNoDayText (bytes : List ℕ) (why : code_cause.Cause) : Type 0 where
+  pub wrong : TaskError
+  pub refused : IsNoFile bytes wrong
+  pub why_is : why ≡ cause_of_file wrong
 
-abbrev pub IsAnswerFor : Option FilesByName → Asked → code_answer.Answer → Type 0
-IsAnswerFor folder asked answer = IsGivenFor folder asked answer.status answer.text.items
+-- the task of a task file and the recordings of the folder
+pub record AreLateSources (folder : Option FilesByName) (file : List ℕ) (task : Task)
+    (recordings : List Recording) : Type 0 where
+  pub task_is : IsDayIn folder file task
+  pub are : AreRecordingsOf folder recordings
+
+-- an answer to words of a form, which nothing stopped
+abbrev pub IsGivenFor : Option FilesByName → Option Form → code_status.Status → List ℕ → Type 0
+IsGivenFor folder form status.Done text = IsMadeFor folder form text
+IsGivenFor folder form status.Words text = ⊥
+IsGivenFor folder form status.Refused text = IsRefusedFor folder form text
+IsGivenFor folder form status.Desk text = ⊥
+IsGivenFor folder form status.Memory text = ⊥
+
+abbrev pub IsAnswerFor : Option FilesByName → Option Form → code_answer.Answer → Type 0
+IsAnswerFor folder form answer = IsGivenFor folder form answer.status answer.text.items

@@ -1,7 +1,7 @@
 use Rattle.std.proofs.Common.{rules}
 use Rattle.std.specs.Prelude.{IfErr}
 use Rattle.std.proofs.lemmas.Result.{IfErr-weaker}
-use Rattle.gl_draft.specs.Taken.{IsUnmade}
+use Rattle.gl_draft.specs.Made.{IsUnmade}
 use Rattle.gl_draft.proofs.Unmade.{no_course}
 use Rattle.gl_draft.proofs.command.draft_of.Goals as goal
 

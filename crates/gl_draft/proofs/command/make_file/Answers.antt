@@ -1,7 +1,7 @@
 use Rattle.std.proofs.Common.{rules}
 use Rattle.std.proofs.lemmas.Result.{IfErr-weaker, IfOk-weaker}
 use Rattle.gl_draft.specs.Code.Run.{asked_by}
-use Rattle.gl_draft.specs.Taken.{AreSources, unmade}
+use Rattle.gl_draft.specs.Made.{AreSources, unmade}
 use Rattle.gl_draft.proofs.Runs.{three_points}
 use Rattle.gl_draft.proofs.command.make_file.Goals as goal
 

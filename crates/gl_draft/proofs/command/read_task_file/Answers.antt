@@ -2,7 +2,7 @@ use Rattle.std.proofs.Common.{◌≤◌, rules, length, Some}
 use Rattle.std.proofs.lemmas.Result.{IfErr-weaker, IfOk-weaker}
 use Rattle.gl_desk.specs.Desk.{IsSeenIn}
 use Rattle.gl_desk.specs.Limits.{most_bytes}
-use Rattle.gl_draft.specs.Taken.{no_task, refused}
+use Rattle.gl_draft.specs.Made.{no_task, refused}
 use Rattle.gl_draft.proofs.command.read_task_file.Goals as goal
 
 pub returns-clause-task : goal.returns-clause-task

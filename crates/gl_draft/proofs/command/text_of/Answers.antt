@@ -1,5 +1,5 @@
 use Rattle.std.proofs.lemmas.Result.{IfErr-weaker, IfOk-weaker}
-use Rattle.gl_draft.specs.Taken.{unsaid}
+use Rattle.gl_draft.specs.Made.{unsaid}
 use Rattle.gl_draft.proofs.command.text_of.Goals as goal
 
 pub returns-clause-ok : goal.returns-clause-ok
