@@ -1,0 +1,4 @@
+pub mod Answered
+pub mod KeyLemmas
+pub mod Listing
+pub mod TextLemmas

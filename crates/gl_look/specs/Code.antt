@@ -1,0 +1,5 @@
+-- Definitions of the code alone: what its functions hand to one another. No promise to a caller
+-- cites them.
+pub mod Remarks
+pub mod Run
+pub mod Tables

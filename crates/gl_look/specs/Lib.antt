@@ -1,0 +1,9 @@
+pub mod Code
+pub mod Folder
+pub mod Keys
+pub mod Line
+pub mod Look
+pub mod Meaning
+pub mod Run
+pub mod Status
+pub mod Words
