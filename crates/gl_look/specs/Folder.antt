@@ -1,4 +1,4 @@
--- What is remarked of the files of a folder and of the entrants of a task.
+-- What is remarked of the entrants of a task among one another, and of recordings that none names.
 use Rattle.std.specs.Prelude.{ℕ, ◌*◌, ◌-◌, nat_le, nat_lt, ◌&&◌, not, codes, ◌++◌, Bool, if◌then◌else◌, length, List, [], ◌∷◌, drop, map, Option, None, Some}
 use Rattle.std.specs.Char.{to_ascii_lowercase}
 use Rattle.std.specs.List.{flat_map, list_any}
@@ -9,24 +9,6 @@ use Rattle.gl_look.specs.declared.told.Slip as code_slip
 use Rattle.gl_look.specs.declared.told.Slip.TheVariants as slip
 use Rattle.gl_look.specs.declared.told.Subject.TheVariants as subject
 use Rattle.gl_look.specs.declared.told.Told.{Told}
-
--- a file is among the names of a folder
-abbrev pub is_listed : List (List ℕ) → List ℕ → Bool
-is_listed names file = list_any (λ name. is_text name file) names
-
--- what is wrong with a file that is named
-abbrev pub slip_of_file : List (List ℕ) → List ℕ → Option code_slip.Slip
-slip_of_file names file = if is_listed names file then None else Some slip.NoFile
-
--- the airspace file, if the task names one, isn't there
-abbrev pub airspace_told : List (List ℕ) → Option (List ℕ) → List Told
-airspace_told names None = []
-airspace_told names (Some file) = told_if (subject.File file) (slip_of_file names file)
-
--- the recording of an entrant isn't there
-abbrev pub missing_told : List (List ℕ) → Entrant → List Told
-missing_told names entrant =
-    told_if (subject.Entrant entrant.number) (slip_of_file names entrant.file)
 
 -- an entrant has a file
 abbrev pub has_file : List ℕ → Entrant → Bool

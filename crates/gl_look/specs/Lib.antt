@@ -1,9 +1,11 @@
 pub mod Code
+pub mod Flights
 pub mod Folder
 pub mod Keys
 pub mod Line
 pub mod Look
 pub mod Meaning
 pub mod Run
+pub mod Sights
 pub mod Status
 pub mod Words

@@ -4,15 +4,13 @@ ghost use Rattle.std.specs.List.{flat_map, list_any};
 ghost use Rattle.std.specs.List.Sorted.{IsSorted};
 ghost use Rattle.std.specs.Ordering.{nat_cmp};
 ghost use Rattle.gl_text.specs.Forms.{is_text};
-ghost use Rattle.gl_look.specs.Folder.{airspace_told, are_far, handicaps_told, has_file, is_far, is_igc, is_listed, missing_told, shared_told, slip_of_file, slip_of_name, unnamed_told};
+ghost use Rattle.gl_look.specs.Folder.{are_far, handicaps_told, has_file, is_far, is_igc, shared_told, slip_of_name, unnamed_told};
 ghost use Rattle.gl_look.specs.Keys.{told_if};
 
-use crate::folder_words::{
-    words_of_handicaps, words_of_missing, words_of_missing_airspace, words_of_shared,
-};
+use crate::folder_words::{words_of_handicaps, words_of_shared};
 use crate::remarks::Remarks;
 use crate::scan::Scan;
-use crate::told::{Place, Section, Slip, Subject, Told};
+use crate::told::{Slip, Subject, Told};
 use gl_desk::Name;
 use gl_task::Entrant;
 use std::alloc::{AllocError, Global};
@@ -24,26 +22,8 @@ fn is_text(name: &Name, other: &Name) -> bool
     name.as_str() == other.as_str()
 }
 
-/// Whether a file is among the names of a folder.
-fn is_listed(names: &[Name], file: &Name) -> bool
-    ensures { result ≡ is_listed names.now file.now }
-{
-    names.iter().any(|name| is_text(name, file))
-}
-
-/// What is wrong with a file that is named.
-fn slip_of_file(names: &[Name], file: &Name) -> Option<Slip>
-    ensures { result ≡ slip_of_file names.now file.now }
-{
-    if is_listed(names, file) {
-        None
-    } else {
-        Some(Slip::NoFile)
-    }
-}
-
 /// The name of an entrant, as the subject of a remark.
-fn about(alloc: Global, entrant: &Entrant) -> Result<Subject, AllocError>
+pub fn about(alloc: Global, entrant: &Entrant) -> Result<Subject, AllocError>
     ensures { IfOk result (λ subject. subject ≡ Subject.Entrant entrant.now.number) }
 {
     let number = Name::from_text(alloc, entrant.number.as_str())?;
@@ -51,75 +31,10 @@ fn about(alloc: Global, entrant: &Entrant) -> Result<Subject, AllocError>
 }
 
 /// A file, as the subject of a remark.
-fn about_file(alloc: Global, file: &Name) -> Result<Subject, AllocError>
+pub fn about_file(alloc: Global, file: &Name) -> Result<Subject, AllocError>
     ensures { IfOk result (λ subject. subject ≡ Subject.File file.now) }
 {
     Ok(Subject::File(Name::from_text(alloc, file.as_str())?))
-}
-
-/// Remarks that the airspace file isn't there.
-pub fn look_for_airspace(
-    alloc: Global,
-    remarks: &mut Remarks,
-    scan: Scan<'_>,
-    names: &[Name],
-    airspace: &Option<Name>,
-) -> Result<(), AllocError>
-    ensures { OnOk result (remarks.new ≡ remarks.old ++ airspace_told names.now airspace.now) }
-{
-    let Some(file) = airspace else {
-        return Ok(());
-    };
-    let Some(slip) = slip_of_file(names, file) else {
-        return Ok(());
-    };
-    let top = Place {
-        section: Section::Day,
-        item: 0,
-        part: 0,
-    };
-    let subject = about_file(alloc, file)?;
-    let head = scan.head(alloc, scan.line_of_key(top, "airspace"))?;
-    let words = words_of_missing_airspace(alloc, names, file)?;
-    remarks.push(Told { subject, slip }, head, words)
-}
-
-/// Remarks that the recording of an entrant isn't there.
-fn look_for_recording(
-    alloc: Global,
-    remarks: &mut Remarks,
-    scan: Scan<'_>,
-    names: &[Name],
-    entrant: &Entrant,
-) -> Result<(), AllocError>
-    ensures { OnOk result (remarks.new ≡ remarks.old ++ missing_told names.now entrant.now) }
-{
-    match slip_of_file(names, &entrant.file) {
-        Some(slip) => {
-            let subject = about(alloc, entrant)?;
-            let head = scan.head(alloc, scan.line_of_number(entrant.number.as_str()))?;
-            let words = words_of_missing(alloc, names, &entrant.file)?;
-            remarks.push(Told { subject, slip }, head, words)
-        }
-        None => Ok(()),
-    }
-}
-
-/// Remarks whose recordings aren't there.
-pub fn look_for_recordings(
-    alloc: Global,
-    remarks: &mut Remarks,
-    scan: Scan<'_>,
-    names: &[Name],
-    entrants: &[Entrant],
-) -> Result<(), AllocError>
-    ensures { OnOk result
-        (remarks.new ≡ remarks.old ++ flat_map (missing_told names.now) entrants.now) }
-{
-    'entrants: for entrant in entrants {
-        look_for_recording(alloc, remarks, scan, names, entrant)?;
-    }
-    Ok(())
 }
 
 /// Whether an entrant has a file.

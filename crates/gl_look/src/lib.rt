@@ -5,6 +5,7 @@
 //! the words name are found by a plain scan of the text, and no promise rests on them.
 #![tactic(auto)]
 
+mod airspace;
 mod answer;
 mod command;
 mod folder;
@@ -13,6 +14,8 @@ mod key_words;
 mod keys;
 mod looking;
 mod meaning;
+mod recording;
+mod recording_words;
 mod refusal_words;
 mod remarks;
 mod rows;

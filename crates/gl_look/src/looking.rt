@@ -1,16 +1,17 @@
-ghost use Rattle.std.specs.Prelude.{◌≡◌, ◌++◌, ◌∷◌, [], IfOk};
-ghost use Rattle.gl_look.specs.Code.Tables.{IsTableOrNone};
+ghost use Rattle.std.specs.Prelude.{◌≡◌, ◌≢◌, ◌++◌, ◌∷◌, [], ℕ, List, Option, IfOk};
+ghost use Rattle.gl_look.specs.Code.Tables.{IsTableOrNone, IsTaskOrNone};
 ghost use Rattle.toml.specs.View.{table_view};
 ghost use Rattle.gl_desk.specs.Answers.{OnlyReads, stop_of};
-ghost use Rattle.gl_desk.specs.Desk.{ListsNames};
-ghost use Rattle.gl_task_file.specs.Reading.{IsDocument};
-ghost use Rattle.gl_look.specs.Keys.{refused_told, remark};
+ghost use Rattle.gl_desk.specs.Desk.{FilesByName, ListsNames};
+ghost use Rattle.gl_task_file.specs.Reading.{IsDocument, IsReadFrom, IsRefusalOf};
+ghost use Rattle.gl_task_file.specs.declared.error.TaskError.TheVariants.{Memory};
+ghost use Rattle.gl_look.specs.Keys.{refused_told, remark, tables_told};
 ghost use Rattle.gl_look.specs.Look.{IsLook, IsSightTold, IsTaskTold, IsTextTold};
 
-use crate::folder::{
-    look_at_handicaps, look_for_airspace, look_for_recordings, look_for_shares, look_for_unnamed,
-};
+use crate::airspace::look_at_airspace;
+use crate::folder::{look_at_handicaps, look_for_shares, look_for_unnamed};
 use crate::keys::look_at_tables;
+use crate::recording::look_at_recordings;
 use crate::refusal_words::refusal;
 use crate::remarks::Remarks;
 use crate::scan::Scan;
@@ -45,21 +46,25 @@ fn on_task(
 }
 
 /// What is remarked of a task, behind other remarks.
-fn look_at_task(
+fn look_at_task<D: Desk>(
     alloc: Global,
+    desk: &mut D,
     remarks: Remarks,
     scan: Scan<'_>,
     names: Vec<Name>,
     task: &Task,
-) -> Result<Remarks, AllocError>
-    ensures { IfOk result (IsTaskTold names.items task.now remarks) }
+) -> Result<Remarks, DeskError>
+    requires { ListsNames (D.told desk.old).folder names.items }
+    ensures is { IfOk result
+        (IsTaskTold (D.told desk.old).folder names.items task.now remarks) }
+    ensures reads { OnlyReads (stop_of result) (D.told desk.old) (D.told desk.new) }
 {
     let mut remarks = remarks;
     let entrants = task.entrants.as_slice();
     look_at_handicaps(alloc, &mut remarks, scan, entrants)?;
-    look_for_airspace(alloc, &mut remarks, scan, &names, &task.airspace)?;
+    look_at_airspace(alloc, desk, &mut remarks, scan, &names, &task.airspace)?;
     look_for_shares(alloc, &mut remarks, scan, entrants)?;
-    look_for_recordings(alloc, &mut remarks, scan, &names, entrants)?;
+    look_at_recordings(alloc, desk, &mut remarks, scan, &names, task)?;
     look_for_unnamed(alloc, &mut remarks, entrants, names)?;
     Ok(remarks)
 }
@@ -86,23 +91,85 @@ fn look_at_refusal(
     Ok(remarks)
 }
 
-/// What is remarked of the text of a task file with this table.
-fn look_at_file(
+/// What is remarked of the keys of a task file.
+fn look_at_table(alloc: Global, scan: Scan<'_>, table: &Table) -> Result<Remarks, AllocError>
+    ensures { IfOk result (λ remarks. remarks ≡ tables_told (table_view table.now)) }
+{
+    let mut remarks = Remarks::new(alloc);
+    look_at_tables(alloc, &mut remarks, scan, table)?;
+    Ok(remarks)
+}
+
+/// The task of a text, or why there is none; want of memory apart.
+fn task_of(alloc: Global, text: &[u8]) -> Result<Result<Task, TaskError>, AllocError>
+    ensures { IfOk result (IsTaskOrNone text.now) }
+{
+    match read_task(alloc, text) {
+        Ok(task) => Ok(Ok(task)),
+        Err(TaskError::Memory) => Err(AllocError),
+        Err(error) => Ok(Err(error)),
+    }
+}
+
+/// What is remarked of the text of a task file with this task, behind what is remarked of its keys.
+fn look_at_some<D: Desk>(
     alloc: Global,
+    desk: &mut D,
+    remarks: Remarks,
     scan: Scan<'_>,
     names: Vec<Name>,
     text: &[u8],
     table: &Table,
-) -> Result<Remarks, AllocError>
-    requires { IsDocument text.now (table_view table.now) }
-    ensures { IfOk result (IsTextTold names.items text.now) }
+    task: &Task,
+) -> Result<Remarks, DeskError>
+    requires names { ListsNames (D.told desk.old).folder names.items }
+    requires document { IsDocument text.now (table_view table.now) }
+    requires keys { remarks ≡ tables_told (table_view table.now) }
+    requires read { IsReadFrom text.now task.now }
+    ensures is { IfOk result (IsTextTold (D.told desk.old).folder names.items text.now) }
+    ensures reads { OnlyReads (stop_of result) (D.told desk.old) (D.told desk.new) }
 {
-    let mut remarks = Remarks::new(alloc);
-    look_at_tables(alloc, &mut remarks, scan, table)?;
-    match read_task(alloc, text) {
-        Ok(task) => look_at_task(alloc, remarks, scan, names, &task),
-        Err(TaskError::Memory) => Err(AllocError),
-        Err(error) => look_at_refusal(alloc, remarks, scan, &error),
+    look_at_task(alloc, desk, remarks, scan, names, task)
+}
+
+/// What is remarked of the text of a task file that says no task, behind what is remarked of its
+/// keys.
+fn look_at_none(
+    alloc: Global,
+    remarks: Remarks,
+    scan: Scan<'_>,
+    text: &[u8],
+    table: &Table,
+    error: &TaskError,
+) -> Result<Remarks, AllocError>
+    requires document { IsDocument text.now (table_view table.now) }
+    requires keys { remarks ≡ tables_told (table_view table.now) }
+    requires known { error.now ≢ Memory }
+    requires refused { IsRefusalOf text.now error.now }
+    ensures { IfOk result (λ more. (folder : Option FilesByName) (names : List (List ℕ))
+        → IsTextTold folder names text.now more) }
+{
+    look_at_refusal(alloc, remarks, scan, error)
+}
+
+/// What is remarked of the text of a task file with this table.
+fn look_at_file<D: Desk>(
+    alloc: Global,
+    desk: &mut D,
+    scan: Scan<'_>,
+    names: Vec<Name>,
+    text: &[u8],
+    table: &Table,
+) -> Result<Remarks, DeskError>
+    requires names { ListsNames (D.told desk.old).folder names.items }
+    requires document { IsDocument text.now (table_view table.now) }
+    ensures is { IfOk result (IsTextTold (D.told desk.old).folder names.items text.now) }
+    ensures reads { OnlyReads (stop_of result) (D.told desk.old) (D.told desk.new) }
+{
+    let remarks = look_at_table(alloc, scan, table)?;
+    match task_of(alloc, text)? {
+        Ok(task) => look_at_some(alloc, desk, remarks, scan, names, text, table, &task),
+        Err(error) => Ok(look_at_none(alloc, remarks, scan, text, table, &error)?),
     }
 }
 
@@ -118,50 +185,64 @@ fn table_of(alloc: Global, text: &[u8]) -> Result<Result<Table, Error>, AllocErr
 }
 
 /// What is remarked of the text of a task file.
-fn look_at_text(
+fn look_at_text<D: Desk>(
     alloc: Global,
+    desk: &mut D,
     file: &Name,
     names: Vec<Name>,
     text: &[u8],
-) -> Result<Remarks, AllocError>
-    ensures { IfOk result (IsTextTold names.items text.now) }
+) -> Result<Remarks, DeskError>
+    requires { ListsNames (D.told desk.old).folder names.items }
+    ensures is { IfOk result (IsTextTold (D.told desk.old).folder names.items text.now) }
+    ensures reads { OnlyReads (stop_of result) (D.told desk.old) (D.told desk.new) }
 {
     let scan = Scan {
         file,
         text: str::from_utf8(text).unwrap_or(""),
     };
     match table_of(alloc, text)? {
-        Ok(table) => look_at_file(alloc, scan, names, text, &table),
+        Ok(table) => look_at_file(alloc, desk, scan, names, text, &table),
         Err(error) => {
             let line = line_of_error(text, &error);
-            on_task(
-                alloc,
-                scan,
-                Slip::NotToml,
-                line,
-                words_of_error(alloc, &error)?,
-            )
+            let words = words_of_error(alloc, &error)?;
+            Ok(on_task(alloc, scan, Slip::NotToml, line, words)?)
         }
     }
 }
 
+/// What is remarked of a task file that isn't in the folder.
+fn on_absent(alloc: Global, file: &Name, names: &[Name]) -> Result<Remarks, AllocError>
+    ensures { IfOk result (λ remarks. remarks ≡ remark Subject.Task Slip.NoFile ∷ []) }
+{
+    let scan = Scan { file, text: "" };
+    let words = words_of_absent(alloc, names, file)?;
+    on_task(alloc, scan, Slip::NoFile, None, words)
+}
+
+/// What is remarked of a task file that is too large.
+fn on_large(alloc: Global, file: &Name) -> Result<Remarks, AllocError>
+    ensures { IfOk result (λ remarks. remarks ≡ remark Subject.Task Slip.TooLarge ∷ []) }
+{
+    let scan = Scan { file, text: "" };
+    on_task(alloc, scan, Slip::TooLarge, None, words_of_large(alloc)?)
+}
+
 /// What is remarked of a task file of which this is seen.
-fn look_at_sight(
+fn look_at_sight<D: Desk>(
     alloc: Global,
+    desk: &mut D,
     file: &Name,
     names: Vec<Name>,
     sight: Sight,
-) -> Result<Remarks, AllocError>
-    ensures { IfOk result (IsSightTold names.items sight) }
+) -> Result<Remarks, DeskError>
+    requires { ListsNames (D.told desk.old).folder names.items }
+    ensures is { IfOk result (IsSightTold (D.told desk.old).folder names.items sight) }
+    ensures reads { OnlyReads (stop_of result) (D.told desk.old) (D.told desk.new) }
 {
-    let scan = Scan { file, text: "" };
     match sight {
-        Sight::Absent => {
-            let words = words_of_absent(alloc, &names, file)?;
-            on_task(alloc, scan, Slip::NoFile, None, words)
-        }
-        Sight::TooLarge => on_task(alloc, scan, Slip::TooLarge, None, words_of_large(alloc)?),
-        Sight::Bytes(text) => look_at_text(alloc, file, names, &text),
+        Sight::Absent => Ok(on_absent(alloc, file, &names)?),
+        Sight::TooLarge => Ok(on_large(alloc, file)?),
+        Sight::Bytes(text) => look_at_text(alloc, desk, file, names, &text),
     }
 }
 
@@ -177,7 +258,7 @@ fn look_listed<D: Desk>(
     ensures reads { OnlyReads (stop_of result) (D.told desk.old) (D.told desk.new) }
 {
     let sight = see(alloc, desk, &names, file)?;
-    let remarks = look_at_sight(alloc, file, names, sight)?;
+    let remarks = look_at_sight(alloc, desk, file, names, sight)?;
     Ok(remarks)
 }
 

@@ -1,7 +1,7 @@
 ghost use Rattle.std.specs.Prelude.{IfOk};
 ghost use Rattle.gl_desk.specs.Answers.{OnlyReads, stop_of};
 ghost use Rattle.gl_desk.specs.Desk.{ListsNames};
-ghost use Rattle.gl_look.specs.Look.{IsSightIn};
+ghost use Rattle.gl_look.specs.Sights.{IsSightIn};
 
 use gl_desk::{Desk, DeskError, MOST_BYTES, Name, ReadError, read_all};
 use std::alloc::Global;

@@ -56,6 +56,12 @@ pub enum Slip {
     Handicaps,
     /// No entrant names the recording.
     Unnamed,
+    /// The file doesn't read.
+    NotRead,
+    /// The file begins with a byte-order mark, which it can't have.
+    Mark,
+    /// The recording has no fix in the hours of the task.
+    OutOfHours,
 }
 
 /// What is remarked: what it is about, and what is wrong with it.
