@@ -1,4 +1,5 @@
 pub mod Answered
+pub mod CrossingLemmas
 pub mod KeyLemmas
 pub mod Listing
 pub mod TextLemmas

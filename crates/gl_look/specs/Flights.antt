@@ -15,6 +15,8 @@ use Rattle.gl_igc.specs.declared.fix.Fix.{Fix}
 use Rattle.gl_igc.specs.declared.recording.Recording.{Recording}
 use Rattle.gl_task.specs.declared.task.Entrant.{Entrant}
 use Rattle.gl_task.specs.declared.task.Task.{Task}
+use Rattle.gl_zone.specs.declared.line.Line.{Line}
+use Rattle.gl_look.specs.Crossings.{AreCrossed, slip_of_start}
 use Rattle.gl_look.specs.Keys.{told_if}
 use Rattle.gl_look.specs.Sights.{IsSightIn}
 use Rattle.gl_look.specs.declared.sight.Sight as code
@@ -32,11 +34,19 @@ has_mark text = starts_with nat_eq text (239 ∷ 187 ∷ 191 ∷ [])
 abbrev pub is_in_hours : ℤ → Fix → Bool
 is_in_hours closes fix = int_le (pos 0) fix.second && int_le fix.second closes
 
--- what is wrong with a recording, as it was read: it doesn't read, or no fix is in the hours
-abbrev pub slip_of_read : ℤ → Result Recording IgcError → Option code_slip.Slip
-slip_of_read closes (Ok recording) =
-    if list_any (is_in_hours closes) recording.fixes then None else Some slip.OutOfHours
-slip_of_read closes (Err error) = Some slip.NotRead
+-- where a recording, as it was read, crosses a line
+abbrev pub AreCrossedIn : Line → Result Recording IgcError → List (Option ℤ) → Type 0
+AreCrossedIn line (Ok recording) crossed = AreCrossed line recording.fixes crossed
+AreCrossedIn line (Err error) crossed = crossed ≡ []
+
+-- what is wrong with a recording, as it was read: it doesn't read, no fix is in the hours, or the
+-- start line is crossed, and never in its times
+abbrev pub slip_of_read : Task → Result Recording IgcError → List (Option ℤ)
+    → Option code_slip.Slip
+slip_of_read task (Ok recording) crossed =
+    if list_any (is_in_hours task.closes) recording.fixes then slip_of_start task.start crossed
+    else Some slip.OutOfHours
+slip_of_read task (Err error) crossed = Some slip.NotRead
 
 -- a text with a byte-order mark is told as such, whatever else is wrong
 abbrev pub unless_marked : List ℕ → Option code_slip.Slip → Option code_slip.Slip
@@ -47,7 +57,9 @@ pub record IsTextSlip (task : Task) (text : List ℕ) (what : Option code_slip.S
   pub read : Result Recording IgcError
   pub known : read ≢ Err igc_error.Memory
   pub read_is : IsReadAs text (Some task.date) read
-  pub is : what ≡ unless_marked text (slip_of_read task.closes read)
+  pub crossed : List (Option ℤ)
+  pub crossed_are : AreCrossedIn task.start.line read crossed
+  pub is : what ≡ unless_marked text (slip_of_read task read crossed)
 
 -- what is wrong with a recording of which this is seen
 abbrev pub IsSlipOf : Task → code.Sight → Option code_slip.Slip → Type 0

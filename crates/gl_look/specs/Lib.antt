@@ -1,4 +1,5 @@
 pub mod Code
+pub mod Crossings
 pub mod Flights
 pub mod Folder
 pub mod Keys

@@ -8,6 +8,8 @@
 mod airspace;
 mod answer;
 mod command;
+mod crossing;
+mod crossing_words;
 mod folder;
 mod folder_words;
 mod key_words;

@@ -3,10 +3,11 @@ ghost use Rattle.std.specs.List.{list_any};
 ghost use Rattle.gl_desk.specs.Answers.{OnlyReads, stop_of};
 ghost use Rattle.gl_desk.specs.Desk.{ListsNames};
 ghost use Rattle.gl_look.specs.Code.Readings.{IsKnown};
-ghost use Rattle.gl_look.specs.Flights.{AddsTold, AreTold, IsFileTold, IsSlipOf, IsTextSlip, has_mark, is_in_hours, slip_of_read, unless_marked};
+ghost use Rattle.gl_look.specs.Flights.{AddsTold, AreCrossedIn, AreTold, IsFileTold, IsSlipOf, IsTextSlip, has_mark, is_in_hours, slip_of_read, unless_marked};
 ghost use Rattle.gl_look.specs.Keys.{told_if};
 ghost use Rattle.gl_look.specs.declared.told.Subject.TheVariants as subject;
 
+use crate::crossing::{crossed_in, slip_of_start};
 use crate::folder::about;
 use crate::recording_words::{Found, words_of_recording};
 use crate::remarks::Remarks;
@@ -41,13 +42,17 @@ fn has_hours(closes: i32, fixes: &[Fix]) -> bool
 }
 
 /// What is wrong with a recording, as it was read.
-fn slip_of_read(closes: i32, read: &Result<Recording, IgcError>) -> Option<Slip>
-    ensures { result ≡ slip_of_read closes read.now }
+fn slip_of_read(
+    task: &Task,
+    read: &Result<Recording, IgcError>,
+    crossed: &[Option<i32>],
+) -> Option<Slip>
+    ensures { result ≡ slip_of_read task.now read.now crossed.now }
 {
     match read {
         Ok(recording) => {
-            if has_hours(closes, recording.fixes.as_slice()) {
-                None
+            if has_hours(task.closes, recording.fixes.as_slice()) {
+                slip_of_start(&task.start, crossed)
             } else {
                 Some(Slip::OutOfHours)
             }
@@ -82,6 +87,20 @@ fn read_text(
     }
 }
 
+/// When a recording, as it was read, crosses the start line.
+fn crossed_of(
+    alloc: Global,
+    task: &Task,
+    read: &Result<Recording, IgcError>,
+) -> Result<Vec<Option<i32>>, AllocError>
+    ensures { IfOk result (λ crossed. AreCrossedIn task.now.start.line read.now crossed.items) }
+{
+    match read {
+        Ok(recording) => crossed_in(alloc, &task.start.line, recording.fixes.as_slice()),
+        Err(_) => Ok(Vec::new(alloc)),
+    }
+}
+
 /// What is wrong with the bytes of a recording, and the words for it.
 fn look_at_bytes(
     alloc: Global,
@@ -92,8 +111,10 @@ fn look_at_bytes(
     ensures { IfOk result (λ found. IsTextSlip task.now text.now found.0) }
 {
     let read = read_text(alloc, task, text)?;
-    let slip = unless_marked(text, slip_of_read(task.closes, &read));
-    let words = words_of_recording(alloc, task, entrant, slip, Found::Read(&read))?;
+    let crossed = crossed_of(alloc, task, &read)?;
+    let slip = unless_marked(text, slip_of_read(task, &read, &crossed));
+    let found = Found::Read(&read, &crossed);
+    let words = words_of_recording(alloc, task, entrant, slip, found)?;
     Ok((slip, words))
 }
 

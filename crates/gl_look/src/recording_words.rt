@@ -1,3 +1,4 @@
+use crate::crossing_words::words_of_crossed;
 use crate::folder_words::words_of_missing;
 use crate::told::Slip;
 use gl_desk::Name;
@@ -11,8 +12,8 @@ use std::alloc::{AllocError, Global};
 pub enum Found<'a> {
     /// The names of the folder.
     Names(&'a [Name]),
-    /// What was read of it.
-    Read(&'a Result<Recording, IgcError>),
+    /// What was read of it, and when it crosses the start line.
+    Read(&'a Result<Recording, IgcError>, &'a [Option<i32>]),
 }
 
 /// A day, as `2024-07-01`.
@@ -103,7 +104,8 @@ pub fn words_of_recording(
         (Some(Slip::Mark), _) => format!(in alloc;
             ": his recording {file} begins with a byte-order mark, which none can have. Save it without one, or ask him for the recorder's own file"
         ),
-        (_, Found::Read(read)) => words_of_read(alloc, task, file, read),
+        (Some(Slip::NoStart), Found::Read(_, crossed)) => words_of_crossed(alloc, task, crossed),
+        (_, Found::Read(read, _)) => words_of_read(alloc, task, file, read),
         _ => format!(in alloc;
             ": his recording {file} is refused (REFUSED 7): it has more than 16777216 bytes. Ask him for a recording of this flight alone"
         ),

@@ -62,6 +62,8 @@ pub enum Slip {
     Mark,
     /// The recording has no fix in the hours of the task.
     OutOfHours,
+    /// The flight crosses the start line, and never in its times.
+    NoStart,
 }
 
 /// What is remarked: what it is about, and what is wrong with it.
