@@ -1,5 +1,6 @@
 -- The names, the rows and the zones of a task, one by one.
-use Rattle.std.proofs.Common.{◌≡◌, ◌∙◌, refl, ℕ, suc, ◌+◌, ◌<◌, ◌≤◌, arith, option_map, sym, ap, add-one, drop-cons, cond, Bool, true, false, List, [], ◌∷◌, drop, length, get_or, None, Some, Option, is_none}
+use Rattle.std.proofs.Common.{◌≡◌, ◌∙◌, refl, ℕ, suc, ◌+◌, ◌<◌, ◌≤◌, arith, option_map, sym, ap, add-one, drop-cons}
+use Rattle.std.proofs.Common.{cond, Bool, true, false, List, [], ◌∷◌, drop, length, get_or, None, Some, Option, is_none}
 use Rattle.std.proofs.lemmas.Grind.{common_steps}
 use Rattle.gl_cup.specs.declared.error.CupError.{CupError}
 use Rattle.gl_cup.specs.declared.error.CupError.TheVariants as cup

@@ -1,5 +1,6 @@
 -- Fields of the form KEY=VALUE.
-use Rattle.std.specs.Prelude.{ℕ, ◌+◌, ◌==◌, ◌&&◌, ◌||◌, not, nat_lt, if◌then◌else◌, codes, Bool, true, false, List, [], ◌∷◌, length, take, drop, Option, None, Some, position, option_and_then, option_map}
+use Rattle.std.specs.Prelude.{ℕ, ◌+◌, ◌==◌, ◌&&◌, ◌||◌, not, nat_lt, if◌then◌else◌, codes, Bool, true, false}
+use Rattle.std.specs.Prelude.{List, [], ◌∷◌, length, take, drop, Option, None, Some, position, option_and_then, option_map}
 use Rattle.std.specs.List.{find, list_any}
 use Rattle.std.specs.Str.{byte}
 use Rattle.gl_text.specs.Forms.{is_text}

@@ -1,7 +1,8 @@
 ghost use Rattle.std.specs.Prelude.{◌≡◌, ◌≢◌, ◌++◌, None, Some, [], IfErr, IfOk, OnOk, option_map};
 ghost use Rattle.std.specs.List.{find, flat_map, list_any};
 ghost use Rattle.gl_cup.specs.declared.error.CupError.TheVariants.{Memory};
-ghost use Rattle.gl_cup.specs.Detail.{detail_of, fault_of, first_fault, is_again, is_beyond, is_misplaced, is_zone_of, key_fault, keys_of, options_among, options_said, passed_among, passed_in, said_by, zone_at, zone_in};
+ghost use Rattle.gl_cup.specs.Detail.{detail_of, fault_of, first_fault, is_again, is_beyond, is_misplaced, is_zone_of, key_fault};
+ghost use Rattle.gl_cup.specs.Detail.{keys_of, options_among, options_said, passed_among, passed_in, said_by, zone_at, zone_in};
 
 use crate::choice::{begins_with, is_headed};
 use crate::error::CupError;

@@ -1,5 +1,6 @@
 ghost use Rattle.std.specs.Prelude.{◌≡◌, ◌==◌, ◌++◌, OnOk, option_map, position};
-ghost use Rattle.gl_cup.specs.Pair.{are_once, behind_key, foreign_key, has_key, is_foreign, is_key, is_no_altitude, is_nothing, is_options_key, is_passed, is_zone_key, key_of, length_behind, passed_by, value_of};
+ghost use Rattle.gl_cup.specs.Pair.{are_once, behind_key, foreign_key, has_key, is_foreign, is_key, is_no_altitude, is_nothing};
+ghost use Rattle.gl_cup.specs.Pair.{is_options_key, is_passed, is_zone_key, key_of, length_behind, passed_by, value_of};
 ghost use Rattle.gl_text.specs.Forms.{is_text};
 ghost use Rattle.std.specs.List.{find, flat_map, list_any};
 ghost use Rattle.std.specs.Str.{byte};
