@@ -1,13 +1,14 @@
 -- Pieces that are appended to a file one after the other make their text.
-use Rattle.std.proofs.Common.{◌≡◌, ◌∙◌, refl, sym, ap, subst, ℕ, ◌+◌, List, [], ◌++◌, length, take, Option, None, Some, append-nil, inl, inr, arith}
+use Rattle.std.proofs.Common.{◌≡◌, ◌∙◌, refl, sym, ap, subst, ℕ, ◌+◌, ◌<◌, Bool, true, false, List, [], ◌++◌, length, take, Option, None, Some, append-nil, append_assoc, inl, inr, arith}
 use Rattle.std.specs.Prelude.{min}
 use Rattle.std.proofs.Math.Seq.{take-append-add, take-length}
-use Rattle.std.proofs.lemmas.List.{take-append-le, take_min}
+use Rattle.std.proofs.lemmas.List.{length-append, take-append-le, take_min}
 use Rattle.gl_desk.specs.Answers.{CountsFaults, OnlyReads}
 use Rattle.gl_desk.specs.Desk.{AppendedByName, FilesByName, FileTakes, Told, file_of, followed_by, grown_by, output_of}
 use Rattle.gl_desk.specs.declared.error.DeskError.{DeskError}
 use Rattle.gl_desk.specs.declared.error.DeskError.TheVariants.{Memory}
-use Rattle.gl_answer.specs.Appending.{HasAppended, HasAppendedPart, IsAppended}
+use Rattle.gl_answer.specs.Appending.{Appends, HasAppended, HasAppendedPart, IsAppended}
+use Rattle.gl_proof.specs.Kept.{Writes, left_if}
 use Rattle.gl_desk.proofs.DeskLemmas.{followed_by-followed_by, grown_by-grown_by}
 
 -- nothing follows where nothing is added
@@ -110,3 +111,54 @@ reads-none proof x y reads = HasAppended-reads proof [] x x y (HasAppended-none 
 
 pub part_after : (proof text : List ℕ) (x y z : Told) (stop : DeskError) → OnlyReads None x y → HasAppendedPart proof text y z stop → HasAppendedPart proof text x z stop
 part_after proof text x y z stop reads part = HasAppendedPart-then proof [] text x y z stop (reads-none proof x y reads) part
+
+-- nothing of a text was appended, for want of memory
+pub none_memory : (file text : List ℕ) (x : Told) → HasAppendedPart file text x x Memory
+none_memory file text x = HasAppendedPart-longer file [] text x x Memory (HasAppendedPart-memory file [] x x (HasAppended-none file x))
+
+-- lines that were written into nothing are appended
+text_of_piece : (text old new written : List ℕ) → text ≡ new → new ≡ old ++ written → old ≡ [] → text ≡ written
+text_of_piece text old new written is made none = is ∙ made ∙ ap (λ (l : List ℕ). l ++ written) none
+
+pub lines_appended : (file text old new whole rest : List ℕ) (more : Bool) (x y : Told) → old ≡ [] → Writes old new whole rest more → text ≡ new → HasAppended file text x y
+    → Appends file whole rest x y more
+lines_appended file text old new whole rest more x y none piece is appended = record {
+  first = piece.written;
+  appended = subst (λ (t : List ℕ). HasAppended file t x y) (text_of_piece text old new piece.written is piece.text none) appended;
+  parts = piece.parts;
+  some = piece.some;
+}
+
+pub lines_stopped : (file text old new whole rest : List ℕ) (more : Bool) (x y : Told) (stop : DeskError) → old ≡ [] → Writes old new whole rest more → text ≡ new
+    → HasAppendedPart file text x y stop → HasAppendedPart file whole x y stop
+lines_stopped file text old new whole rest more x y stop none piece is part =
+    let front = subst (λ (t : List ℕ). HasAppendedPart file t x y stop) (text_of_piece text old new piece.written is piece.text none) part in
+    subst (λ (t : List ℕ). HasAppendedPart file t x y stop) (sym piece.parts) (HasAppendedPart-longer file piece.written (left_if more rest) x y stop front)
+
+-- a first part of the lines is appended, and the rest is left
+pub record HasAppendedFirst (file whole rest : List ℕ) (before now : Told) : Type 0 where
+  pub first : List ℕ
+  pub appended : HasAppended file first before now
+  pub parts : whole ≡ first ++ rest
+
+pub first_none : (file whole : List ℕ) (x : Told) → HasAppendedFirst file whole whole x x
+first_none file whole x = record { first = []; appended = HasAppended-none file x; parts = refl }
+
+pub first_more : (file whole rest left : List ℕ) (x y z : Told) → HasAppendedFirst file whole rest x y → (next : Appends file rest left y z true) → HasAppendedFirst file whole left x z
+first_more file whole rest left x y z has next = record {
+  first = has.first ++ next.first;
+  appended = HasAppended-then file has.first next.first x y z has.appended next.appended;
+  parts = has.parts ∙ ap (λ (l : List ℕ). has.first ++ l) next.parts ∙ sym (append_assoc has.first next.first left);
+}
+
+pub first_less : (file rest left : List ℕ) (y z : Told) → Appends file rest left y z true → length left < length rest
+first_less file rest left y z next = omega (arith, ap length next.parts, length-append next.first left, next.some refl)
+
+pub first_all : (file whole rest left : List ℕ) (x y z : Told) → HasAppendedFirst file whole rest x y → Appends file rest left y z false → HasAppended file whole x z
+first_all file whole rest left x y z has next =
+    subst (λ (t : List ℕ). HasAppended file t x z) (ap (λ (l : List ℕ). has.first ++ l) (sym (next.parts ∙ append-nil next.first)) ∙ sym has.parts)
+    (HasAppended-then file has.first next.first x y z has.appended next.appended)
+
+pub first_stopped : (file whole rest : List ℕ) (x y z : Told) (stop : DeskError) → HasAppendedFirst file whole rest x y → HasAppendedPart file rest y z stop → HasAppendedPart file whole x z stop
+first_stopped file whole rest x y z stop has part =
+    subst (λ (t : List ℕ). HasAppendedPart file t x z stop) (sym has.parts) (HasAppendedPart-then file has.first rest x y z stop has.appended part)

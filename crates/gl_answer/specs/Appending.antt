@@ -1,8 +1,9 @@
 -- What was appended to a file since some time.
-use Rattle.std.specs.Prelude.{◌≡◌, ◌≢◌, ℕ, List, [], Option, None, Some, take}
+use Rattle.std.specs.Prelude.{◌≡◌, ◌≢◌, ℕ, ◌<◌, Bool, true, List, [], ◌++◌, length, Option, None, Some, take}
 use Rattle.gl_desk.specs.Answers.{CountsFaults}
 use Rattle.gl_desk.specs.Desk.{FileTakes, OutputGrows, Told, file_of, output_of}
 use Rattle.gl_desk.specs.declared.error.DeskError.{DeskError}
+use Rattle.gl_proof.specs.Kept.{left_if}
 
 -- the text was appended to the target, and nothing to any other file
 abbrev pub IsAppended : Option (List ℕ) → List ℕ → Told → Told → Type 0
@@ -38,3 +39,11 @@ pub record HasAppendedPart (file text : List ℕ) (before now : Told) (stop : De
   pub appended : IsAppended (Some file) (take count text) before now
   pub said : now.said ≡ before.said
   pub faults : CountsFaults (Some stop) before.faults now.faults
+
+-- a first part of a text, at least a byte if there may be more, was appended to the file and nothing
+-- else changed; the rest is left
+pub record Appends (file whole rest : List ℕ) (before now : Told) (more : Bool) : Type 0 where
+  pub first : List ℕ
+  pub appended : HasAppended file first before now
+  pub parts : whole ≡ first ++ left_if more rest
+  pub some : more ≡ true → 0 < length first

@@ -18,7 +18,7 @@ mod status;
 mod texts;
 
 pub use answer::{Answer, answer_halt, done};
-pub use appending::append_piece;
+pub use appending::{append_lines, append_piece};
 pub use delivering::deliver;
 pub use file_tests::{
     MOST_PROOF_BYTES, need, need_both, need_unlisted, read_bytes, read_proof_file, read_recording,

@@ -2,7 +2,7 @@
 use Rattle.std.proofs.Common.{◌≡◌, ◌∙◌, sym, ap, refl, subst, ℕ, ◌+◌, ◌/◌, ◌<◌, ◌≤◌, ◌⊎◌, inl, inr, List, [], ◌∷◌, ◌++◌, length, get_or, take, drop, map, reverse, slice_set, append_assoc, arith}
 use Rattle.std.specs.Prelude.{◌↔◌}
 use Rattle.std.proofs.lemmas.Bool.{cases_order}
-use Rattle.std.proofs.lemmas.List.{append-nil, get_or_at, length-append, length-drop, length-map, length-reverse, map-append, reverse-append, take-append-drop, take_more}
+use Rattle.std.proofs.lemmas.List.{append-nil, get_or_at, length-append, length-drop, length-map, length-reverse, map-append, reverse-append, take-append-drop}
 use Rattle.gl_box.specs.declared.cell.Cell.{Cell}
 use Rattle.gl_box.specs.Cell.{Covers, spans_of}
 use Rattle.gl_box.specs.Halves.{AreHalves, IsWidest, span_at}

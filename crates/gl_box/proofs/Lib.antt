@@ -8,3 +8,4 @@ pub mod Work
 pub mod Exact
 pub mod Frontiers
 pub mod Passed
+pub mod Turns

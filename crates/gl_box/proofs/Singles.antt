@@ -1,9 +1,9 @@
 -- Each cell whose spans have places has a frontier of single tuples.
-use Rattle.std.proofs.Common.{◌≡◌, sym, ap, refl, ℕ, zero, suc, ◌+◌, ◌-◌, ◌/◌, ◌<◌, ◌≤◌, inl, inr, List, [], ◌∷◌, ◌++◌, length, map, slice_set, arith}
+use Rattle.std.proofs.Common.{◌≡◌, sym, ap, refl, ℕ, zero, suc, ◌+◌, ◌-◌, ◌/◌, ◌<◌, ◌≤◌, inl, inr, List, [], ◌∷◌, ◌++◌, length, map, slice_set, subst, leb, arith}
 use Rattle.std.proofs.lemmas.List.{length-set, map-append}
-use Rattle.std.proofs.lemmas.Bool.{cases_lt}
+use Rattle.std.proofs.lemmas.Bool.{cond_both, cond-true, cases_lt, le-leb, leb-false, leb-true}
 use Rattle.gl_box.specs.Cell.{point}
-use Rattle.gl_box.specs.Halves.{AreHalves, IsWidest, span_at, width}
+use Rattle.gl_box.specs.Halves.{AreHalves, IsWidest, span_at, widest_axis, width}
 use Rattle.gl_box.specs.Frontier.{IsFrontier}
 use Rattle.gl_box.specs.Frontier.IsFrontier.{alone, parted}
 use Rattle.gl_box.proofs.Nodes.{spread, spread-lower, spread-upper}
@@ -27,22 +27,22 @@ wider_later s rest axis widest wide = record {
   lowest = elim [ zero ↦ λ below. wide | suc other ↦ λ below. widest.lowest other (omega arith) ];
 }
 
--- some axis has the widest span
-pub widest_of : (s : ℕ × ℕ) (spans : List (ℕ × ℕ)) → (axis : ℕ) × IsWidest (s ∷ spans) axis
-widest_of s [] = (
-  0,
-  record {
-    inside = omega arith;
-    widest = elim [ zero ↦ omega arith | suc other ↦ omega arith ];
-    lowest = λ other below. absurd (omega arith);
-  },
-)
-widest_of s (next ∷ spans) =
-    let rest = widest_of next spans in
-    elim (cases_lt (width s) (width (span_at (next ∷ spans) rest.0))) [
-      | inl narrow ↦ (suc rest.0, wider_later s (next ∷ spans) rest.0 rest.1 narrow)
-      | inr wide ↦ (0, wider_first s (next ∷ spans) rest.0 rest.1 wide)
-    ]
+-- an axis that is alone is the widest
+lone_widest : (s : ℕ × ℕ) → IsWidest (s ∷ []) 0
+lone_widest s = record {
+  inside = omega arith;
+  widest = elim [ zero ↦ omega arith | suc other ↦ omega arith ];
+  lowest = λ other below. absurd (omega arith);
+}
+
+-- the axis of the widest span has it
+pub widest_is : (s : ℕ × ℕ) (spans : List (ℕ × ℕ)) → IsWidest (s ∷ spans) (widest_axis (s ∷ spans))
+widest_is s [] = subst (IsWidest (s ∷ [])) (sym (cond-true (leb 0 (width s)) 0 1 (le-leb 0 (width s) (omega arith)))) (lone_widest s)
+widest_is s (next ∷ spans) =
+    let rest = next ∷ spans in
+    let axis = widest_axis rest in
+    cond_both (leb (width (span_at rest axis)) (width s)) 0 (axis + 1) (IsWidest (s ∷ rest)) (λ wide. wider_first s rest axis (widest_is next spans) (leb-true _ _ wide))
+    (λ narrow. subst (IsWidest (s ∷ rest)) (omega arith) (wider_later s rest axis (widest_is next spans) (leb-false _ _ narrow)))
 
 pub ordered-set : (cell : List (ℕ × ℕ)) (axis : ℕ) (span : ℕ × ℕ) → AreOrdered cell → span.0 ≤ span.1 → AreOrdered (slice_set cell axis span)
 unfolding AreOrdered
@@ -90,8 +90,8 @@ singles_within zero (s ∷ ss) some ordered within =
     (map (λ span. span.0) cell ∷ [], alone cell _ (ap (λ (c : List (ℕ × ℕ)). c ∷ []) (sym same)))
 singles_within (suc most) (s ∷ ss) some ordered within =
     let cell = s ∷ ss in
-    let axis = (widest_of s ss).0 in
-    let widest = (widest_of s ss).1 in
+    let axis = widest_axis (s ∷ ss) in
+    let widest = widest_is s ss in
     let span = span_at cell axis in
     elim (cases_lt 0 (width span)) [
       | inl wide ↦

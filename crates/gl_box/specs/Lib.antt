@@ -6,3 +6,5 @@ pub mod Closed
 pub mod Boxes
 pub mod InLists
 pub mod Walk
+pub mod Turns
+pub mod Along

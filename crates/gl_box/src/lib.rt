@@ -4,25 +4,31 @@
 //! them is the first that doesn't stand where it must.
 #![tactic(auto)]
 
+mod along;
 mod boxed;
+mod boxes;
 mod cell;
 mod closed;
 mod cut;
 mod halves;
 mod holding;
-mod lists;
 mod passage;
 mod span;
+mod steps;
 mod tuple;
+mod turn;
 mod walk;
 
+pub use along::{Walk, WalkBoxes};
 pub use boxed::Boxed;
+pub use boxes::{Boxes, BoxesLeft, walk_of};
 pub use cell::Cell;
 pub use closed::{Closed, Why};
 pub use halves::{halve, split, widest};
 pub use holding::{covers, has};
-pub use lists::{Boxes, all_boxes};
 pub use passage::{WalkEnd, Walked, number_of, walk_along};
 pub use span::Span;
+pub use steps::{close_first, come_to, cut_first};
 pub use tuple::{MOST_AXES, Tuple};
-pub use walk::go_down;
+pub use turn::{GoalTurn, Turn};
+pub use walk::{cuts_to, go_down};

@@ -1,7 +1,7 @@
-ghost use Rattle.std.specs.Prelude.{◌≡◌, ◌↔◌, ◌<◌, ℕ, List, ◌∷◌, false, IfOk, IsTrue};
+ghost use Rattle.std.specs.Prelude.{◌≡◌, ◌↔◌, ◌<◌, ℕ, List, ◌∷◌, false, IfNone, IfOk, IfSome, IsTrue};
 ghost use Rattle.gl_box.specs.Cell.{spans_of};
 ghost use Rattle.gl_box.specs.Halves.{span_at};
-ghost use Rattle.gl_box.specs.Walk.{AreFrontiers, open_cells};
+ghost use Rattle.gl_box.specs.Walk.{AreFrontiers, ComesTo, open_cells};
 
 use crate::cell::Cell;
 use crate::cut::halve_at;
@@ -40,12 +40,40 @@ fn is_same(cell: &Cell, other: &Cell) -> bool
     true
 }
 
-/// Goes down from the first open cell to a cell, over lower halves alone, and takes it from the
-/// open ones; the upper halves on the way stay open. Answers whether the cell is there; if not, the
-/// open cells serve for nothing any more. The only error is want of memory.
+/// Cuts the first open cell, and its lower half again and again, until a cell is the first open one,
+/// and takes that from the open ones. Answers how many cuts it takes, or `None` where the cell isn't
+/// there; then the open cells serve for nothing any more. The only error is want of memory.
 ///
 /// A box that stands where it should lies in the first open cell, so after a cut its end is looked
 /// at on that axis alone.
+#[inline]
+pub fn cuts_to(opened: &mut Vec<Cell>, cell: &Cell) -> Result<Option<usize>, AllocError>
+    ensures there { IfOk result (λ cuts. IfSome cuts (λ count.
+        ComesTo (open_cells opened.old.items) (spans_of cell.now) count
+        (open_cells opened.new.items))) }
+    ensures absent { IfOk result (λ cuts. IfNone cuts ((more : List (List (ℕ × ℕ)))
+        → AreFrontiers (open_cells opened.old.items) (spans_of cell.now ∷ more) → ⊥)) }
+{
+    let Some(mut first) = opened.pop() else {
+        return Ok(None);
+    };
+    let others = opened.len();
+    'halves: while !is_same(&first, cell) {
+        let axis = widest(&first);
+        let Some(upper) = halve_at(&mut first, axis) else {
+            return Ok(None);
+        };
+        if cell.spans[axis].hi > first.spans[axis].hi {
+            return Ok(None);
+        }
+        opened.push(upper)?;
+    }
+    Ok(Some(opened.len() - others))
+}
+
+/// Goes down from the first open cell to a cell, over lower halves alone, and takes it from the
+/// open ones; the upper halves on the way stay open. Answers whether the cell is there; if not, the
+/// open cells serve for nothing any more. The only error is want of memory.
 #[inline]
 pub fn go_down(opened: &mut Vec<Cell>, cell: &Cell) -> Result<bool, AllocError>
     ensures there { IfOk result (λ there. IsTrue there → (more : List (List (ℕ × ℕ)))
@@ -54,18 +82,8 @@ pub fn go_down(opened: &mut Vec<Cell>, cell: &Cell) -> Result<bool, AllocError>
     ensures absent { IfOk result (λ there. (there ≡ false) → (more : List (List (ℕ × ℕ)))
         → AreFrontiers (open_cells opened.old.items) (spans_of cell.now ∷ more) → ⊥) }
 {
-    let Some(mut first) = opened.pop() else {
-        return Ok(false);
-    };
-    'halves: while !is_same(&first, cell) {
-        let axis = widest(&first);
-        let Some(upper) = halve_at(&mut first, axis) else {
-            return Ok(false);
-        };
-        if cell.spans[axis].hi > first.spans[axis].hi {
-            return Ok(false);
-        }
-        opened.push(upper)?;
+    match cuts_to(opened, cell)? {
+        Some(_cuts) => Ok(true),
+        None => Ok(false),
     }
-    Ok(true)
 }

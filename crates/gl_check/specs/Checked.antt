@@ -1,6 +1,4 @@
 -- What is said of a claim as a whole.
-use Rattle.std.specs.Prelude.{map}
-use Rattle.gl_box.specs.Closed.{box_of}
 use Rattle.gl_goal.specs.Goal.{Goal}
 use Rattle.gl_goal.specs.Certificate.{IsCertificate}
 use Rattle.gl_proof.specs.declared.claim.Claim.{Claim}
@@ -11,9 +9,9 @@ use Rattle.gl_check.specs.Verdict.{IsVerdict}
 -- the boxes of the claim certify its total and its fixes
 abbrev pub IsCertified : Goal → Claim → Type 0
 IsCertified goal claim =
-    IsCertificate goal claim.total claim.fixes.items (map box_of (boxes_in claim.cells))
+    IsCertificate goal claim.total claim.fixes.items (boxes_in claim.cells)
 
 -- this is the first thing that is to be said of the claim
 abbrev pub IsCheckedAs : Goal → Claim → Verdict → Type 0
 IsCheckedAs goal claim verdict =
-    IsVerdict goal claim.total claim.fixes.items (map box_of (boxes_in claim.cells)) verdict
+    IsVerdict goal claim.total claim.fixes.items (boxes_in claim.cells) verdict

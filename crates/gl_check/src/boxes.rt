@@ -1,4 +1,4 @@
-ghost use Rattle.std.specs.Prelude.{◌≡◌, ◌↔◌, ℕ, List, [], map, IfOk, IsTrue};
+ghost use Rattle.std.specs.Prelude.{◌↔◌, ℕ, List, [], map, IfOk, IsTrue};
 ghost use Rattle.gl_box.specs.Cell.{Covers, spans_of};
 ghost use Rattle.gl_box.specs.Closed.{box_of};
 ghost use Rattle.gl_goal.specs.Goal.{whole_cell};
@@ -84,9 +84,9 @@ fn check_boxes<G: Goal>(
     pass_boxes(goal, total, cells, &mut opened, legs.as_mut_slice())
 }
 
-/// What is said of the boxes of a claim whose fixes reach its total. Those of several lists are
-/// copied into one. The only error is want of memory.
-pub fn check_lists<G: Goal>(
+/// What is said of the boxes of a claim whose fixes reach its total. Those of a walk are spread out
+/// first. The only error is want of memory.
+pub fn check_form<G: Goal>(
     alloc: Global,
     goal: &G,
     total: Option<u64>,
@@ -94,11 +94,13 @@ pub fn check_lists<G: Goal>(
 ) -> Result<Verdict, AllocError>
     ensures { IfOk result (λ verdict. (fixes : List ℕ)
         → IsClaimed (G.rule goal.now) total fixes
-        → IsVerdict (G.rule goal.now) total fixes (map box_of (boxes_in cells.now)) verdict) }
+        → IsVerdict (G.rule goal.now) total fixes (boxes_in cells.now) verdict) }
 {
-    if cells.lists.is_empty() {
-        return check_boxes(alloc, goal, total, cells.last.as_slice());
+    match cells {
+        Boxes::Listed(list) => check_boxes(alloc, goal, total, list.as_slice()),
+        Boxes::Walked(walk) => {
+            let list = walk.to_list(alloc)?;
+            check_boxes(alloc, goal, total, list.as_slice())
+        }
     }
-    let joined = cells.joined(alloc)?;
-    check_boxes(alloc, goal, total, joined.as_slice())
 }

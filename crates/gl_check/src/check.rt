@@ -1,6 +1,5 @@
 ghost use Rattle.std.specs.Prelude.{◌≡◌, ◌↔◌, ℕ, List, map, IfOk};
 ghost use Rattle.gl_box.specs.Cell.{Holds};
-ghost use Rattle.gl_box.specs.Closed.{box_of};
 ghost use Rattle.gl_box.specs.Frontier.{mult};
 ghost use Rattle.gl_goal.specs.Goal.{IsOptimum, whole_cell};
 ghost use Rattle.gl_box.specs.InLists.{boxes_in};
@@ -8,7 +7,7 @@ ghost use Rattle.gl_check.specs.Checked.{IsCertified, IsCheckedAs};
 ghost use Rattle.gl_check.specs.declared.verdict.Verdict.{Verdict};
 ghost use Rattle.gl_check.specs.declared.verdict.Verdict.TheVariants.{Yes};
 
-use crate::boxes::check_lists;
+use crate::boxes::check_form;
 use crate::choice::fault_of_choice;
 use crate::verdict::Verdict;
 use gl_goal::Goal;
@@ -22,7 +21,7 @@ fn verdict_of<G: Goal>(alloc: Global, goal: &G, claim: &Claim) -> Result<Verdict
     if let Some(verdict) = fault_of_choice(goal, claim.total, claim.fixes.as_slice()) {
         return Ok(verdict);
     }
-    check_lists(alloc, goal, claim.total, &claim.cells)
+    check_form(alloc, goal, claim.total, &claim.cells)
 }
 
 /// Checks a claim against a goal: `Yes` exactly where its boxes certify its total and its fixes,
@@ -41,7 +40,7 @@ pub fn check_claim<G: Goal>(alloc: Global, goal: &G, claim: &Claim) -> Result<Ve
         verdict ≡ Yes → IsOptimum (G.rule goal.now) claim.now.total) }
     ensures once { IfOk result (λ verdict. verdict ≡ Yes → (tuple : List ℕ)
         → Holds (whole_cell (G.rule goal.now).axes) tuple
-        → mult (map (λ box. box.0) (map box_of (boxes_in claim.now.cells))) tuple ≡ 1) }
+        → mult (map (λ box. box.0) (boxes_in claim.now.cells)) tuple ≡ 1) }
 {
     verdict_of(alloc, goal, claim)
 }

@@ -8,6 +8,7 @@ ghost use Rattle.gl_text.specs.Forms.{is_number};
 ghost use Rattle.gl_day.specs.Expected.{Proves};
 
 use crate::search::Search;
+use gl_box::Boxes;
 use gl_desk::Name;
 use gl_goal::{AnyGoal, Best, Goal, fix_numbers};
 use gl_plain::Found;
@@ -61,7 +62,7 @@ pub fn claim_of_found<G: Goal>(
         kind,
         total: total_of(&found.best),
         fixes,
-        cells: found.closed,
+        cells: Boxes::Walked(found.closed),
     })
 }
 

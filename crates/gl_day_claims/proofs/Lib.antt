@@ -11,5 +11,4 @@ pub mod Completing
 pub mod DayAccepted
 pub mod Flights
 pub mod OneFlight
-pub mod Pieces
 pub mod Runs

@@ -1,8 +1,6 @@
-ghost use Rattle.std.specs.Prelude.{◌≡◌, ◌⊎◌, ℕ, List, [], Option, Some, Contains, IfErr, IfOk, IsTrue, OnOk, length, map};
-ghost use Rattle.std.specs.List.{flat_map};
+ghost use Rattle.std.specs.Prelude.{◌≡◌, ◌⊎◌, ℕ, List, [], Option, Some, Contains, IfErr, IfOk, IsTrue, OnOk, map};
 ghost use Rattle.gl_desk.specs.Desk.{ListsNames, HaveFiles};
-ghost use Rattle.gl_box.specs.Closed.{box_of};
-ghost use Rattle.gl_proof.specs.Claim.{box_line, claim_text, front_text, spelled, statement_of};
+ghost use Rattle.gl_proof.specs.Claim.{claim_text, statement_of};
 ghost use Rattle.gl_text.specs.Forms.{is_number};
 ghost use Rattle.gl_day.specs.declared.flight.Seen.TheVariants.{Recorded};
 ghost use Rattle.gl_day.specs.Expected.{expected_of};
@@ -16,8 +14,7 @@ ghost use Rattle.gl_day_claims.specs.Code.Scoring.{AreClaimed, AreClaimedPartly,
 ghost use Rattle.gl_day_claims.specs.Scoring.{IsDayDone, IsDayStopped};
 
 use crate::seeing::see_entrant;
-use gl_answer::append_piece;
-use gl_box::Closed;
+use gl_answer::{append_lines, append_piece};
 use gl_day::{
     Flight, Search, Seen, Totals, claim_of, end_line, finish_flight, heading_line, sheet_of,
 };
@@ -26,76 +23,9 @@ use gl_desk::{Desk, DeskError, Name};
 use gl_goal::AnyGoal;
 use gl_igc::Recording;
 use gl_judge::{JudgedFlight, judge_flight};
-use gl_proof::{Claim, ClaimKind, write_boxes, write_front};
+use gl_proof::{Claim, ClaimKind};
 use gl_task::{Entrant, Steward};
 use std::alloc::Global;
-
-/// How many boxes are written before their lines are appended, so that the text of a claim with
-/// millions of boxes isn't in memory beside them.
-const BOXES: usize = 16_384;
-
-/// Appends the lines of boxes to the proof, some thousands at a time. After an error a first part
-/// of them was appended.
-fn append_boxes<D: Desk>(
-    alloc: Global,
-    desk: &mut D,
-    proof: &Name,
-    boxes: &[Closed],
-) -> Result<(), DeskError>
-    ensures appended { OnOk result (HasAppended proof.now
-        (spelled (map box_line (map box_of boxes.now))) (D.told desk.old) (D.told desk.new)) }
-    ensures stopped { IfErr result (HasAppendedPart proof.now
-        (spelled (map box_line (map box_of boxes.now))) (D.told desk.old) (D.told desk.new)) }
-{
-    let mut at = 0;
-    'pieces: while at < boxes.len() {
-        let end = at + BOXES.min(boxes.len() - at);
-        let mut text = Vec::new(alloc);
-        write_boxes(&mut text, &boxes[at..end])?;
-        append_piece(alloc, desk, proof, &text)?;
-        at = end;
-    }
-    Ok(())
-}
-
-/// Appends the lines of the boxes of lists that follow one another. After an error a first part of
-/// them was appended.
-fn append_lists<D: Desk>(
-    alloc: Global,
-    desk: &mut D,
-    proof: &Name,
-    lists: &[Vec<Closed>],
-) -> Result<(), DeskError>
-    ensures appended { OnOk result (HasAppended proof.now
-        (spelled (map box_line (map box_of (flat_map (λ list. list.items) lists.now))))
-        (D.told desk.old) (D.told desk.new)) }
-    ensures stopped { IfErr result (HasAppendedPart proof.now
-        (spelled (map box_line (map box_of (flat_map (λ list. list.items) lists.now))))
-        (D.told desk.old) (D.told desk.new)) }
-{
-    for list in lists {
-        append_boxes(alloc, desk, proof, list.as_slice())?;
-    }
-    Ok(())
-}
-
-/// Appends the lines of a claim that stand before its boxes. After an error a first part of them
-/// was appended.
-fn append_front<D: Desk>(
-    alloc: Global,
-    desk: &mut D,
-    proof: &Name,
-    claim: &Claim,
-) -> Result<(), DeskError>
-    ensures appended { OnOk result (HasAppended proof.now
-        (front_text (statement_of claim.now)) (D.told desk.old) (D.told desk.new)) }
-    ensures stopped { IfErr result (HasAppendedPart proof.now
-        (front_text (statement_of claim.now)) (D.told desk.old) (D.told desk.new)) }
-{
-    let mut text = Vec::new(alloc);
-    write_front(&mut text, claim)?;
-    append_piece(alloc, desk, proof, &text)
-}
 
 /// Appends the lines of a claim to the proof. After an error a first part of them was appended.
 pub fn append_claim<D: Desk>(
@@ -106,12 +36,11 @@ pub fn append_claim<D: Desk>(
 ) -> Result<(), DeskError>
     ensures appended { OnOk result (HasAppended proof.now (claim_text (statement_of claim.now))
         (D.told desk.old) (D.told desk.new)) }
-    ensures stopped { IfErr result (HasAppendedPart proof.now
-        (claim_text (statement_of claim.now)) (D.told desk.old) (D.told desk.new)) }
+    ensures stopped { IfErr result (HasAppendedPart proof.now (claim_text (statement_of claim.now))
+        (D.told desk.old) (D.told desk.new)) }
 {
-    append_front(alloc, desk, proof, claim)?;
-    append_lists(alloc, desk, proof, claim.cells.lists.as_slice())?;
-    append_boxes(alloc, desk, proof, claim.cells.last.as_slice())
+    let lines = claim.lines(alloc)?;
+    append_lines(alloc, desk, proof, lines)
 }
 
 /// Proves the claims of a flight, one after the other, and appends the lines of each to the proof.

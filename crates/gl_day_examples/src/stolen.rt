@@ -38,7 +38,7 @@ impl<'a, R> Stage for Barrier<'a, R> {
     }
 }
 
-/// The boxes of both stay in their lists, and they are those of a search by one.
+/// The boxes of both are those of a search by one.
 #[test]
 fn a_cell_is_stolen_from_a_worker_that_is_held(rt: HostRuntime) -> Result<(), Fail> {
     let gate = Barrier {
@@ -54,13 +54,10 @@ fn a_cell_is_stolen_from_a_worker_that_is_held(rt: HostRuntime) -> Result<(), Fa
     let alone = search_one(rt.alloc(), &goal)?;
     let found = search_many(&rt, rt.alloc(), &goal, 2, &gate)?;
     assert_eq!(rt; gate.stolen.load(Ordering::SeqCst), 1);
-    assert!(rt;
-        !found.closed.lists.is_empty(),
-        "the lists are copied into one"
+    assert_eq!(rt;
+        found.closed.turns.as_slice(),
+        alone.closed.turns.as_slice()
     );
-    let boxes = found.closed.into_list()?;
-    let others = alone.closed.into_list()?;
-    assert_eq!(rt; boxes.as_slice(), others.as_slice());
     Ok(())
 }
 

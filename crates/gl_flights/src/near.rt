@@ -1,15 +1,17 @@
-ghost use Rattle.std.specs.Prelude.{◌≡◌, IfErr, IfOk};
+ghost use Rattle.std.specs.Prelude.{◌≡◌, IfErr, IfOk, IfSome};
+ghost use Rattle.gl_near.specs.Line.{IsBest, near_text};
 ghost use Rattle.gl_near.specs.Pairs.{pairing_of};
+ghost use Rattle.gl_near.specs.Search.{boxes_of};
 ghost use Rattle.gl_words.specs.NearWords.{near_seen};
 ghost use Rattle.gl_answer.specs.declared.status.Status.TheVariants.{Done};
 ghost use Rattle.gl_flights.specs.Near.{IsNearestFix, IsNearestSaid, near_promise, pair_text, pairs_of};
 ghost use Rattle.gl_answer.specs.Given.{HasAnswered, IsStopped};
 
 use crate::near_files::test_near_files;
-use gl_answer::{Answer, Status, answer_halt, append_piece, distance_lines, no_pair};
+use gl_answer::{Answer, Status, answer_halt, append_lines, distance_lines, no_pair};
 use gl_desk::{Desk, DeskError};
 use gl_igc::Recording;
-use gl_near::{NearBest, NearClaim, Pairs, nearest_fix, search_near, write_near};
+use gl_near::{NearBest, NearFound, Pairs, nearest_fix, search_near};
 use gl_sphere::{Grid, vector};
 use gl_words::{Apart, NearWords};
 use std::alloc::{AllocError, Global};
@@ -33,7 +35,8 @@ pub fn pairs_of(
 
 /// What is said of the least distance: it and a pair that has it, or that no pair fits.
 fn pair_lines(alloc: Global, best: Option<NearBest>) -> Result<Vec<u8>, AllocError>
-    ensures { IfOk result (λ text. text.items ≡ pair_text best) }
+    ensures numbers { IfSome best IsBest }
+    ensures said { IfOk result (λ text. text.items ≡ pair_text best) }
 {
     match best {
         None => no_pair(alloc),
@@ -49,25 +52,23 @@ fn pair_lines(alloc: Global, best: Option<NearBest>) -> Result<Vec<u8>, AllocErr
     }
 }
 
-/// What is said of how near two flights came, and the text of the proof.
+/// What is said of how near two flights came, and what was found.
 fn search_flights(
     alloc: Global,
     flights: &(Recording, Recording),
     apart: Apart,
-) -> Result<(Vec<u8>, Vec<u8>), AllocError>
-    ensures { IfOk result (λ texts. IsNearestSaid (pairs_of flights.now apart.seconds)
-        (record { status = Done; said = texts.0.items; appended = texts.1.items })) }
+) -> Result<(Vec<u8>, NearFound), AllocError>
+    ensures { IfOk result (λ found. IsNearestSaid (pairs_of flights.now apart.seconds)
+        (record {
+          status = Done;
+          said = found.0.items;
+          appended = near_text found.1.best (boxes_of found.1);
+        })) }
 {
     let pairs = pairs_of(alloc, flights, apart)?;
     let found = search_near(alloc, &pairs)?;
     let said = pair_lines(alloc, found.best)?;
-    let claim = NearClaim {
-        best: found.best,
-        closed: found.closed,
-    };
-    let mut proof = Vec::new(alloc);
-    write_near(&mut proof, &claim)?;
-    Ok((said, proof))
+    Ok((said, found))
 }
 
 /// The answer of `near FILE OTHER SECONDS PROOF`: the least distance of two fixes, one of each
@@ -85,8 +86,9 @@ pub fn near<D: Desk>(alloc: Global, desk: &mut D, words: NearWords<'_>) -> Resul
         Ok(flights) => flights,
         Err(halt) => return answer_halt(alloc, halt),
     };
-    let (said, proof) = search_flights(alloc, &flights, words.apart)?;
-    append_piece(alloc, desk, words.proof, &proof)?;
+    let (said, found) = search_flights(alloc, &flights, words.apart)?;
+    let lines = found.lines(alloc)?;
+    append_lines(alloc, desk, words.proof, lines)?;
     Ok(Answer {
         status: Status::Done,
         text: said,

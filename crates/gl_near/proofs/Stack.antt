@@ -1,53 +1,42 @@
--- The open cells of a search: their work falls with each step, and with the boxes they part all pairs.
-use Rattle.std.proofs.Common.{◌≡◌, ◌∙◌, sym, ap, refl, subst, ℕ, zero, suc, ◌<◌, inl, inr, List, [], ◌∷◌, ◌++◌, length, get_or, map, reverse, append_assoc, arith}
+-- The open cells of a search: their work falls with each step, and its turns lead from the whole cell to them.
+use Rattle.std.proofs.Common.{◌≡◌, ◌∙◌, sym, ap, refl, subst, ℕ, ◌^◌, ◌-◌, ◌<◌, inl, inr, List, [], ◌∷◌, ◌++◌, length, map, take, arith}
 use Rattle.std.specs.Prelude.{◌↔◌, All, IfSome, IsNone, Option, Some, None}
 use Rattle.std.specs.Option.{option_to_list}
-use Rattle.std.proofs.lemmas.List.{append-nil, map-append, get_or-map, length-map}
+use Rattle.std.proofs.lemmas.List.{append-nil}
 use Rattle.std.proofs.lemmas.List.Elements.{All-cons, All-nil, All-push}
 use Rattle.gl_box.specs.declared.cell.Cell.{Cell}
-use Rattle.gl_box.specs.Cell.{Covers, point, spans_of}
+use Rattle.gl_box.specs.declared.span.Span.{Span}
+use Rattle.gl_box.specs.Along.{Cuts}
+use Rattle.gl_box.specs.Cell.{Covers, ends, point, spans_of}
 use Rattle.gl_box.specs.Halves.{IsSingle, span_at}
-use Rattle.gl_box.specs.Frontier.{IsFrontier}
-use Rattle.gl_box.specs.Frontier.IsFrontier.{alone}
+use Rattle.gl_box.specs.Turns.{boxes_from, left_open, others_of, when_cut}
+use Rattle.gl_box.specs.Walk.{open_cells}
+use Rattle.gl_box.proofs.Frontiers.{open_push}
 use Rattle.gl_box.proofs.Held.{length-covers}
-use Rattle.gl_box.proofs.Spans.{length-spans_of}
-use Rattle.gl_box.proofs.Nodes.{covers_lower, covers_node, member_node, covers_self, covers_through, covers_upper, halves_frontier, refined, spread, spread-lower, spread-upper}
+use Rattle.gl_box.proofs.Nodes.{covers_lower, covers_self, covers_through, covers_upper}
+use Rattle.gl_box.proofs.Turns.{boxes_from-append, cut_opened, left_open-append, turns_part}
+use Rattle.gl_proof.specs.Words.{IsSpan}
 use Rattle.gl_near.specs.declared.dive.Candidate.{Candidate}
 use Rattle.gl_near.specs.declared.found.NearBest.{NearBest}
-use Rattle.gl_near.specs.declared.found.NearClosed.{NearClosed}
 use Rattle.gl_near.specs.declared.found.NearWhy.{NearWhy}
 use Rattle.gl_near.specs.declared.found.NearWhy.TheVariants.{Time, Near}
+use Rattle.gl_near.specs.declared.pairs.Pairs.{Pairs}
+use Rattle.gl_near.specs.declared.pairs.Pairs.TheVariants.{Two, One}
+use Rattle.gl_near.specs.Line.{AreTwoSpans}
 use Rattle.gl_near.specs.Pairing.{Fits, IsApart, IsLeast, IsPairing, IsReached, Pairing, flights, least, place, whole_cell}
-use Rattle.gl_near.specs.Certificate.{IsCertificate, IsClosedFor, IsSound, box_of, total_of}
-use Rattle.gl_near.specs.Code.Search.{Advances, AreWithin, Closes, ClosesFor, Cuts, IsNoMore, IsUnderWay, Promises, in_order}
+use Rattle.gl_near.specs.Pairs.{pairing_of}
+use Rattle.gl_near.specs.Certificate.{IsCertificate, IsClosedFor, IsSound, total_of}
+use Rattle.gl_near.specs.Code.Search.{Advances, AreWithin, ClosesFor, IsBox, IsNoMore, IsUnderWay, Promises}
 use Rattle.gl_near.proofs.PairsLemmas.{single_reached}
 use Rattle.gl_text.proofs.Lists.{All-last}
-use Rattle.gl_box.proofs.Work.{work_of, turns_some, turns_cut, work_of-append, work_of-one}
-use Rattle.gl_box.proofs.Lows.{single_low, reverse-last}
+use Rattle.gl_box.proofs.Work.{closes_falls, cuts_falls, work_of}
+use Rattle.gl_box.proofs.Lows.{single_low}
 
 -- each step leaves less work
-pub work_falls : (pairing : Pairing) (total : Option ℕ) (before after : List Cell) (boxes_before boxes_after : List NearClosed) → Advances pairing total before after boxes_before boxes_after
+pub work_falls : (pairing : Pairing) (total : Option ℕ) (before after : List Cell) (turns_before turns_after : List (Option NearWhy)) → Advances pairing total before after turns_before turns_after
     → work_of after < work_of before
-work_falls pairing total before after boxes_before boxes_after (inl closes) =
-    let cell = closes.closes.cell in
-    omega (arith, ap work_of closes.closes.top, work_of-append after (cell ∷ []), work_of-one cell, turns_some (spread (spans_of cell)))
-work_falls pairing total before after boxes_before boxes_after (inr cuts) =
-    let rest = cuts.rest in
-    let low = spread-lower (spans_of cuts.cell) (spans_of cuts.lower) (spans_of cuts.upper) cuts.halves in
-    let high = spread-upper (spans_of cuts.cell) (spans_of cuts.lower) (spans_of cuts.upper) cuts.halves in
-    let less = turns_cut _ _ _ low high in
-    omega (
-      arith,
-      less,
-      ap work_of cuts.top,
-      ap work_of cuts.cut,
-      work_of-append rest (cuts.cell ∷ []),
-      work_of-append (rest ++ cuts.upper ∷ []) (cuts.lower ∷ []),
-      work_of-append rest (cuts.upper ∷ []),
-      work_of-one cuts.cell,
-      work_of-one cuts.lower,
-      work_of-one cuts.upper,
-    )
+work_falls pairing total before after turns_before turns_after (inl closes) = closes_falls before after turns_before turns_after closes.why closes.closes
+work_falls pairing total before after turns_before turns_after (inr cuts) = cuts_falls before after turns_before turns_after cuts
 
 -- a cell of two axes by its spans
 pair_of : (spans : List (ℕ × ℕ)) → length spans ≡ 2 → map (λ span. span.0) spans ≡ (span_at spans 0).0 ∷ (span_at spans 1).0 ∷ []
@@ -77,121 +66,129 @@ closed_longer pairing None new cell Near less closed = absurd closed
 closed_longer pairing (Some old) None cell Near less closed = absurd less
 closed_longer pairing (Some old) (Some new) cell Near less closed = omega arith
 
-abbrev cell_of : NearClosed → List (ℕ × ℕ)
-cell_of box = spans_of box.cell
+-- the ends of the whole cell are numbers of 32 bits
+pub record IsShort (pairing : Pairing) : Type 0 where
+  first : ℕ
+  second : ℕ
+  is : whole_cell pairing ≡ (0, first) ∷ (0, second) ∷ []
+  first_short : first < 2 ^ 32
+  second_short : second < 2 ^ 32
 
--- a closed box stands where its cell stood
-in_order-closed : (before after : List Cell) (boxes_before boxes_after : List NearClosed) (why : NearWhy) → Closes before after boxes_before boxes_after why
-    → in_order before boxes_before ≡ in_order after boxes_after
-in_order-closed before after boxes_before boxes_after why closes =
-    let cell = closes.cell in
-    let box : NearClosed = record { cell = cell; why = why } in
-    let left : in_order before boxes_before ≡ map cell_of boxes_before ++ (spans_of cell ∷ reverse (map spans_of after)) =
-    ap (λ (cells : List Cell). map cell_of boxes_before ++ reverse (map spans_of cells)) closes.top
-    ∙ ap (λ (cells : List (List (ℕ × ℕ))). map cell_of boxes_before ++ cells) (reverse-last after cell) in
-    let right : in_order after boxes_after ≡ map cell_of boxes_before ++ (spans_of cell ∷ []) ++ reverse (map spans_of after) =
-    ap (λ (boxes : List NearClosed). map cell_of boxes ++ reverse (map spans_of after)) closes.box
-    ∙ ap (λ (cells : List (List (ℕ × ℕ))). cells ++ reverse (map spans_of after)) (map-append cell_of boxes_before (box ∷ [])) in
-    left ∙ sym (append_assoc (map cell_of boxes_before) (spans_of cell ∷ []) (reverse (map spans_of after))) ∙ sym right
+pub pairs_short : (pairs : Pairs) → IsShort (pairing_of pairs)
+pairs_short (Two two) = record {
+  first = length two.one - 1;
+  second = length two.other - 1;
+  is = refl;
+  first_short = omega (arith, two.most_fixes);
+  second_short = omega (arith, two.most_others);
+}
+pairs_short (One one) = record { first = length one.flight - 1; second = 0; is = refl; first_short = omega (arith, one.most_fixes); second_short = omega arith }
 
--- where a cell is cut, its halves stand where it stood
-in_order-cut : (whole : List (ℕ × ℕ)) (before after : List Cell) (boxes_before boxes_after : List NearClosed) → Cuts before after boxes_before boxes_after
-    → IsFrontier whole (in_order before boxes_before) → IsFrontier whole (in_order after boxes_after)
-in_order-cut whole before after boxes_before boxes_after cuts parted_ =
-    let rest = cuts.rest in
-    let cell = cuts.cell in
-    let lower = cuts.lower in
-    let upper = cuts.upper in
-    let front = map cell_of boxes_before in
-    let back = reverse (map spans_of rest) in
-    let left : in_order before boxes_before ≡ front ++ (spans_of cell ∷ back) =
-    ap (λ (cells : List Cell). front ++ reverse (map spans_of cells)) cuts.top ∙ ap (λ (cells : List (List (ℕ × ℕ))). front ++ cells) (reverse-last rest cell) in
-    let finer = refined whole (in_order before boxes_before) front back (spans_of cell) (spans_of lower ∷ spans_of upper ∷ []) parted_ left
-    (halves_frontier (spans_of cell) (spans_of lower) (spans_of upper) cuts.halves) in
-    let two : reverse (map spans_of after) ≡ spans_of lower ∷ spans_of upper ∷ back =
-    ap (λ (cells : List Cell). reverse (map spans_of cells)) cuts.cut ∙ reverse-last (rest ++ upper ∷ []) lower
-    ∙ ap (λ (cells : List (List (ℕ × ℕ))). spans_of lower ∷ cells) (reverse-last rest upper) in
-    let right : in_order after boxes_after ≡ front ++ (spans_of lower ∷ spans_of upper ∷ back) =
-    ap (λ (boxes : List NearClosed). map cell_of boxes ++ reverse (map spans_of after)) cuts.same ∙ ap (λ (cells : List (List (ℕ × ℕ))). front ++ cells) two in
-    subst (IsFrontier whole) (sym right) finer
+-- so the spans of a cell in it can be written
+spans_within : (first second : ℕ) (spans : List Span) → first < 2 ^ 32 → second < 2 ^ 32 → Covers ((0, first) ∷ (0, second) ∷ []) (map ends spans) → AreTwoSpans (map ends spans)
+spans_within first second [] short other covers = absurd covers
+spans_within first second (a ∷ []) short other covers = absurd covers.2
+spans_within first second (a ∷ b ∷ []) short other covers = record {
+  two = refl;
+  each = All-cons IsSpan (ends a) (ends b ∷ []) (a.ordered, omega (arith, short, covers.1))
+      (All-cons IsSpan (ends b) [] (b.ordered, omega (arith, other, covers.2.1)) (All-nil IsSpan));
+}
+spans_within first second (a ∷ b ∷ c ∷ rest) short other covers = absurd covers.2.2
+
+cell_spans : (pairing : Pairing) (cell : Cell) → IsShort pairing → Covers (whole_cell pairing) (spans_of cell) → AreTwoSpans (spans_of cell)
+cell_spans pairing cell short covers =
+    spans_within short.first short.second (take cell.axes cell.spans) short.first_short short.second_short (subst (λ whole. Covers whole (spans_of cell)) short.is covers)
 
 All_along : {A : Type 0} (P : A → Type 0) (xs ys : List A) → xs ≡ ys → All P xs → All P ys
 All_along P xs ys same all = subst (All P) same all
 
+longer : (pairing : Pairing) (old new : Option NearBest) (boxes : List (List (ℕ × ℕ) × NearWhy)) → IsNoMore (total_of old) (total_of new) → All (IsBox pairing (total_of old)) boxes
+    → All (IsBox pairing (total_of new)) boxes
+longer pairing old new boxes less all = λ k d below.
+    let box = all k d below in
+    record { closed = closed_longer pairing (total_of old) (total_of new) _ _ less box.closed; spans = box.spans }
+
 -- a search under way goes on
-under_way-closed : (pairing : Pairing) (old new : Option NearBest) (before after : List Cell) (boxes_before boxes_after : List NearClosed) → IsSound pairing new
-    → IsNoMore (total_of old) (total_of new) → IsUnderWay pairing old before boxes_before → ClosesFor pairing (total_of new) before after boxes_before boxes_after
-    → IsUnderWay pairing new after boxes_after
-under_way-closed pairing old new before after boxes_before boxes_after sound less way closes =
-    let whole = whole_cell pairing in
+under_way-closed : (pairing : Pairing) (old new : Option NearBest) (before after : List Cell) (turns_before turns_after : List (Option NearWhy)) → IsShort pairing → IsSound pairing new
+    → IsNoMore (total_of old) (total_of new) → IsUnderWay pairing old before turns_before → ClosesFor pairing (total_of new) before after turns_before turns_after
+    → IsUnderWay pairing new after turns_after
+under_way-closed pairing old new before after turns_before turns_after short sound less way closes =
+    let start = whole_cell pairing ∷ [] in
     let cell = closes.closes.cell in
-    let box : NearClosed = record { cell = cell; why = closes.why } in
-    let P : NearClosed → Type 0 = λ b. IsClosedFor pairing (total_of new) (spans_of b.cell) b.why in
-    let Q : Cell → Type 0 = λ c. Covers whole (spans_of c) in
+    let turn : Option NearWhy = Some closes.why in
+    let box : List (ℕ × ℕ) × NearWhy = (spans_of cell, closes.why) in
+    let front = boxes_from start turns_before in
+    let Q : Cell → Type 0 = λ c. Covers (whole_cell pairing) (spans_of c) in
+    let parts = All-last Q after cell (All_along Q before (after ++ cell ∷ []) closes.closes.top way.covered) in
+    let there : left_open start turns_before ≡ spans_of cell ∷ open_cells after = way.left ∙ ap open_cells closes.closes.top ∙ open_push after cell in
+    let boxes : boxes_from start turns_after ≡ front ++ box ∷ [] =
+    ap (boxes_from start) closes.closes.turn ∙ boxes_from-append start turns_before (turn ∷ []) ∙ ap (λ (l : List (List (ℕ × ℕ))). front ++ boxes_from l (turn ∷ [])) there in
     record {
       sound = sound;
-      parted = subst (IsFrontier whole) (in_order-closed before after boxes_before boxes_after closes.why closes.closes) way.parted;
-      closed = All_along P (boxes_before ++ box ∷ []) boxes_after (sym closes.closes.box)
-          (All-push P boxes_before box (λ k d below. closed_longer pairing (total_of old) (total_of new) _ _ less (way.closed k d below)) closes.reason);
-      covered = (All-last Q after cell (All_along Q before (after ++ cell ∷ []) closes.closes.top way.covered)).0;
+      left = ap (left_open start) closes.closes.turn ∙ left_open-append start turns_before (turn ∷ []) ∙ ap others_of there;
+      boxes_are = All_along (IsBox pairing (total_of new)) (front ++ box ∷ []) (boxes_from start turns_after) (sym boxes)
+          (All-push (IsBox pairing (total_of new)) front box (longer pairing old new front less way.boxes_are) (record { closed = closes.reason; spans = cell_spans pairing cell short parts.1 }));
+      covered = parts.0;
     }
 
-under_way-cut : (pairing : Pairing) (old new : Option NearBest) (before after : List Cell) (boxes_before boxes_after : List NearClosed) → IsSound pairing new → IsNoMore (total_of old) (total_of new)
-    → IsUnderWay pairing old before boxes_before → Cuts before after boxes_before boxes_after → IsUnderWay pairing new after boxes_after
-under_way-cut pairing old new before after boxes_before boxes_after sound less way cuts =
-    let whole = whole_cell pairing in
-    let P : NearClosed → Type 0 = λ b. IsClosedFor pairing (total_of new) (spans_of b.cell) b.why in
-    let Q : Cell → Type 0 = λ c. Covers whole (spans_of c) in
+under_way-cut : (pairing : Pairing) (old new : Option NearBest) (before after : List Cell) (turns_before turns_after : List (Option NearWhy)) → IsSound pairing new
+    → IsNoMore (total_of old) (total_of new) → IsUnderWay pairing old before turns_before → Cuts before after turns_before turns_after → IsUnderWay pairing new after turns_after
+under_way-cut pairing old new before after turns_before turns_after sound less way cuts =
+    let start = whole_cell pairing ∷ [] in
+    let turn : Option NearWhy = None in
+    let front = boxes_from start turns_before in
+    let Q : Cell → Type 0 = λ c. Covers (whole_cell pairing) (spans_of c) in
     let parts = All-last Q cuts.rest cuts.cell (All_along Q before (cuts.rest ++ cuts.cell ∷ []) cuts.top way.covered) in
-    let low : Q cuts.lower = covers_through whole (spans_of cuts.cell) (spans_of cuts.lower) parts.1 (covers_lower (spans_of cuts.cell) (spans_of cuts.lower) (spans_of cuts.upper) cuts.halves) in
-    let high : Q cuts.upper = covers_through whole (spans_of cuts.cell) (spans_of cuts.upper) parts.1 (covers_upper (spans_of cuts.cell) (spans_of cuts.lower) (spans_of cuts.upper) cuts.halves) in
+    let low : Q cuts.lower = covers_through (whole_cell pairing) (spans_of cuts.cell) (spans_of cuts.lower) parts.1 (covers_lower (spans_of cuts.cell) (spans_of cuts.lower) (spans_of cuts.upper) cuts.halves) in
+    let high : Q cuts.upper = covers_through (whole_cell pairing) (spans_of cuts.cell) (spans_of cuts.upper) parts.1 (covers_upper (spans_of cuts.cell) (spans_of cuts.lower) (spans_of cuts.upper) cuts.halves) in
+    let boxes : boxes_from start turns_after ≡ front = ap (boxes_from start) cuts.turn ∙ boxes_from-append start turns_before (turn ∷ []) ∙ append-nil front in
     record {
       sound = sound;
-      parted = in_order-cut whole before after boxes_before boxes_after cuts way.parted;
-      closed = All_along P boxes_before boxes_after (sym cuts.same) (λ k d below. closed_longer pairing (total_of old) (total_of new) _ _ less (way.closed k d below));
+      left = ap (left_open start) cuts.turn ∙ left_open-append start turns_before (turn ∷ []) ∙ ap when_cut way.left
+          ∙ sym (cut_opened before cuts.rest after cuts.cell cuts.lower cuts.upper cuts.top cuts.halves cuts.cut);
+      boxes_are = All_along (IsBox pairing (total_of new)) front (boxes_from start turns_after) (sym boxes) (longer pairing old new front less way.boxes_are);
       covered = All_along Q ((cuts.rest ++ cuts.upper ∷ []) ++ cuts.lower ∷ []) after (sym cuts.cut)
           (All-push Q (cuts.rest ++ cuts.upper ∷ []) cuts.lower (All-push Q cuts.rest cuts.upper parts.0 high) low);
     }
 
-pub under_way_on : (pairing : Pairing) (old new : Option NearBest) (before after : List Cell) (boxes_before boxes_after : List NearClosed) → IsSound pairing new
-    → IsNoMore (total_of old) (total_of new) → IsUnderWay pairing old before boxes_before → Advances pairing (total_of new) before after boxes_before boxes_after
-    → IsUnderWay pairing new after boxes_after
-under_way_on pairing old new before after boxes_before boxes_after sound less way (inl closes) = under_way-closed pairing old new before after boxes_before boxes_after sound less way closes
-under_way_on pairing old new before after boxes_before boxes_after sound less way (inr cuts) = under_way-cut pairing old new before after boxes_before boxes_after sound less way cuts
+pub under_way_on : (pairing : Pairing) (old new : Option NearBest) (before after : List Cell) (turns_before turns_after : List (Option NearWhy)) → IsShort pairing → IsSound pairing new
+    → IsNoMore (total_of old) (total_of new) → IsUnderWay pairing old before turns_before → Advances pairing (total_of new) before after turns_before turns_after
+    → IsUnderWay pairing new after turns_after
+under_way_on pairing old new before after turns_before turns_after short sound less way (inl closes) =
+    under_way-closed pairing old new before after turns_before turns_after short sound less way closes
+under_way_on pairing old new before after turns_before turns_after short sound less way (inr cuts) = under_way-cut pairing old new before after turns_before turns_after sound less way cuts
 
 -- a search begins with the whole cell
-pub under_way_start : (pairing : Pairing) (best : Option NearBest) (cells : List Cell) (cell : Cell) (boxes : List NearClosed) → IsSound pairing best → boxes ≡ [] → cells ≡ cell ∷ []
-    → spans_of cell ≡ whole_cell pairing → IsUnderWay pairing best cells boxes
-under_way_start pairing best cells cell boxes sound no_box one is =
+pub under_way_start : (pairing : Pairing) (best : Option NearBest) (cells : List Cell) (cell : Cell) (turns : List (Option NearWhy)) → IsSound pairing best → turns ≡ [] → cells ≡ cell ∷ []
+    → spans_of cell ≡ whole_cell pairing → IsUnderWay pairing best cells turns
+under_way_start pairing best cells cell turns sound none one is =
     let whole = whole_cell pairing in
-    let P : NearClosed → Type 0 = λ b. IsClosedFor pairing (total_of best) (spans_of b.cell) b.why in
+    let start = whole ∷ [] in
+    let P = IsBox pairing (total_of best) in
     let Q : Cell → Type 0 = λ c. Covers whole (spans_of c) in
-    let first : in_order cells boxes ≡ whole ∷ [] =
-    (λ i. in_order (one i) (no_box i)) ∙ ap (λ (c : List (ℕ × ℕ)). c ∷ []) is in
     record {
       sound = sound;
-      parted = alone whole (in_order cells boxes) first;
-      closed = All_along P [] boxes (sym no_box) (All-nil P);
+      left = ap (left_open start) none ∙ ap (λ (c : List (ℕ × ℕ)). c ∷ []) (sym is) ∙ ap open_cells (sym one);
+      boxes_are = All_along P [] (boxes_from start turns) (sym (ap (boxes_from start) none)) (All-nil P);
       covered = All_along Q (cell ∷ []) cells (sym one) (All-cons Q cell [] (subst (Covers whole) (sym is) (covers_self whole)) (All-nil Q));
     }
 
-map-boxes : (boxes : List NearClosed) → map (λ (box : List (ℕ × ℕ) × NearWhy). box.0) (map box_of boxes) ≡ map cell_of boxes
-map-boxes [] = refl
-map-boxes (box ∷ boxes) = ap (λ (cells : List (List (ℕ × ℕ))). spans_of box.cell ∷ cells) (map-boxes boxes)
+-- where no cell is open any more, the boxes of the walk are a certificate
+walk_boxes : (pairing : Pairing) (opened : List Cell) (cell : Cell) (turns : List (Option NearWhy)) → opened ≡ cell ∷ [] → spans_of cell ≡ whole_cell pairing
+    → boxes_from (whole_cell pairing ∷ []) turns ≡ boxes_from (open_cells opened) turns
+walk_boxes pairing opened cell turns one is = ap (λ (cells : List (List (ℕ × ℕ))). boxes_from cells turns) (ap (λ (c : List (ℕ × ℕ)). c ∷ []) (sym is) ∙ ap open_cells (sym one))
 
-closed-boxes : (pairing : Pairing) (total : Option ℕ) (boxes : List NearClosed) → All (λ (b : NearClosed). IsClosedFor pairing total (spans_of b.cell) b.why) boxes
-    → All (λ (box : List (ℕ × ℕ) × NearWhy). IsClosedFor pairing total box.0 box.1) (map box_of boxes)
-closed-boxes pairing total [] closed k d below = absurd (omega arith)
-closed-boxes pairing total (box ∷ boxes) closed zero d below = closed 0 box (omega arith)
-closed-boxes pairing total (box ∷ boxes) closed (suc k) d below = closed-boxes pairing total boxes (λ j e inside. closed (suc j) e (omega arith)) k d (omega arith)
+pub certified : (pairing : Pairing) (best : Option NearBest) (opened : List Cell) (cell : Cell) (turns : List (Option NearWhy)) → opened ≡ cell ∷ [] → spans_of cell ≡ whole_cell pairing
+    → IsUnderWay pairing best [] turns → IsCertificate pairing best (boxes_from (open_cells opened) turns)
+certified pairing best opened cell turns one is way =
+    subst (IsCertificate pairing best) (walk_boxes pairing opened cell turns one is)
+    (record { sound = way.sound; frontier = turns_part (whole_cell pairing) turns way.left; closed = λ k d below. (way.boxes_are k d below).closed })
 
--- where no cell is open any more, the boxes are a certificate
-pub certified : (pairing : Pairing) (best : Option NearBest) (boxes : List NearClosed) → IsUnderWay pairing best [] boxes → IsCertificate pairing best (map box_of boxes)
-certified pairing best boxes way = record {
-  sound = way.sound;
-  frontier = subst (IsFrontier (whole_cell pairing)) (append-nil (map cell_of boxes) ∙ sym (map-boxes boxes)) way.parted;
-  closed = closed-boxes pairing (total_of best) boxes way.closed;
-}
+-- and have two spans each
+pub two_spans_each : (pairing : Pairing) (best : Option NearBest) (opened : List Cell) (cell : Cell) (turns : List (Option NearWhy)) → opened ≡ cell ∷ [] → spans_of cell ≡ whole_cell pairing
+    → IsUnderWay pairing best [] turns → All (λ (box : List (ℕ × ℕ) × NearWhy). AreTwoSpans box.0) (boxes_from (open_cells opened) turns)
+two_spans_each pairing best opened cell turns one is way =
+    All_along (λ (box : List (ℕ × ℕ) × NearWhy). AreTwoSpans box.0) _ _ (walk_boxes pairing opened cell turns one is) (λ k d below. (way.boxes_are k d below).spans)
 
 -- nothing was found exactly where no pair fits
 pub none_exactly : (pairing : Pairing) (best : Option NearBest) → IsLeast pairing (total_of best) → IsNone best ↔ ((first second : ℕ) → Fits pairing first second → ⊥)
@@ -213,14 +210,3 @@ pub within_both : (pairing : Pairing) (xs ys : List Candidate) (one other : Opti
 within_both pairing xs ys one other first second within covers covers_other is other_is more =
     let zs = xs ++ option_to_list one in
     within_some pairing zs ys other second (within_some pairing xs zs one first within covers is refl) covers_other other_is more
-
--- each box of a certificate has two axes
-pub two_axes_each : (pairing : Pairing) (best : Option NearBest) (boxes : List NearClosed) → IsCertificate pairing best (map box_of boxes) → All (λ (box : NearClosed). box.cell.axes ≡ 2) boxes
-two_axes_each pairing best boxes certificate k d below =
-    let whole = whole_cell pairing in
-    let cells = map (λ (box : List (ℕ × ℕ) × NearWhy). box.0) (map box_of boxes) in
-    let long : length cells ≡ length boxes = ap length (map-boxes boxes) ∙ length-map boxes cell_of in
-    let inside : k < length cells = omega (arith, long, below) in
-    let read : get_or cells k [] ≡ spans_of (get_or boxes k d).cell = ap (λ (l : List (List (ℕ × ℕ))). get_or l k []) (map-boxes boxes) ∙ get_or-map cell_of boxes k d [] below in
-    let covers = subst (Covers whole) read (covers_node whole (get_or cells k []) (member_node whole cells k certificate.frontier inside)) in
-    sym (length-spans_of (get_or boxes k d).cell) ∙ sym (length-covers whole (spans_of (get_or boxes k d).cell) covers) ∙ two_axes pairing

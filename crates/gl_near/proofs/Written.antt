@@ -1,23 +1,22 @@
 -- A text that grows piece by piece.
-use Rattle.std.proofs.Common.{◌≡◌, ◌∙◌, sym, ap, refl, subst, Result, Ok, Err, Option, ℕ, ◌+◌, ◌<◌, List, [], ◌∷◌, ◌++◌, length, get_or, take, map, append_assoc, arith}
+use Rattle.std.proofs.Common.{◌≡◌, ◌∙◌, sym, ap, refl, Result, Ok, Err, Option, ℕ, ◌+◌, ◌<◌, true, List, [], ◌∷◌, ◌++◌, length, get_or, take, map, append_assoc, arith}
 use Rattle.std.proofs.lemmas.List.{append-nil, get_or-map, length-map}
 use Rattle.std.proofs.lemmas.List.Concat.{flat_map-append}
-use Rattle.std.proofs.lemmas.List.Elements.{All-cons, All-nil}
 use Rattle.std.specs.Fmt.{decimal}
-use Rattle.std.specs.Prelude.{codes, OnErr}
-use Rattle.gl_box.specs.Cell.{ends, spans_of}
-use Rattle.gl_box.specs.Halves.{span_at}
+use Rattle.std.specs.Prelude.{All, codes, OnErr}
+use Rattle.gl_box.specs.Cell.{spans_of}
 use Rattle.gl_box.specs.declared.cell.Cell.{Cell}
-use Rattle.gl_box.specs.declared.span.Span.{Span}
-use Rattle.gl_box.proofs.Spans.{length-spans_of, span_at-spans_of}
-use Rattle.gl_proof.specs.Kept.{Keeps}
-use Rattle.gl_proof.specs.Words.{IsSpan, span_word, total_word}
+use Rattle.gl_box.proofs.Spans.{length-spans_of}
+use Rattle.gl_proof.specs.Kept.{Keeps, Writes}
+use Rattle.gl_proof.specs.Words.{IsSpan, spaced, span_word, total_word}
 use Rattle.gl_proof.proofs.Pieces.{pieces_more}
 use Rattle.gl_near.specs.declared.found.NearBest.{NearBest}
 use Rattle.gl_near.specs.declared.found.NearClosed.{NearClosed}
 use Rattle.gl_near.specs.declared.found.NearWhy.{NearWhy}
+use Rattle.gl_near.specs.declared.found.NearWhy.TheVariants.{Time, Near}
+use Rattle.gl_near.specs.declared.write.NearPart.TheVariants.{Front, Boxes, Over}
 use Rattle.gl_near.specs.Certificate.{box_of}
-use Rattle.gl_near.specs.Line.{AreTwoSpans, BoxLine, EndLine, HeadingLine, LeastLine, Line, PairLine, box_line, ended, front_lines, near_text, reason_word, spelled}
+use Rattle.gl_near.specs.Line.{AreTwoSpans, BoxLine, EndLine, HeadingLine, LeastLine, Line, PairLine, box_line, boxes_text, ended, front_lines, front_text, left_of, near_text, reason_word, spelled}
 
 -- one box more
 pub box_more : (before was now : List ℕ) (boxes : List NearClosed) (i : ℕ) (closed : NearClosed) → i < length boxes → closed ≡ get_or boxes i closed
@@ -31,36 +30,61 @@ box_more before was now boxes i closed below item is added =
     ∙ ap (λ (b : List (ℕ × ℕ) × NearWhy). front ++ ended (box_line b)) (sym read)
     ∙ pieces_more ended box_line before (map box_of boxes) i (box_of closed) inside
 
-two : (spans : List (ℕ × ℕ)) → length spans ≡ 2 → spans ≡ span_at spans 0 ∷ span_at spans 1 ∷ []
-two [] long = absurd (omega arith)
-two (a ∷ []) long = absurd (omega arith)
-two (a ∷ b ∷ []) long = refl
-two (a ∷ b ∷ c ∷ rest) long = absurd (omega arith)
-
--- the text of a claim, piece by piece
-pub claim_written : (before a b d all : List ℕ) (best : Option NearBest) (boxes : List (List (ℕ × ℕ) × NearWhy)) → a ≡ before ++ ended HeadingLine → b ≡ a ++ spelled (front_lines best)
-    → d ≡ b ++ spelled (map box_line boxes) → all ≡ d ++ ended EndLine → all ≡ before ++ near_text best boxes
-claim_written before a b d all best boxes one two three four =
-    let front = front_lines best in
+-- the text of a claim is its front, its boxes and the end
+pub near_text-parts : (best : Option NearBest) (boxes : List (List (ℕ × ℕ) × NearWhy)) → near_text best boxes ≡ front_text best ++ (boxes_text boxes ++ ended EndLine)
+near_text-parts best boxes =
     let lines : List Line = map box_line boxes in
-    let tail : spelled (front ++ (lines ++ EndLine ∷ [])) ≡ spelled front ++ (spelled lines ++ ended EndLine) =
-    flat_map-append ended front (lines ++ EndLine ∷ [])
-    ∙ ap (λ (l : List ℕ). spelled front ++ l) (flat_map-append ended lines (EndLine ∷ []) ∙ ap (λ (l : List ℕ). spelled lines ++ l) (append-nil (ended EndLine))) in
-    four
-    ∙ ap (λ (l : List ℕ). l ++ ended EndLine) (three ∙ ap (λ (l : List ℕ). l ++ spelled lines) (two ∙ ap (λ (l : List ℕ). l ++ spelled front) one))
-    ∙ append_assoc ((before ++ ended HeadingLine) ++ spelled front) (spelled lines) (ended EndLine)
-    ∙ append_assoc (before ++ ended HeadingLine) (spelled front) (spelled lines ++ ended EndLine)
-    ∙ append_assoc before (ended HeadingLine) (spelled front ++ (spelled lines ++ ended EndLine))
-    ∙ ap (λ (l : List ℕ). before ++ (ended HeadingLine ++ l)) (sym tail)
+    flat_map-append ended (HeadingLine ∷ front_lines best) (lines ++ EndLine ∷ [])
+    ∙ ap (λ (l : List ℕ). front_text best ++ l) (flat_map-append ended lines (EndLine ∷ []) ∙ ap (λ (l : List ℕ). boxes_text boxes ++ l) (append-nil (ended EndLine)))
 
--- the spans of a box
-pub box_spans : (cell : Cell) (a b : Span) → cell.axes ≡ 2 → spans_of cell ≡ ends (get_or cell.spans 0 a) ∷ ends (get_or cell.spans 1 b) ∷ []
-box_spans cell a b axes =
-    two (spans_of cell) (length-spans_of cell ∙ axes) ∙ (λ i. span_at-spans_of cell 0 a (omega arith) i ∷ span_at-spans_of cell 1 b (omega arith) i ∷ [])
+-- the front and the whole, piece by piece
+pub front_written : (before first all : List ℕ) (best : Option NearBest) → first ≡ before ++ ended HeadingLine → all ≡ first ++ spelled (front_lines best) → all ≡ before ++ front_text best
+front_written before first all best one two = two ∙ ap (λ (l : List ℕ). l ++ spelled (front_lines best)) one ∙ append_assoc before (ended HeadingLine) (spelled (front_lines best))
 
-pub two_spans : (cell : Cell) (one other : ℕ × ℕ) → spans_of cell ≡ one ∷ other ∷ [] → IsSpan one → IsSpan other → AreTwoSpans (spans_of cell)
-two_spans cell one other are first second =
-    subst AreTwoSpans (sym are) (record { two = refl; each = All-cons IsSpan one (other ∷ []) first (All-cons IsSpan other [] second (All-nil IsSpan)) })
+pub claim_written : (before first second all : List ℕ) (best : Option NearBest) (boxes : List (List (ℕ × ℕ) × NearWhy)) → first ≡ before ++ front_text best → second ≡ first ++ boxes_text boxes
+    → all ≡ second ++ ended EndLine → all ≡ before ++ near_text best boxes
+claim_written before first second all best boxes one two three =
+    three
+    ∙ ap (λ (l : List ℕ). l ++ ended EndLine) (two ∙ ap (λ (l : List ℕ). l ++ boxes_text boxes) one)
+    ∙ append_assoc (before ++ front_text best) (boxes_text boxes) (ended EndLine)
+    ∙ append_assoc before (front_text best) (boxes_text boxes ++ ended EndLine)
+    ∙ ap (λ (l : List ℕ). before ++ l) (sym (near_text-parts best boxes))
+
+-- the line of a box, from the words with which it begins
+box_line_is : (why : NearWhy) (spans : List (ℕ × ℕ)) → ended (BoxLine why spans) ≡ (codes "BOX" ++ 32 ∷ reason_word why) ++ (spaced (map span_word spans) ++ 10 ∷ [])
+box_line_is Time spans = refl
+box_line_is Near spans = refl
+
+pub box_written : (before after words : List ℕ) (why : NearWhy) (spans : List (ℕ × ℕ)) → words ≡ codes "BOX" ++ 32 ∷ reason_word why
+    → after ≡ before ++ (words ++ (spaced (map span_word spans) ++ 10 ∷ [])) → after ≡ before ++ ended (BoxLine why spans)
+box_written before after words why spans is added =
+    added ∙ ap (λ (l : List ℕ). before ++ (l ++ (spaced (map span_word spans) ++ 10 ∷ []))) is ∙ ap (λ (l : List ℕ). before ++ l) (sym (box_line_is why spans))
+
+-- the lines of a proof, one after the other
+pub front_next : (before after : List ℕ) (best : Option NearBest) (boxes : List (List (ℕ × ℕ) × NearWhy)) → after ≡ before ++ front_text best
+    → Writes before after (left_of (Front best) boxes) (left_of Boxes boxes) true
+front_next before after best boxes is = record { written = front_text best; text = is; parts = near_text-parts best boxes; some = λ _. omega arith }
+
+pub box_next : (before after words : List ℕ) (boxes left : List (List (ℕ × ℕ) × NearWhy)) (why : NearWhy) (spans : List (ℕ × ℕ)) → boxes ≡ (spans, why) ∷ left
+    → words ≡ codes "BOX" ++ 32 ∷ reason_word why → after ≡ before ++ (words ++ (spaced (map span_word spans) ++ 10 ∷ [])) → Writes before after (left_of Boxes boxes) (left_of Boxes left) true
+box_next before after words boxes left why spans next is added = record {
+  written = ended (BoxLine why spans);
+  text = box_written before after words why spans is added;
+  parts = ap (λ (l : List (List (ℕ × ℕ) × NearWhy)). boxes_text l ++ ended EndLine) next ∙ append_assoc (ended (BoxLine why spans)) (boxes_text left) (ended EndLine);
+  some = λ _. omega arith;
+}
+
+pub end_next : (before after : List ℕ) (boxes left : List (List (ℕ × ℕ) × NearWhy)) → boxes ≡ [] → after ≡ before ++ ended EndLine → Writes before after (left_of Boxes boxes) (left_of Over left) true
+end_next before after boxes left none is = record {
+  written = ended EndLine;
+  text = is;
+  parts = ap (λ (l : List (List (ℕ × ℕ) × NearWhy)). boxes_text l ++ ended EndLine) none ∙ sym (append-nil (ended EndLine));
+  some = λ _. omega arith;
+}
+
+-- the spans of a cell with two axes
+pub two_spans : (cell : Cell) → cell.axes ≡ 2 → All IsSpan (spans_of cell) → AreTwoSpans (spans_of cell)
+two_spans cell axes each = record { two = length-spans_of cell ∙ axes; each = each }
 
 -- what is put behind a text, piece by piece
 pieces : (before front one other last : List ℕ) → (((before ++ front) ++ one) ++ other) ++ last ≡ before ++ ((front ++ (one ++ (other ++ []))) ++ last)
@@ -68,15 +92,6 @@ pieces before front one other last = simp (append_assoc, append-nil)
 
 two_pieces : (before front one last : List ℕ) → ((before ++ front) ++ one) ++ last ≡ before ++ ((front ++ (one ++ [])) ++ last)
 two_pieces before front one last = simp (append_assoc, append-nil)
-
--- the line of a box, piece by piece
-pub box_written : (before a b d all : List ℕ) (why : NearWhy) (one other : ℕ × ℕ) (spans : List (ℕ × ℕ)) → spans ≡ one ∷ other ∷ [] → a ≡ before ++ (codes "BOX" ++ 32 ∷ reason_word why)
-    → b ≡ a ++ 32 ∷ span_word one → d ≡ b ++ 32 ∷ span_word other → all ≡ d ++ 10 ∷ [] → all ≡ before ++ ended (BoxLine why spans)
-box_written before a b d all why one other spans are first second third fourth =
-    fourth
-    ∙ ap (λ (l : List ℕ). l ++ 10 ∷ []) (third ∙ ap (λ (l : List ℕ). l ++ 32 ∷ span_word other) (second ∙ ap (λ (l : List ℕ). l ++ 32 ∷ span_word one) first))
-    ∙ pieces before (codes "BOX" ++ 32 ∷ reason_word why) (32 ∷ span_word one) (32 ∷ span_word other) (10 ∷ [])
-    ∙ ap (λ (s : List (ℕ × ℕ)). before ++ ended (BoxLine why s)) (sym are)
 
 -- the line of a pair, piece by piece
 pub pair_written : (before a b d all : List ℕ) (first second : ℕ) → a ≡ before ++ codes "PAIR" → b ≡ a ++ 32 ∷ decimal first → d ≡ b ++ 32 ∷ decimal second → all ≡ d ++ 10 ∷ []

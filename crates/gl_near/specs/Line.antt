@@ -8,6 +8,8 @@ use Rattle.gl_near.specs.declared.claim.NearClaim.{NearClaim}
 use Rattle.gl_near.specs.declared.found.NearBest.{NearBest}
 use Rattle.gl_near.specs.declared.found.NearWhy.{NearWhy}
 use Rattle.gl_near.specs.declared.found.NearWhy.TheVariants.{Time, Near}
+use Rattle.gl_near.specs.declared.write.NearPart.{NearPart}
+use Rattle.gl_near.specs.declared.write.NearPart.TheVariants.{Front, Boxes, Over}
 use Rattle.gl_near.specs.Certificate.{box_of}
 
 -- What a line says: that the text is such a proof; the least distance; the pair that has it; a box,
@@ -97,6 +99,19 @@ lines_of best boxes = front_lines best ++ (map box_line boxes ++ EndLine ∷ [])
 -- the text of a claim
 abbrev pub near_text : Option NearBest → List (List (ℕ × ℕ) × NearWhy) → List ℕ
 near_text best boxes = spelled (HeadingLine ∷ lines_of best boxes)
+
+-- the text before the boxes, and that of some boxes
+abbrev pub front_text : Option NearBest → List ℕ
+front_text best = spelled (HeadingLine ∷ front_lines best)
+
+abbrev pub boxes_text : List (List (ℕ × ℕ) × NearWhy) → List ℕ
+boxes_text boxes = spelled (map box_line boxes)
+
+-- the text that is left of a proof, from a part of it on
+abbrev pub left_of : NearPart → List (List (ℕ × ℕ) × NearWhy) → List ℕ
+left_of (Front best) boxes = near_text best boxes
+left_of Boxes boxes = boxes_text boxes ++ ended EndLine
+left_of Over boxes = []
 
 -- the text of a `NearClaim`
 abbrev pub text_of : NearClaim → List ℕ

@@ -1,6 +1,7 @@
 ghost use Rattle.gl_box.specs.Cell.{spans_of};
 
-use gl_box::{Boxed, Cell};
+use crate::turn::NearTurn;
+use gl_box::{Boxed, Cell, Walk};
 
 /// The least distance that was found, in centimetres, and a pair that has it: the number of the
 /// fix of the first flight, and that of the fix of the second, or 0 for a place.
@@ -28,11 +29,11 @@ pub struct NearClosed {
 }
 
 /// The least distance of a pair that fits, `None` where none fits, and the boxes that show that no
-/// pair is nearer: in the order of the split tree they part all pairs.
+/// pair is nearer: a walk along the split tree of all pairs, until nothing is open.
 #[derive(Debug, Drop)]
 pub struct NearFound {
     pub best: Option<NearBest>,
-    pub closed: Vec<NearClosed>,
+    pub closed: Walk<NearTurn>,
 }
 
 impl Boxed for NearClosed {

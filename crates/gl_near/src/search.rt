@@ -1,70 +1,59 @@
-ghost use Rattle.std.specs.Prelude.{◌≡◌, ◌<◌, ◌↔◌, ℕ, [], All, IfOk, IsNone, OnOk, vec_len};
+ghost use Rattle.std.specs.Prelude.{◌<◌, ◌↔◌, ℕ, [], All, IfOk, IsNone, OnOk, map, vec_len};
 ghost use Rattle.gl_box.specs.Cell.{Covers, spans_of};
 ghost use Rattle.gl_near.specs.Pairing.{Fits, IsLeast, whole_cell};
 ghost use Rattle.gl_near.specs.Pairs.{pairing_of};
 ghost use Rattle.gl_near.specs.Certificate.{IsSound, total_of};
-ghost use Rattle.gl_near.specs.Code.Search.{Advances, Closes, IsNoMore, IsUnderWay};
-ghost use Rattle.gl_near.specs.Search.{IsCertified};
+ghost use Rattle.gl_near.specs.Code.Search.{Advances, IsNoMore, IsUnderWay};
+ghost use Rattle.gl_near.specs.Line.{AreTwoSpans};
+ghost use Rattle.gl_near.specs.Search.{IsCertified, boxes_of, near_reason_of};
 
-use crate::found::{NearBest, NearClosed, NearFound, NearWhy};
+use crate::found::{NearBest, NearFound, NearWhy};
 use crate::pairs::Pairs;
+use crate::turn::NearTurn;
 use crate::verdict::{Tested, test};
 use crate::warm::warm_start;
-use gl_box::{Cell, halve};
+use gl_box::{Cell, Walk, close_first, cut_first};
 use std::alloc::{AllocError, Global};
 
 /// Room for open cells: each cut adds one, and a cell can be cut at most 32 times on each axis.
 const OPEN_ROOM: usize = 128;
 
-/// Room for closed boxes at the start.
-const CLOSED_ROOM: usize = 4_096;
+/// Room for turns at the start.
+const TURNS_ROOM: usize = 8_192;
 
-/// Closes the last open cell. The only error is want of memory.
-#[inline]
-fn close(cells: &mut Vec<Cell>, boxes: &mut Vec<NearClosed>, why: NearWhy) -> Result<(), AllocError>
-    requires { 0 < vec_len cells.old }
-    ensures { OnOk result
-        (Closes cells.old.items cells.new.items boxes.old.items boxes.new.items why) }
-{
-    if let Some(cell) = cells.pop() {
-        boxes.push(NearClosed { cell, why })?;
-    }
-    Ok(())
-}
-
-/// One step of the search at the last open cell: it is closed, or gives way to its halves, the
-/// lower one last. The only error is want of memory.
+/// One step of the search at the first open cell, the last of the list: it is closed, or gives way
+/// to its halves. The only error is want of memory.
 #[inline]
 fn advance(
     pairs: &Pairs,
     best: &mut Option<NearBest>,
     cells: &mut Vec<Cell>,
-    boxes: &mut Vec<NearClosed>,
+    turns: &mut Vec<NearTurn>,
 ) -> Result<(), AllocError>
     requires some { 0 < vec_len cells.old }
     requires covers { All (λ cell. Covers (whole_cell (pairing_of pairs.now)) (spans_of cell))
         cells.old.items }
     requires sound { IsSound (pairing_of pairs.now) best.old }
     ensures step { OnOk result (Advances (pairing_of pairs.now) (total_of best.new)
-        cells.old.items cells.new.items boxes.old.items boxes.new.items) }
+        cells.old.items cells.new.items
+        (map near_reason_of turns.old.items) (map near_reason_of turns.new.items)) }
     ensures sound { OnOk result (IsSound (pairing_of pairs.now) best.new) }
     ensures falls { OnOk result (IsNoMore (total_of best.old) (total_of best.new)) }
 {
     let top = cells.len() - 1;
     match test(pairs, &cells[top], best) {
-        Tested::Closed(why) => close(cells, boxes, why)?,
-        Tested::Open(least) => match halve(&mut cells[top]) {
-            Some(lower) => cells.push(lower)?,
-            None => {
+        Tested::Closed(why) => close_first(cells, turns, why)?,
+        Tested::Open(least) => {
+            if !cut_first(cells, turns)? {
                 let single = cells[top];
                 *best = Some(NearBest {
                     total: least,
                     first: single.spans[0].lo,
                     second: single.spans[1].lo,
                 });
-                close(cells, boxes, NearWhy::Near)?;
+                close_first(cells, turns, NearWhy::Near)?;
             }
-        },
+        }
     }
     Ok(())
 }
@@ -74,13 +63,15 @@ fn run(
     pairs: &Pairs,
     best: &mut Option<NearBest>,
     cells: &mut Vec<Cell>,
-    boxes: &mut Vec<NearClosed>,
+    turns: &mut Vec<NearTurn>,
 ) -> Result<(), AllocError>
-    requires { IsUnderWay (pairing_of pairs.now) best.old cells.old.items boxes.old.items }
-    ensures { OnOk result (IsUnderWay (pairing_of pairs.now) best.new [] boxes.new.items) }
+    requires { IsUnderWay (pairing_of pairs.now) best.old cells.old.items
+        (map near_reason_of turns.old.items) }
+    ensures { OnOk result (IsUnderWay (pairing_of pairs.now) best.new []
+        (map near_reason_of turns.new.items)) }
 {
     while !cells.is_empty() {
-        advance(pairs, best, cells, boxes)?;
+        advance(pairs, best, cells, turns)?;
     }
     Ok(())
 }
@@ -90,8 +81,7 @@ fn run(
 /// exactly where no pair fits. The only error is want of memory.
 pub fn search_near(alloc: Global, p: &Pairs) -> Result<NearFound, AllocError>
     ensures certificate { IfOk result (IsCertified (pairing_of p.now)) }
-    ensures axes { IfOk result
-        (λ found. All (λ closed. closed.cell.axes ≡ 2) found.closed.items) }
+    ensures axes { IfOk result (λ found. All (λ box. AreTwoSpans box.0) (boxes_of found)) }
     ensures least { IfOk result (λ found. IsLeast (pairing_of p.now) (total_of found.best)) }
     ensures none { IfOk result (λ found. IsNone found.best
         ↔ ((first second : ℕ) → Fits (pairing_of p.now) first second → ⊥)) }
@@ -99,10 +89,13 @@ pub fn search_near(alloc: Global, p: &Pairs) -> Result<NearFound, AllocError>
     let mut best = warm_start(alloc, p)?;
     let mut cells = Vec::with_capacity(alloc, OPEN_ROOM)?;
     cells.push(p.whole())?;
-    let mut boxes = Vec::with_capacity(alloc, CLOSED_ROOM)?;
-    run(p, &mut best, &mut cells, &mut boxes)?;
-    Ok(NearFound {
-        best,
-        closed: boxes,
-    })
+    let mut turns = Vec::with_capacity(alloc, TURNS_ROOM)?;
+    run(p, &mut best, &mut cells, &mut turns)?;
+    cells.clear();
+    cells.push(p.whole())?;
+    let closed = Walk {
+        opened: cells,
+        turns,
+    };
+    Ok(NearFound { best, closed })
 }

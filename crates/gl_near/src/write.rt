@@ -1,15 +1,16 @@
-ghost use Rattle.std.specs.Prelude.{◌≡◌, [], ◌∷◌, ◌++◌, map, codes, All, IfSome, OnOk, OnErr};
-ghost use Rattle.gl_box.specs.Cell.{ends, spans_of};
+ghost use Rattle.std.specs.Prelude.{◌≡◌, ◌∷◌, ◌++◌, map, codes, All, IfOk, IfSome, OnOk, OnErr};
+ghost use Rattle.gl_box.specs.Along.{boxes_left};
 ghost use Rattle.gl_near.specs.Certificate.{box_of};
 ghost use Rattle.gl_proof.specs.Kept.{Keeps};
-ghost use Rattle.gl_proof.specs.Words.{IsSpan, span_word};
-ghost use Rattle.gl_near.specs.Line.{AreTwoSpans, BoxLine, IsBest, IsTextOf, IsWritable, LeastLine, PairLine, box_line, ended, front_lines, reason_word, spelled, text_of};
+ghost use Rattle.gl_near.specs.Line.{AreTwoSpans, IsBest, IsTextOf, IsWritable, LeastLine, PairLine, boxes_text, ended, front_lines, front_text, left_of, near_text, reason_word, spelled, text_of};
+ghost use Rattle.gl_near.specs.Search.{boxes_of, near_reason_of};
 
 use crate::claim::NearClaim;
-use crate::found::{NearBest, NearClosed, NearWhy};
-use gl_box::Span;
-use gl_proof::{push_number, push_total};
-use std::alloc::AllocError;
+use crate::found::{NearBest, NearClosed, NearFound, NearWhy};
+use crate::turn::NearTurn;
+use gl_box::WalkBoxes;
+use gl_proof::{LinesLeft, push_box, push_number, push_total};
+use std::alloc::{AllocError, Global};
 
 /// The words with which the line of a box begins, for a reason.
 fn box_words(why: NearWhy) -> &'static [u8]
@@ -21,41 +22,16 @@ fn box_words(why: NearWhy) -> &'static [u8]
     }
 }
 
-/// Appends a span behind a space.
-fn push_span(out: &mut Vec<u8>, span: Span) -> Result<(), AllocError>
-    ensures span { IsSpan (ends span) }
-    ensures ok { OnOk result (out.new.items ≡ out.old.items ++ 32 ∷ span_word (ends span)) }
-    ensures err { OnErr result (Keeps out.old.items out.new.items) }
-{
-    push_number(out, b' ', span.lo.into())?;
-    push_number(out, b'-', span.hi.into())
-}
-
-/// Appends the line of a box.
-fn push_box_line(out: &mut Vec<u8>, closed: &NearClosed) -> Result<(), AllocError>
-    requires { closed.now.cell.axes ≡ 2 }
-    ensures spans { OnOk result (AreTwoSpans (spans_of closed.now.cell)) }
-    ensures ok { OnOk result (out.new.items
-        ≡ out.old.items ++ ended (BoxLine closed.now.why (spans_of closed.now.cell))) }
-    ensures err { OnErr result (Keeps out.old.items out.new.items) }
-{
-    out.extend_from_slice(box_words(closed.why))?;
-    push_span(out, closed.cell.spans[0])?;
-    push_span(out, closed.cell.spans[1])?;
-    out.push(b'\n')?;
-    Ok(())
-}
-
 /// Appends the lines of boxes.
 fn push_boxes(out: &mut Vec<u8>, cells: &[NearClosed]) -> Result<(), AllocError>
     requires { All (λ closed. closed.cell.axes ≡ 2) cells.now }
     ensures spans { OnOk result (All (λ box. AreTwoSpans box.0) (map box_of cells.now)) }
-    ensures ok { OnOk result (out.new.items
-        ≡ out.old.items ++ spelled (map box_line (map box_of cells.now))) }
+    ensures ok { OnOk result
+        (out.new.items ≡ out.old.items ++ boxes_text (map box_of cells.now)) }
     ensures err { OnErr result (Keeps out.old.items out.new.items) }
 {
     for closed in cells {
-        push_box_line(out, closed)?;
+        push_box(out, box_words(closed.why), &closed.cell)?;
     }
     Ok(())
 }
@@ -83,7 +59,7 @@ fn push_pair_line(out: &mut Vec<u8>, first: u32, second: u32) -> Result<(), Allo
     Ok(())
 }
 
-/// Appends the lines before the boxes.
+/// Appends the lines of the least distance and of its pair.
 fn push_front(out: &mut Vec<u8>, best: Option<NearBest>) -> Result<(), AllocError>
     ensures numbers { OnOk result (IfSome best IsBest) }
     ensures ok { OnOk result (out.new.items ≡ out.old.items ++ spelled (front_lines best)) }
@@ -98,6 +74,69 @@ fn push_front(out: &mut Vec<u8>, best: Option<NearBest>) -> Result<(), AllocErro
     }
 }
 
+/// Appends the lines that stand before the boxes.
+fn push_front_lines(out: &mut Vec<u8>, best: Option<NearBest>) -> Result<(), AllocError>
+    ensures numbers { OnOk result (IfSome best IsBest) }
+    ensures ok { OnOk result (out.new.items ≡ out.old.items ++ front_text best) }
+    ensures err { OnErr result (Keeps out.old.items out.new.items) }
+{
+    out.extend_from_slice(b"GLIDENEAR 1\n")?;
+    push_front(out, best)
+}
+
+/// What of a proof comes next.
+#[derive(Clone, Copy)]
+pub enum NearPart {
+    /// The lines before the boxes.
+    Front(Option<NearBest>),
+    /// A box, or the end where none is left.
+    Boxes,
+    /// Nothing any more.
+    Over,
+}
+
+/// The lines of a proof that are still to come.
+#[derive(Drop)]
+pub struct NearLines<'a> {
+    pub part: NearPart,
+    pub boxes: WalkBoxes<'a, NearTurn>,
+}
+
+impl NearFound {
+    /// The proof of what was found, line by line. The only error is want of memory.
+    pub fn lines(&self, alloc: Global) -> Result<NearLines<'_>, AllocError>
+        ensures { IfOk result (λ lines. left_of lines.part (boxes_left near_reason_of lines.boxes)
+            ≡ near_text self.now.best (boxes_of self.now)) }
+    {
+        Ok(NearLines {
+            part: NearPart::Front(self.best),
+            boxes: self.closed.boxes(alloc)?,
+        })
+    }
+}
+
+impl LinesLeft for NearLines<'_> {
+    ghost left = { λ lines. left_of lines.part (boxes_left near_reason_of lines.boxes) };
+
+    fn push_line(&mut self, out: &mut Vec<u8>) -> Result<bool, AllocError> {
+        match self.part {
+            NearPart::Front(best) => {
+                push_front_lines(out, best)?;
+                self.part = NearPart::Boxes;
+            }
+            NearPart::Boxes => match self.boxes.next()? {
+                Some((cell, why)) => push_box(out, box_words(why), &cell)?,
+                None => {
+                    out.extend_from_slice(b"END\n")?;
+                    self.part = NearPart::Over;
+                }
+            },
+            NearPart::Over => return Ok(false),
+        }
+        Ok(true)
+    }
+}
+
 /// Appends the text of a claim.
 fn push_claim(out: &mut Vec<u8>, claim: &NearClaim) -> Result<(), AllocError>
     requires { IsWritable claim.now }
@@ -106,8 +145,7 @@ fn push_claim(out: &mut Vec<u8>, claim: &NearClaim) -> Result<(), AllocError>
     ensures ok { OnOk result (out.new.items ≡ out.old.items ++ text_of claim.now) }
     ensures err { OnErr result (Keeps out.old.items out.new.items) }
 {
-    out.extend_from_slice(b"GLIDENEAR 1\n")?;
-    push_front(out, claim.best)?;
+    push_front_lines(out, claim.best)?;
     push_boxes(out, claim.closed.as_slice())?;
     out.extend_from_slice(b"END\n")?;
     Ok(())

@@ -1,3 +1,2 @@
 pub mod Flat
-pub mod Leading
 pub mod Partings

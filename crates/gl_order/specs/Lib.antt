@@ -1,4 +1,3 @@
 pub mod Code
-pub mod InRuns
 pub mod Order
 pub mod Runs

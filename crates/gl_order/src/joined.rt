@@ -1,15 +1,15 @@
-ghost use Rattle.std.specs.Prelude.{◌≡◌, IfOk, IsPermutation, IsTrue, map};
-ghost use Rattle.std.specs.List.{flat_map};
+ghost use Rattle.std.specs.Prelude.{◌≡◌, IfOk, IfSome, IsPermutation, IsTrue, map};
+ghost use Rattle.gl_box.specs.Along.{boxes_along};
 ghost use Rattle.gl_box.specs.Cell.{spans_of};
+ghost use Rattle.gl_box.specs.Closed.{box_of};
 ghost use Rattle.gl_box.specs.Frontier.{IsFrontier};
-ghost use Rattle.gl_order.specs.InRuns.{boxes_in_runs};
+ghost use Rattle.gl_box.specs.Turns.{reason_of};
 ghost use Rattle.gl_order.specs.Order.{AreParts, cells_of};
-ghost use Rattle.gl_order.specs.Runs.{ArePassed};
-ghost use Rattle.gl_box.specs.InLists.{boxes_in};
+ghost use Rattle.gl_order.specs.Runs.{ArePassed, boxes_in_runs};
 
 use crate::run::Run;
 use crate::sorting::sorted;
-use gl_box::{Boxes, Cell, Closed, covers};
+use gl_box::{Cell, Closed, GoalTurn, Walk, covers, walk_of};
 use std::alloc::{AllocError, Global};
 
 /// Whether two lists have the same cells.
@@ -30,65 +30,71 @@ fn are_same(cells: &[Cell], others: &[Cell]) -> bool
     true
 }
 
-/// Whether a run follows on others that follow one another: whether the same cells are open before
-/// it as after those.
-fn follows(others_follow: bool, opened: &[Cell], before: &[Cell]) -> bool
-    ensures follow { IsTrue result → IsTrue others_follow }
-    ensures same { IsTrue result → map spans_of opened.now ≡ map spans_of before.now }
+/// Runs as a walk along the split tree of a whole cell. `None` where they don't lead from it, one
+/// after the other, until nothing is open. The only error is want of memory.
+fn joined(alloc: Global, whole: &Cell, runs: &[Run]) -> Result<Option<Walk<GoalTurn>>, AllocError>
+    requires { ArePassed runs.now }
+    ensures boxes { IfOk result (λ joined. IfSome joined
+        (λ walk. boxes_along reason_of walk ≡ boxes_in_runs runs.now)) }
+    ensures frontier { IfOk result (λ joined. IfSome joined
+        (λ walk. IsFrontier (spans_of whole.now) (cells_of (boxes_along reason_of walk)))) }
 {
-    others_follow && are_same(opened, before)
-}
-
-/// The boxes of runs as lists, and whether these are known to be a frontier of a whole cell. The
-/// only error is want of memory.
-fn chained(
-    alloc: Global,
-    whole: &Cell,
-    runs: Vec<Run>,
-) -> Result<(Vec<Vec<Closed>>, bool), AllocError>
-    requires { ArePassed runs.items }
-    ensures boxes { IfOk result
-        (λ all. flat_map (λ list. list.items) all.0.items ≡ boxes_in_runs runs.items) }
-    ensures frontier { IfOk result (λ all. IsTrue all.1
-        → IsFrontier (spans_of whole.now) (cells_of (boxes_in_runs runs.items))) }
-{
-    let mut all = Vec::with_capacity(alloc, runs.len())?;
     let mut opened = Vec::new(alloc);
     opened.push(*whole)?;
-    let mut follow = true;
-    'runs: for run in runs {
-        let Run {
-            boxes,
-            before,
-            after,
-            ..
-        } = run;
-        follow = follows(follow, &opened, &before);
-        opened = after;
-        all.push(boxes)?;
+    let mut turns = Vec::new(alloc);
+    for run in runs {
+        if !are_same(&opened, &run.before) {
+            return Ok(None);
+        }
+        turns.extend_from_slice(&run.turns)?;
+        opened.clear();
+        opened.extend_from_slice(&run.after)?;
     }
-    Ok((all, follow && opened.is_empty()))
+    if !opened.is_empty() {
+        return Ok(None);
+    }
+    opened.push(*whole)?;
+    Ok(Some(Walk { opened, turns }))
+}
+
+/// The boxes of some runs, spread out in a list. The only error is want of memory.
+pub fn spread(alloc: Global, runs: Vec<Run>) -> Result<Vec<Closed>, AllocError>
+    ensures { IfOk result (λ list. map box_of list.items ≡ boxes_in_runs runs.items) }
+{
+    let mut all = Vec::new(alloc);
+    'runs: for run in runs {
+        let Run { turns, before, .. } = run;
+        let walk = Walk {
+            opened: before,
+            turns,
+        };
+        let mut boxes = walk.to_list(alloc)?;
+        all.append(&mut boxes)?;
+    }
+    Ok(all)
 }
 
 /// The boxes of some runs in the order of the split tree of a cell which they part together, each as
 /// often as in the runs. The only error is want of memory.
 ///
 /// As long as each run leads to the next one, once they are sorted by their ways, only their ends
-/// are looked at. If one doesn't, all boxes are put into one list and into order there.
-pub fn in_order(alloc: Global, whole: &Cell, mut runs: Vec<Run>) -> Result<Boxes, AllocError>
+/// are looked at. If one doesn't, all boxes are spread out in a list and put into order there.
+pub fn in_order(
+    alloc: Global,
+    whole: &Cell,
+    mut runs: Vec<Run>,
+) -> Result<Walk<GoalTurn>, AllocError>
     requires passed { ArePassed runs.items }
     requires parts { AreParts (spans_of whole.now) (cells_of (boxes_in_runs runs.items)) }
     ensures frontier { IfOk result
-        (λ boxes. IsFrontier (spans_of whole.now) (cells_of (boxes_in boxes))) }
+        (λ walk. IsFrontier (spans_of whole.now) (cells_of (boxes_along reason_of walk))) }
     ensures permutation { IfOk result
-        (λ boxes. IsPermutation (boxes_in_runs runs.items) (boxes_in boxes)) }
+        (λ walk. IsPermutation (boxes_in_runs runs.items) (boxes_along reason_of walk)) }
 {
     runs.sort_by_key(|run| run.way)?;
-    let (lists, is_frontier) = chained(alloc, whole, runs)?;
-    let boxes = Boxes::from_lists(alloc, lists);
-    if is_frontier {
-        return Ok(boxes);
+    if let Some(walk) = joined(alloc, whole, &runs)? {
+        return Ok(walk);
     }
-    let closed = sorted(alloc, whole, boxes.into_list()?)?;
-    Ok(Boxes::from_list(closed))
+    let boxes = sorted(alloc, whole, spread(alloc, runs)?)?;
+    walk_of(alloc, whole, &boxes)
 }

@@ -7,6 +7,6 @@ mod run;
 mod sorting;
 mod stretches;
 
-pub use joined::in_order;
+pub use joined::{in_order, spread};
 pub use run::Run;
 pub use sorting::sorted;

@@ -1,43 +1,43 @@
 ghost use Rattle.std.specs.Prelude.{◌≡◌, [], ◌∷◌, ◌++◌, IfOk};
 
 use crate::stretches::way_to;
-use gl_box::{Cell, Closed, covers, halve};
+use gl_box::{Cell, GoalTurn, covers, halve};
 use std::alloc::{AllocError, Global};
 
 /// A cell can be cut at most 32 times on each axis.
 const MOST_CUTS: u32 = 320;
 
-/// Boxes that follow one another in the split tree of a cell, the cells that are open before the
+/// Turns that follow one another along the split tree of a cell, the cells that are open before the
 /// first of them and those that are open after the last one; the last of each is the first in the
-/// order of the tree. And the way to the first open cell: its turns, from the highest bit on, 1
-/// where it lies in the upper half.
+/// order of the tree. And the way to the first open cell: its turns down the tree, from the highest
+/// bit on, 1 where it lies in the upper half.
 #[derive(Drop)]
 pub struct Run {
-    pub boxes: Vec<Closed>,
+    pub turns: Vec<GoalTurn>,
     pub way: u128,
     pub before: Vec<Cell>,
     pub after: Vec<Cell>,
 }
 
 impl Run {
-    /// A run without boxes, before and after which no cell is open.
+    /// A run without turns, before and after which no cell is open.
     pub fn empty(alloc: Global) -> Run
-        ensures boxes { result.boxes.items ≡ [] }
+        ensures turns { result.turns.items ≡ [] }
         ensures before { result.before.items ≡ [] }
         ensures after { result.after.items ≡ [] }
     {
         Run {
-            boxes: Vec::new(alloc),
+            turns: Vec::new(alloc),
             way: 0,
             before: Vec::new(alloc),
             after: Vec::new(alloc),
         }
     }
 
-    /// A run without boxes that comes to a node of a whole cell next. The only error is want of
+    /// A run without turns that comes to a node of a whole cell next. The only error is want of
     /// memory.
     pub fn at(alloc: Global, whole: &Cell, cell: &Cell) -> Result<Run, AllocError>
-        ensures boxes { IfOk result (λ run. run.boxes.items ≡ []) }
+        ensures turns { IfOk result (λ run. run.turns.items ≡ []) }
         ensures next { IfOk result
             (λ run. run.before.items ≡ run.after.items ++ cell.now ∷ []) }
     {
@@ -46,7 +46,7 @@ impl Run {
         before.extend_from_slice(&after)?;
         before.push(*cell)?;
         Ok(Run {
-            boxes: Vec::new(alloc),
+            turns: Vec::new(alloc),
             way: way_to(whole, cell),
             before,
             after,

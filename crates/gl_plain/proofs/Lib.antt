@@ -1,4 +1,3 @@
-pub mod Certified
 pub mod GivenWay
 pub mod Places
 pub mod Roots

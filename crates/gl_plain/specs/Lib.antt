@@ -4,4 +4,3 @@ pub mod Code
 pub mod Found
 pub mod Parts
 pub mod Search
-pub mod Steps

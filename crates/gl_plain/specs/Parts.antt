@@ -1,18 +1,19 @@
 -- Cells as they were left, part by part, and what a search of them to the end comes to.
 use Rattle.std.specs.Prelude.{◌≡◌, ℕ, ◌⊎◌, List, [], ◌∷◌, map, All, Contains, Option}
 use Rattle.std.specs.List.{AllZip, flat_map}
-use Rattle.gl_box.specs.declared.closed.Closed.{Closed}
+use Rattle.gl_box.specs.declared.closed.Why.{Why}
 use Rattle.gl_box.specs.Cell.{spans_of}
-use Rattle.gl_box.specs.Frontier.{IsFrontier}
+use Rattle.gl_box.specs.Closed.{box_of}
+use Rattle.gl_box.specs.Frontier.{IsFrontier, IsNode}
 use Rattle.gl_goal.specs.Best.{IsNoLess, IsSound, total_of}
 use Rattle.gl_goal.specs.Certificate.{IsClosedFor}
-use Rattle.gl_goal.specs.Goal.{Goal}
+use Rattle.gl_goal.specs.Goal.{Goal, whole_cell}
 use Rattle.gl_goal.specs.declared.best.Best.{Best}
-use Rattle.gl_order.specs.Order.{cells_of}
+use Rattle.gl_plain.specs.Found.{boxes_of}
 use Rattle.gl_plain.specs.Search.{IsHalfOfOpen}
+use Rattle.gl_plain.specs.declared.found.Found.{Found}
 use Rattle.gl_plain.specs.declared.part.Part.{Part}
 use Rattle.gl_plain.specs.declared.part.Part.TheVariants.{Open, Done}
-use Rattle.gl_plain.specs.declared.search.Finished.{Finished}
 
 -- the cell of a part, open or closed
 abbrev pub cell_of : Part → List (ℕ × ℕ)
@@ -24,15 +25,14 @@ abbrev pub IsDoneFor : Goal → Option ℕ → Part → Type 0
 IsDoneFor goal total (Open cell) = Unit {0}
 IsDoneFor goal total (Done closed) = IsClosedFor goal total (spans_of closed.cell) closed.why
 
--- the boxes to which a part gives way: an open one to a frontier of its cell, a closed one to its
--- own box
-abbrev pub GivesWay : Part → List Closed → Type 0
-GivesWay (Open cell) boxes = IsFrontier (spans_of cell) (cells_of boxes)
-GivesWay (Done closed) boxes = boxes ≡ closed ∷ []
+-- the boxes to which a part gives way: an open one to nodes of its cell, a closed one to its own box
+abbrev pub GivesWay : Part → List (List (ℕ × ℕ) × Why) → Type 0
+GivesWay (Open cell) boxes = All (λ box. IsNode (spans_of cell) box.0) boxes
+GivesWay (Done closed) boxes = boxes ≡ box_of closed ∷ []
 
 -- parts give way to boxes, one after another
-pub record GiveWay (parts : List Part) (boxes : List Closed) : Type 0 where
-  pub lists : List (List Closed)
+pub record GiveWay (parts : List Part) (boxes : List (List (ℕ × ℕ) × Why)) : Type 0 where
+  pub lists : List (List (List (ℕ × ℕ) × Why))
   pub each : AllZip GivesWay parts lists
   pub all : boxes ≡ flat_map (λ list. list) lists
 
@@ -40,14 +40,14 @@ pub record GiveWay (parts : List Part) (boxes : List Closed) : Type 0 where
 abbrev pub IsMet : Goal → List (List (ℕ × ℕ)) → List (ℕ × ℕ) → Type 0
 IsMet goal roots cell = Contains roots cell ⊎ IsHalfOfOpen goal cell
 
--- Some parts gave way to boxes, each closed by its reason for the total that was found, which is no
--- less than what was known.
+-- Some parts of the whole cell gave way to boxes that part it by splits, each closed by its reason
+-- for the total that was found, which is no less than what was known.
 pub record IsFinished (goal : Goal) (parts : List Part) (known : Option Best)
-    (found : Finished) : Type 0 where
+    (found : Found) : Type 0 where
   pub sound : IsSound goal found.best
   pub no_less : IsNoLess (total_of known) (total_of found.best)
-  pub gave : GiveWay parts found.closed.items
+  pub parted : IsFrontier (whole_cell goal.axes) (map (λ box. box.0) (boxes_of found))
+  pub gave : GiveWay parts (boxes_of found)
   pub closed :
-      All (λ box. IsClosedFor goal (total_of found.best) (spans_of box.cell) box.why)
-      found.closed.items
-  pub met : All (λ box. IsMet goal (map cell_of parts) (spans_of box.cell)) found.closed.items
+      All (λ box. IsClosedFor goal (total_of found.best) box.0 box.1) (boxes_of found)
+  pub met : All (λ box. IsMet goal (map cell_of parts) box.0) (boxes_of found)

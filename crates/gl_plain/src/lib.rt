@@ -14,6 +14,6 @@ mod warm;
 
 pub use found::Found;
 pub use part::Part;
-pub use search::{Finished, finish, search_one};
+pub use search::{finish, search_one};
 pub use verdict::{CellVerdict, test_for};
 pub use warm::warm_start;

@@ -1,56 +1,35 @@
-ghost use Rattle.std.specs.Prelude.{◌<◌, ◌↔◌, All, IfOk, IsNone, OnOk, vec_len};
+ghost use Rattle.std.specs.Prelude.{◌<◌, ◌↔◌, All, IfOk, IsNone, OnOk, map, vec_len};
 ghost use Rattle.gl_box.specs.Cell.{Covers, spans_of};
-ghost use Rattle.gl_box.specs.Frontier.{IsNode};
+ghost use Rattle.gl_box.specs.Frontier.{IsFrontier, IsNode};
+ghost use Rattle.gl_box.specs.Turns.{reason_of};
 ghost use Rattle.gl_goal.specs.Goal.{HasNoLegal, IsOptimum, whole_cell};
 ghost use Rattle.gl_goal.specs.Best.{IsNoLess, IsSound, total_of};
 ghost use Rattle.gl_plain.specs.Parts.{IsDoneFor, IsFinished, cell_of};
 ghost use Rattle.gl_plain.specs.Code.Steps.{Advances, IsSearched};
-ghost use Rattle.gl_plain.specs.Steps.{Closes};
 ghost use Rattle.gl_plain.specs.Found.{AreNeeded, HoldsEachOnce, IsCertified};
 
 use crate::found::Found;
 use crate::part::Part;
 use crate::verdict::{CellVerdict, test};
 use crate::warm::warm_start;
-use gl_box::{Boxes, Cell, Closed, Why, halve};
+use gl_box::{Boxed, Cell, GoalTurn, Turn, Walk, Why, close_first, come_to, cut_first};
 use gl_goal::{Best, Goal, Leg, better, measured_legs, whole};
 use std::alloc::{AllocError, Global};
 
 /// Room for open cells: each cut adds one, and a cell can be cut at most 32 times on each axis.
 const OPEN_ROOM: usize = 512;
 
-/// Room for closed boxes at the start, where few cells are searched.
-const CLOSED_ROOM: usize = 65_536;
+/// Room for turns at the start, where few cells are searched.
+const TURNS_ROOM: usize = 65_536;
 
-/// What a search came to: the best of what was known and found, and the boxes to which the cells
-/// gave way.
-#[derive(Drop)]
-pub struct Finished {
-    pub best: Option<Best>,
-    pub closed: Vec<Closed>,
-}
-
-/// Closes the last open cell. The only error is want of memory.
-#[inline]
-fn close(cells: &mut Vec<Cell>, boxes: &mut Vec<Closed>, why: Why) -> Result<(), AllocError>
-    requires { 0 < vec_len cells.old }
-    ensures { OnOk result
-        (Closes cells.old.items cells.new.items boxes.old.items boxes.new.items why) }
-{
-    if let Some(cell) = cells.pop() {
-        boxes.push(Closed { cell, why })?;
-    }
-    Ok(())
-}
-
-/// One step of the search at the last open cell: it is closed, or gives way to its halves, the
-/// lower one last. The only error is want of memory.
+/// One step of the search at the first open cell, the last of the list: it is closed, or gives way
+/// to its halves. The only error is want of memory.
 #[inline]
 fn advance<G: Goal>(
     goal: &G,
     best: &mut Option<Best>,
     cells: &mut Vec<Cell>,
-    boxes: &mut Vec<Closed>,
+    turns: &mut Vec<GoalTurn>,
     legs: &mut [Leg],
 ) -> Result<(), AllocError>
     requires some { 0 < vec_len cells.old }
@@ -59,43 +38,43 @@ fn advance<G: Goal>(
     requires sound { IsSound (G.rule goal.now) best.old }
     requires legs { G.are_legs goal.now legs.old }
     ensures step { OnOk result (Advances (G.rule goal.now) (total_of best.new)
-        cells.old.items cells.new.items boxes.old.items boxes.new.items) }
+        cells.old.items cells.new.items
+        (map reason_of turns.old.items) (map reason_of turns.new.items)) }
     ensures sound { OnOk result (IsSound (G.rule goal.now) best.new) }
     ensures legs { G.are_legs goal.now legs.new }
     ensures grows { OnOk result (IsNoLess (total_of best.old) (total_of best.new)) }
 {
     let top = cells.len() - 1;
     match test(goal, &cells[top], best, legs) {
-        CellVerdict::Closed(why) => close(cells, boxes, why)?,
-        CellVerdict::Open(bound) => match halve(&mut cells[top]) {
-            Some(lower) => cells.push(lower)?,
-            None => {
+        CellVerdict::Closed(why) => close_first(cells, turns, why)?,
+        CellVerdict::Open(bound) => {
+            if !cut_first(cells, turns)? {
                 *best = Some(Best {
                     total: bound,
                     tuple: cells[top].lowest(),
                 });
-                close(cells, boxes, Why::Bound)?;
+                close_first(cells, turns, Why::Bound)?;
             }
-        },
+        }
     }
     Ok(())
 }
 
-/// Searches a cell until nothing in it is open, and adds the boxes to which it gives way. `cells`
-/// is room to work in. The only error is want of memory.
+/// Searches a cell until nothing in it is open, and adds the turns that this takes. `cells` is room
+/// to work in. The only error is want of memory.
 fn search_cell<G: Goal>(
     goal: &G,
     cell: Cell,
     best: &mut Option<Best>,
     cells: &mut Vec<Cell>,
-    boxes: &mut Vec<Closed>,
+    turns: &mut Vec<GoalTurn>,
     legs: &mut [Leg],
 ) -> Result<(), AllocError>
     requires node { IsNode (whole_cell (G.rule goal.now).axes) (spans_of cell) }
     requires sound { IsSound (G.rule goal.now) best.old }
     requires legs { G.are_legs goal.now legs.old }
-    ensures searched { OnOk result
-        (IsSearched (G.rule goal.now) (spans_of cell) best.new boxes.old.items boxes.new.items) }
+    ensures searched { OnOk result (IsSearched (G.rule goal.now) (spans_of cell) best.new
+        (map reason_of turns.old.items) (map reason_of turns.new.items)) }
     ensures sound { OnOk result (IsSound (G.rule goal.now) best.new) }
     ensures legs { OnOk result (G.are_legs goal.now legs.new) }
     ensures grows { OnOk result (IsNoLess (total_of best.old) (total_of best.new)) }
@@ -103,14 +82,14 @@ fn search_cell<G: Goal>(
     cells.clear();
     cells.push(cell)?;
     while !cells.is_empty() {
-        advance(goal, best, cells, boxes, legs)?;
+        advance(goal, best, cells, turns, legs)?;
     }
     Ok(())
 }
 
-/// Goes over cells as they were left, one after another, from the better of two legal tuples: an
-/// open cell is searched until nothing in it is open, and a closed one becomes its box. The only
-/// error is want of memory.
+/// Goes over cells as they were left, which part the whole cell by splits, one after another, from
+/// the better of two legal tuples: an open cell is searched until nothing in it is open, and a closed
+/// one becomes its box. The only error is want of memory.
 fn go_over<G: Goal>(
     alloc: Global,
     goal: &G,
@@ -118,42 +97,48 @@ fn go_over<G: Goal>(
     warm: Option<Best>,
     parts: &[Part],
     legs: &mut [Leg],
-) -> Result<Finished, AllocError>
+) -> Result<Found, AllocError>
     requires known { IsSound (G.rule goal.now) known }
     requires warm { IsSound (G.rule goal.now) warm }
-    requires nodes { All (λ part. IsNode (whole_cell (G.rule goal.now).axes) (cell_of part))
-        parts.now }
+    requires parted { IsFrontier (whole_cell (G.rule goal.now).axes) (map cell_of parts.now) }
     requires done { All (IsDoneFor (G.rule goal.now) (total_of known)) parts.now }
     requires legs { G.are_legs goal.now legs.old }
     ensures { IfOk result (IsFinished (G.rule goal.now) parts.now known) }
 {
     let mut best = better(known, warm);
     let mut cells = Vec::with_capacity(alloc, OPEN_ROOM)?;
-    let mut closed = Vec::with_capacity(alloc, CLOSED_ROOM.max(parts.len().saturating_mul(2)))?;
+    let mut opened = Vec::with_capacity(alloc, OPEN_ROOM)?;
+    opened.push(whole(goal))?;
+    let mut turns = Vec::with_capacity(alloc, TURNS_ROOM.max(parts.len().saturating_mul(2)))?;
     for part in parts {
+        if !come_to(&mut opened, &mut turns, part.cell())? {
+            unreachable!();
+        }
         match part {
             Part::Open(cell) => {
-                search_cell(goal, *cell, &mut best, &mut cells, &mut closed, legs)?;
+                search_cell(goal, *cell, &mut best, &mut cells, &mut turns, legs)?;
             }
-            Part::Done(done) => closed.push(*done)?,
+            Part::Done(done) => turns.push(GoalTurn::close(done.why))?,
         }
     }
-    Ok(Finished { best, closed })
+    opened.clear();
+    opened.push(whole(goal))?;
+    let closed = Walk { opened, turns };
+    Ok(Found { best, closed })
 }
 
-/// Searches what is open of cells as they were left, and keeps what is closed. A legal tuple may be
-/// known, and a better one is looked for first. The boxes come in the order of the parts, each
-/// closed for the best total in the end, which is no less than what was known. The only error is
-/// want of memory.
+/// Searches what is open of cells as they were left, which part the whole cell by splits, and keeps
+/// what is closed. A legal tuple may be known, and a better one is looked for first. The boxes come
+/// in the order of the parts, each closed for the best total in the end, which is no less than what
+/// was known. The only error is want of memory.
 pub fn finish<G: Goal>(
     alloc: Global,
     goal: &G,
     known: Option<Best>,
     parts: &[Part],
-) -> Result<Finished, AllocError>
+) -> Result<Found, AllocError>
     requires sound { IsSound (G.rule goal.now) known }
-    requires nodes { All (λ part. IsNode (whole_cell (G.rule goal.now).axes) (cell_of part))
-        parts.now }
+    requires parted { IsFrontier (whole_cell (G.rule goal.now).axes) (map cell_of parts.now) }
     requires done { All (IsDoneFor (G.rule goal.now) (total_of known)) parts.now }
     ensures { IfOk result (IsFinished (G.rule goal.now) parts.now known) }
 {
@@ -175,9 +160,5 @@ pub fn search_one<G: Goal>(alloc: Global, goal: &G) -> Result<Found, AllocError>
     ensures none { IfOk result (λ found. IsNone found.best ↔ HasNoLegal (G.rule goal.now)) }
     ensures needed { IfOk result (AreNeeded (G.rule goal.now)) }
 {
-    let Finished { best, closed } = finish(alloc, goal, None, &[Part::Open(whole(goal))])?;
-    Ok(Found {
-        best,
-        closed: Boxes::from_list(closed),
-    })
+    finish(alloc, goal, None, &[Part::Open(whole(goal))])
 }

@@ -15,7 +15,7 @@ use Rattle.gl_pool.specs.declared.crew.Worker.{Worker}
 use Rattle.gl_pool.specs.declared.tally.Tally.{Tally}
 use Rattle.gl_pool.specs.Code.Crew.{closed_by, times_seated}
 use Rattle.gl_pool.specs.Code.Tally.{Gathers, IsTally}
-use Rattle.gl_order.specs.InRuns.{boxes_in_runs}
+use Rattle.gl_order.specs.Runs.{boxes_in_runs}
 
 -- some workers at the end of a list are collected, and the rest is still to come
 pub record Collecting (word : BestWord) (worked rest : List (Result Worker AllocError)) (places : List Place) (tally : Tally) : Type 0 where

@@ -4,7 +4,7 @@ use Rattle.std.specs.List.{sum_by}
 use Rattle.std.proofs.lemmas.List.{drop-drop, drop-set-lt, drop_all, get_or-drop, length-map, length-set, nil_from_length}
 use Rattle.std.proofs.lemmas.List.Sums.{sum_by-append, sum_by-cons, sum_by-drop_more}
 use Rattle.gl_box.specs.declared.cell.Cell.{Cell}
-use Rattle.gl_box.specs.declared.closed.Closed.{Closed}
+use Rattle.gl_box.specs.declared.closed.Why.{Why}
 use Rattle.gl_box.specs.Cell.{spans_of}
 use Rattle.gl_goal.specs.Goal.{Goal, whole_cell}
 use Rattle.gl_best.specs.Seats.{view_of}
@@ -18,7 +18,7 @@ use Rattle.gl_pool.specs.Parts.{ArePartedInto}
 use Rattle.gl_pool.specs.Taken.{duty_of, ends_of, stolen_weight, taken_weight}
 use Rattle.gl_pool.specs.Code.Tally.{Turns}
 use Rattle.gl_pool.proofs.Together.{worked_both}
-use Rattle.gl_order.specs.InRuns.{boxes_in_runs}
+use Rattle.gl_order.specs.Runs.{boxes_in_runs}
 
 -- the first places are worked at
 pub record Finishing (rule : Goal) (before places : List Place) (tally tally_now : Tally) (count : ℕ) : Type 0 where
@@ -91,7 +91,7 @@ finishing_more rule before places tally tally_now tally_after count place after 
       put = so_far.put ++ turn.put;
       strange = so_far.strange ++ turn.strange;
       is_whole = so_far.is_whole;
-      parts = subst (λ (l : List Closed). ArePartedInto rule None (so_far.taken ++ turn.taken) l (so_far.put ++ turn.put) (so_far.strange ++ turn.strange)) (sym turn.joined)
+      parts = subst (λ (l : List (List (ℕ × ℕ) × Why)). ArePartedInto rule None (so_far.taken ++ turn.taken) l (so_far.put ++ turn.put) (so_far.strange ++ turn.strange)) (sym turn.joined)
           (worked_both rule so_far.taken so_far.put (boxes_in_runs tally_now.closed.items) so_far.strange turn.taken turn.put turn.closed turn.strange so_far.parts turn.parts);
       balanced = λ weight.
           let put_of : Place → ℕ = λ p. sum_by weight (hand_view p.hand).put in

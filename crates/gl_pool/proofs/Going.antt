@@ -4,7 +4,6 @@ use Rattle.std.specs.Prelude.{Contains, Option, Some, None}
 use Rattle.std.proofs.lemmas.List.Elements.{All-nil, All-push, All-same}
 use Rattle.std.specs.List.{sum_by}
 use Rattle.gl_box.specs.declared.cell.Cell.{Cell}
-use Rattle.gl_box.specs.declared.closed.Closed.{Closed}
 use Rattle.gl_box.specs.declared.closed.Why.{Why}
 use Rattle.gl_box.specs.Cell.{Covers, spans_of}
 use Rattle.gl_box.specs.Halves.{AreHalves}
@@ -33,11 +32,11 @@ use Rattle.gl_pool.proofs.Parting.{parted_closed, parted_cut, parted_done, parte
 use Rattle.gl_pool.specs.Trail.{boxes_in}
 
 -- the same lists by other names
-parted_along : (rule : Goal) (seen : Option ℕ) (taken cells cells_too : List Cell) (closed closed_too : List Closed) (put strange strange_too : List Cell) → cells ≡ cells_too → closed ≡ closed_too
-    → strange ≡ strange_too → AreBeingParted rule seen taken cells closed put strange → AreBeingParted rule seen taken cells_too closed_too put strange_too
+parted_along : (rule : Goal) (seen : Option ℕ) (taken cells cells_too : List Cell) (closed closed_too : List (List (ℕ × ℕ) × Why)) (put strange strange_too : List Cell) → cells ≡ cells_too
+    → closed ≡ closed_too → strange ≡ strange_too → AreBeingParted rule seen taken cells closed put strange → AreBeingParted rule seen taken cells_too closed_too put strange_too
 parted_along rule seen taken cells cells_too closed closed_too put strange strange_too a b c way =
     subst (λ (s : List Cell). AreBeingParted rule seen taken cells_too closed_too put s) c
-    (subst (λ (s : List Closed). AreBeingParted rule seen taken cells_too s put strange) b
+    (subst (λ (s : List (List (ℕ × ℕ) × Why)). AreBeingParted rule seen taken cells_too s put strange) b
     (subst (λ (s : List Cell). AreBeingParted rule seen taken s closed put strange) a way))
 
 -- two benches with the same share and cells
@@ -47,23 +46,11 @@ pub record HasSame (bench after : Bench) : Type 0 where
   pub strange : after.share.strange.items ≡ bench.share.strange.items
 
 module _ (rule : Goal) (word : BestWord) (call : Call) (place : Place) (seat : Seat) (bench after : Bench) (way : IsUnderWay rule word call place seat bench) where
-  pub going_same : HasSame bench after → after.share.kept ≡ bench.share.kept → after.seen ≡ bench.seen → IsUnderWay rule word call place seat after
-  going_same same kept seen = record {
-    taken = way.taken;
-    put = way.put;
-    moves = way.moves;
-    parts = parted_along rule (seen_by call.seat) way.taken _ _ _ _ way.put _ _ (sym same.cells) (sym same.closed) (sym same.strange) way.parts;
-    same_seat = way.same_seat;
-    reasons = All-same (λ (b : Closed). IsClosedFor rule (seen_by seat) (spans_of b.cell) b.why) _ _ same.closed way.reasons;
-    kept = subst (IsKept rule (view_of call.seat) (view_of seat)) (sym kept) way.kept;
-    seen = seen ∙ way.seen;
-  }
-
   pub going_closed : (cell : Cell) (why : Why) → bench.cells.items ≡ after.cells.items ++ cell ∷ []
-      → (boxes_in after.share.closed) ≡ (boxes_in bench.share.closed) ++ record { cell = cell; why = why } ∷ [] → after.share.strange.items ≡ bench.share.strange.items
+      → (boxes_in after.share.closed) ≡ (boxes_in bench.share.closed) ++ (spans_of cell, why) ∷ [] → after.share.strange.items ≡ bench.share.strange.items
       → after.share.kept ≡ bench.share.kept → after.seen ≡ bench.seen → IsClosedFor rule bench.seen (spans_of cell) why → IsUnderWay rule word call place seat after
   going_closed cell why top box strange kept seen reason =
-      let closed : Closed = record { cell = cell; why = why } in
+      let closed : List (ℕ × ℕ) × Why = (spans_of cell, why) in
       let parts = parted_closed rule (seen_by call.seat) way.taken after.cells.items cell why (boxes_in bench.share.closed) way.put bench.share.strange.items
       (subst (λ (cells : List Cell). AreBeingParted rule (seen_by call.seat) way.taken cells (boxes_in bench.share.closed) way.put bench.share.strange.items) top way.parts) in
       record {
@@ -72,8 +59,8 @@ module _ (rule : Goal) (word : BestWord) (call : Call) (place : Place) (seat : S
         moves = way.moves;
         parts = parted_along rule (seen_by call.seat) way.taken _ _ _ _ way.put _ _ refl (sym box) (sym strange) parts;
         same_seat = way.same_seat;
-        reasons = All-same (λ (b : Closed). IsClosedFor rule (seen_by seat) (spans_of b.cell) b.why) _ _ box
-            (All-push (λ (b : Closed). IsClosedFor rule (seen_by seat) (spans_of b.cell) b.why) (boxes_in bench.share.closed) closed way.reasons
+        reasons = All-same (λ (b : List (ℕ × ℕ) × Why). IsClosedFor rule (seen_by seat) b.0 b.1) _ _ box
+            (All-push (λ (b : List (ℕ × ℕ) × Why). IsClosedFor rule (seen_by seat) b.0 b.1) (boxes_in bench.share.closed) closed way.reasons
             (subst (λ (total : Option ℕ). IsClosedFor rule total (spans_of cell) why) way.seen reason));
         kept = subst (IsKept rule (view_of call.seat) (view_of seat)) (sym kept) way.kept;
         seen = seen ∙ way.seen;
@@ -97,7 +84,7 @@ module _ (rule : Goal) (word : BestWord) (call : Call) (place : Place) (seat : S
         moves = way.moves;
         parts = parted_along rule (seen_by call.seat) way.taken _ _ _ _ way.put _ _ (sym cut) (sym closed) (sym strange) parts;
         same_seat = way.same_seat;
-        reasons = All-same (λ (b : Closed). IsClosedFor rule (seen_by seat) (spans_of b.cell) b.why) _ _ closed way.reasons;
+        reasons = All-same (λ (b : List (ℕ × ℕ) × Why). IsClosedFor rule (seen_by seat) b.0 b.1) _ _ closed way.reasons;
         kept = subst (IsKept rule (view_of call.seat) (view_of seat)) (sym kept) way.kept;
         seen = seen ∙ way.seen;
       }
@@ -111,7 +98,7 @@ module _ (rule : Goal) (word : BestWord) (call : Call) (place : Place) (seat : S
     moves = way.moves;
     parts = parted_along rule (seen_by call.seat) way.taken _ _ _ _ way.put _ _ (sym same.cells) (sym same.closed) (sym same.strange) way.parts;
     same_seat = keeps_on word call.seat seat hears way.same_seat keeps.is_seat keeps.numbers keeps.no_less;
-    reasons = All-same (λ (b : Closed). IsClosedFor rule (seen_by hears) (spans_of b.cell) b.why) _ _ same.closed
+    reasons = All-same (λ (b : List (ℕ × ℕ) × Why). IsClosedFor rule (seen_by hears) b.0 b.1) _ _ same.closed
         (all_closed_longer rule seat hears (boxes_in bench.share.closed) keeps.no_less way.reasons);
     kept = subst (IsKept rule (view_of call.seat) (view_of hears)) (sym kept) (kept_on rule (view_of call.seat) (view_of seat) (view_of hears) bench.share.kept raised way.kept);
     seen = seen;
@@ -129,7 +116,7 @@ module _ (rule : Goal) (word : BestWord) (call : Call) (place : Place) (seat : S
         moves = way.moves;
         parts = parted_along rule (seen_by call.seat) way.taken _ _ _ _ way.put _ _ (sym same.cells) (sym same.closed) (sym same.strange) way.parts;
         same_seat = keeps_on word call.seat seat raises way.same_seat keeps.is_seat keeps.numbers keeps.no_less;
-        reasons = All-same (λ (b : Closed). IsClosedFor rule (seen_by raises) (spans_of b.cell) b.why) _ _ same.closed
+        reasons = All-same (λ (b : List (ℕ × ℕ) × Why). IsClosedFor rule (seen_by raises) b.0 b.1) _ _ same.closed
             (all_closed_longer rule seat raises (boxes_in bench.share.closed) keeps.no_less way.reasons);
         kept = subst (IsKept rule (view_of call.seat) (view_of raises)) (sym kept)
             (kept_new rule (view_of call.seat) (view_of seat) (view_of raises) best reached way.same_seat.no_less seat.raised_was_seen below raised);
@@ -149,7 +136,7 @@ module _ (rule : Goal) (word : BestWord) (call : Call) (place : Place) (seat : S
         moves = moves_put call.place place next way.taken way.put cell way.moves moves;
         parts = parted_along rule (seen_by call.seat) way.taken _ _ _ _ (way.put ++ cell ∷ []) _ _ refl (sym closed) (sym strange) parts;
         same_seat = way.same_seat;
-        reasons = All-same (λ (b : Closed). IsClosedFor rule (seen_by seat) (spans_of b.cell) b.why) _ _ closed way.reasons;
+        reasons = All-same (λ (b : List (ℕ × ℕ) × Why). IsClosedFor rule (seen_by seat) b.0 b.1) _ _ closed way.reasons;
         kept = subst (IsKept rule (view_of call.seat) (view_of seat)) (sym kept) way.kept;
         seen = seen ∙ way.seen;
       }
@@ -167,7 +154,7 @@ module _ (rule : Goal) (word : BestWord) (call : Call) (place : Place) (seat : S
         moves = moves_taken call.place place next way.taken way.put cell way.moves moves;
         parts = parted_along rule (seen_by call.seat) (way.taken ++ cell ∷ []) _ _ _ _ way.put _ _ (sym one) (sym closed) (sym strange) parts;
         same_seat = way.same_seat;
-        reasons = All-same (λ (b : Closed). IsClosedFor rule (seen_by seat) (spans_of b.cell) b.why) _ _ closed way.reasons;
+        reasons = All-same (λ (b : List (ℕ × ℕ) × Why). IsClosedFor rule (seen_by seat) b.0 b.1) _ _ closed way.reasons;
         kept = subst (IsKept rule (view_of call.seat) (view_of seat)) (sym kept) way.kept;
         seen = seen ∙ way.seen;
       }
@@ -185,7 +172,7 @@ module _ (rule : Goal) (word : BestWord) (call : Call) (place : Place) (seat : S
         moves = moves_taken call.place place next way.taken way.put cell way.moves moves;
         parts = parted_along rule (seen_by call.seat) (way.taken ++ cell ∷ []) _ _ _ _ way.put _ _ (sym (same ∙ none)) (sym closed) (sym strange) parts;
         same_seat = way.same_seat;
-        reasons = All-same (λ (b : Closed). IsClosedFor rule (seen_by seat) (spans_of b.cell) b.why) _ _ closed way.reasons;
+        reasons = All-same (λ (b : List (ℕ × ℕ) × Why). IsClosedFor rule (seen_by seat) b.0 b.1) _ _ closed way.reasons;
         kept = subst (IsKept rule (view_of call.seat) (view_of seat)) (sym kept) way.kept;
         seen = seen ∙ way.seen;
       }
@@ -200,7 +187,7 @@ going_start rule word place given seat bench cells closed strange kept seen keep
   moves = moves_none place;
   parts = parted_along rule (seen_by given) [] _ _ _ _ [] _ _ (sym cells) (sym closed) (sym strange) (parted_start rule (seen_by given));
   same_seat = keeps;
-  reasons = All-same (λ (b : Closed). IsClosedFor rule (seen_by seat) (spans_of b.cell) b.why) _ _ closed (All-nil _);
+  reasons = All-same (λ (b : List (ℕ × ℕ) × Why). IsClosedFor rule (seen_by seat) b.0 b.1) _ _ closed (All-nil _);
   kept = subst (IsKept rule (view_of given) (view_of seat)) (sym kept) raised;
   seen = seen;
 }
@@ -252,7 +239,7 @@ going_none rule word place next given seat share closed strange kept keeps raise
       moves = moves;
       parts = parted_done rule (seen_by given) [] (boxes_in share.closed) [] share.strange.items parts;
       seat = keeps;
-      reasons = All-same (λ (b : Closed). IsClosedFor rule (seen_by seat) (spans_of b.cell) b.why) _ _ closed (All-nil _);
+      reasons = All-same (λ (b : List (ℕ × ℕ) × Why). IsClosedFor rule (seen_by seat) b.0 b.1) _ _ closed (All-nil _);
       kept = subst (IsKept rule (view_of given) (view_of seat)) (sym kept) raised;
       all_put = λ settled. found.all_put (settled_since place next [] [] moves settled);
     }

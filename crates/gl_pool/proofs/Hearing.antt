@@ -2,10 +2,8 @@
 use Rattle.std.proofs.Common.{◌≡◌, ◌∙◌, refl, ℕ, zero, suc, ◌+◌, ◌<◌, ◌≤◌, max, arith}
 use Rattle.std.specs.Prelude.{List, Option, Some, None}
 use Rattle.std.proofs.lemmas.List.Elements.{All-weaker}
-use Rattle.gl_box.specs.declared.closed.Closed.{Closed}
 use Rattle.gl_box.specs.declared.closed.Why.{Why}
 use Rattle.gl_box.specs.declared.closed.Why.TheVariants.{Disordered, Shut, Bound}
-use Rattle.gl_box.specs.Cell.{spans_of}
 use Rattle.gl_box.specs.Tuple.{places_of}
 use Rattle.gl_goal.specs.Goal.{Goal, IsReached}
 use Rattle.gl_goal.specs.Certificate.{IsClosedFor}
@@ -24,10 +22,11 @@ closed_longer rule zero new cell Bound more closed = absurd closed
 closed_longer rule (suc old) zero cell Bound more closed = absurd (omega arith)
 closed_longer rule (suc old) (suc new) cell Bound more closed = omega arith
 
-pub all_closed_longer : (rule : Goal) (before after : Seat) (closed : List Closed) → (view_of before).seen ≤ (view_of after).seen → AreClosedFor rule before closed → AreClosedFor rule after closed
+pub all_closed_longer : (rule : Goal) (before after : Seat) (closed : List (List (ℕ × ℕ) × Why)) → (view_of before).seen ≤ (view_of after).seen → AreClosedFor rule before closed
+    → AreClosedFor rule after closed
 all_closed_longer rule before after closed more all =
-    All-weaker (λ (b : Closed). IsClosedFor rule (seen_by before) (spans_of b.cell) b.why) (λ (b : Closed). IsClosedFor rule (seen_by after) (spans_of b.cell) b.why)
-    (λ b. closed_longer rule (view_of before).seen (view_of after).seen (spans_of b.cell) b.why more) closed all
+    All-weaker (λ (b : List (ℕ × ℕ) × Why). IsClosedFor rule (seen_by before) b.0 b.1) (λ (b : List (ℕ × ℕ) × Why). IsClosedFor rule (seen_by after) b.0 b.1)
+    (λ b. closed_longer rule (view_of before).seen (view_of after).seen b.0 b.1 more) closed all
 
 -- what is above all that a word says is above what one says that is no greater
 pub above_before : (old new limit : ℕ) → old ≤ new → ((total : ℕ) → total_of new ≡ Some total → total < limit) → (total : ℕ) → total_of old ≡ Some total → total < limit

@@ -4,8 +4,7 @@ use Rattle.std.specs.Prelude.{All}
 use Rattle.std.proofs.lemmas.List.{get_or_at, length-append, length-map, map-append}
 use Rattle.std.proofs.lemmas.List.Elements.{All-nil, All-push, All-same, All-weaker}
 use Rattle.std.proofs.lemmas.List.Sums.{sum_by-append, sum_by-cons}
-use Rattle.gl_box.specs.declared.closed.Closed.{Closed}
-use Rattle.gl_box.specs.Cell.{spans_of}
+use Rattle.gl_box.specs.declared.closed.Why.{Why}
 use Rattle.gl_goal.specs.Goal.{Goal}
 use Rattle.gl_goal.specs.Certificate.{IsClosedFor}
 use Rattle.gl_goal.specs.Best.{IsSound}
@@ -23,8 +22,7 @@ use Rattle.gl_pool.specs.Code.Crew.{AreSeated, HasOwnNumber, times_seated}
 use Rattle.gl_pool.specs.Code.Settle.{StandReady}
 use Rattle.gl_pool.specs.Kept.{seen_by}
 use Rattle.gl_pool.specs.Code.Tally.{IsTally, word_of}
-use Rattle.gl_order.specs.Runs.{ArePassed, IsPassed}
-use Rattle.gl_order.specs.InRuns.{boxes_in_runs}
+use Rattle.gl_order.specs.Runs.{ArePassed, IsPassed, boxes_in_runs}
 
 -- a worker with a seat that is shared, who has found and closed nothing
 pub record IsFresh (word : BestWord) (worker : Worker) : Type 0 where
@@ -38,8 +36,8 @@ fresh_tally rule word worker fresh = record {
   is_seat = fresh.is_seat;
   sound = subst (IsSound rule) (sym fresh.none) tt;
   raised = fresh.raised ∙ ap word_of (sym fresh.none);
-  closed = All-same (λ (box : Closed). IsClosedFor rule (seen_by worker.tally.seat) (spans_of box.cell) box.why) (boxes_in_runs worker.tally.closed.items) [] (ap boxes_in_runs fresh.nothing)
-      (All-nil (λ (box : Closed). IsClosedFor rule (seen_by worker.tally.seat) (spans_of box.cell) box.why));
+  closed = All-same (λ (box : List (ℕ × ℕ) × Why). IsClosedFor rule (seen_by worker.tally.seat) box.0 box.1) (boxes_in_runs worker.tally.closed.items) [] (ap boxes_in_runs fresh.nothing)
+      (All-nil (λ (box : List (ℕ × ℕ) × Why). IsClosedFor rule (seen_by worker.tally.seat) box.0 box.1));
   passed = subst ArePassed (sym fresh.nothing) (All-nil IsPassed);
 }
 
@@ -56,8 +54,9 @@ still_tally rule word before after still is = record {
   is_seat = still.is_seat;
   sound = subst (IsSound rule) (sym still.best) is.sound;
   raised = still.raised ∙ is.raised ∙ ap word_of (sym still.best);
-  closed = All-same (λ (box : Closed). IsClosedFor rule (seen_by after.seat) (spans_of box.cell) box.why) (boxes_in_runs after.closed.items) (boxes_in_runs before.closed.items) (ap boxes_in_runs still.closed)
-      (subst (λ (word : ℕ). All (λ (box : Closed). IsClosedFor rule (total_of word) (spans_of box.cell) box.why) (boxes_in_runs before.closed.items)) (sym still.seen) is.closed);
+  closed = All-same (λ (box : List (ℕ × ℕ) × Why). IsClosedFor rule (seen_by after.seat) box.0 box.1) (boxes_in_runs after.closed.items) (boxes_in_runs before.closed.items)
+      (ap boxes_in_runs still.closed)
+      (subst (λ (word : ℕ). All (λ (box : List (ℕ × ℕ) × Why). IsClosedFor rule (total_of word) box.0 box.1) (boxes_in_runs before.closed.items)) (sym still.seen) is.closed);
   passed = subst ArePassed (sym still.closed) is.passed;
 }
 

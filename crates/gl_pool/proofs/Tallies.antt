@@ -1,10 +1,9 @@
 -- What a turn and a gathering leave of a tally.
-use Rattle.std.proofs.Common.{◌≡◌, ◌∙◌, sym, ap, subst, ◌++◌, max, inl, inr, Option, Some, None, arith}
+use Rattle.std.proofs.Common.{◌≡◌, ◌∙◌, sym, ap, subst, ℕ, List, ◌++◌, max, inl, inr, Option, Some, None, arith}
 use Rattle.std.specs.Option.{option_or}
 use Rattle.std.proofs.lemmas.Grind.{flat_map-append}
 use Rattle.std.proofs.lemmas.List.Elements.{All-append, All-same}
-use Rattle.gl_box.specs.declared.closed.Closed.{Closed}
-use Rattle.gl_box.specs.Cell.{spans_of}
+use Rattle.gl_box.specs.declared.closed.Why.{Why}
 use Rattle.gl_goal.specs.Goal.{Goal}
 use Rattle.gl_goal.specs.Certificate.{IsClosedFor}
 use Rattle.gl_goal.specs.declared.best.Best.{Best}
@@ -22,8 +21,7 @@ use Rattle.gl_pool.specs.Work.{HasHauled}
 use Rattle.gl_pool.proofs.Hearing.{all_closed_longer}
 use Rattle.gl_pool.proofs.Together.{parted_any}
 use Rattle.gl_pool.specs.Trail.{boxes_in}
-use Rattle.gl_order.specs.Runs.{ArePassed, IsPassed}
-use Rattle.gl_order.specs.InRuns.{boxes_in_runs}
+use Rattle.gl_order.specs.Runs.{ArePassed, IsPassed, boxes_by, boxes_in_runs}
 
 kept_sound : (rule : Goal) (before after : View) (kept best : Option Best) → IsKept rule before after kept → IsSound rule best → IsSound rule (option_or kept best)
 kept_sound rule before after None best is sound = sound
@@ -41,8 +39,8 @@ tally_on rule word place place' tally after share is worked best closed passed =
   is_seat = worked.seat.is_seat;
   sound = subst (IsSound rule) (sym best) (kept_sound rule (view_of tally.seat) (view_of after.seat) share.kept tally.best worked.kept is.sound);
   raised = kept_raised rule (view_of tally.seat) (view_of after.seat) share.kept tally.best worked.kept is.raised ∙ ap word_of (sym best);
-  closed = All-same (λ (box : Closed). IsClosedFor rule (seen_by after.seat) (spans_of box.cell) box.why) _ _ closed
-      (All-append (λ (box : Closed). IsClosedFor rule (seen_by after.seat) (spans_of box.cell) box.why) (boxes_in_runs tally.closed.items) (boxes_in share.closed)
+  closed = All-same (λ (box : List (ℕ × ℕ) × Why). IsClosedFor rule (seen_by after.seat) box.0 box.1) _ _ closed
+      (All-append (λ (box : List (ℕ × ℕ) × Why). IsClosedFor rule (seen_by after.seat) box.0 box.1) (boxes_in_runs tally.closed.items) (boxes_in share.closed)
       (all_closed_longer rule tally.seat after.seat (boxes_in_runs tally.closed.items) worked.seat.no_less is.closed) worked.reasons);
   passed = passed is.passed;
 }
@@ -66,7 +64,7 @@ pub gathered : (word : BestWord) (tally other after : Tally) → IsSeatOf word a
     → IsGreater tally.best other.best after.best → after.closed.items ≡ tally.closed.items ++ other.closed.items → Gathers word tally other after
 gathered word tally other after seat both greater appended =
     let joined : boxes_in_runs after.closed.items ≡ boxes_in_runs tally.closed.items ++ boxes_in_runs other.closed.items = ap boxes_in_runs appended
-    ∙ flat_map-append (λ list. list.boxes.items) tally.closed.items other.closed.items in
+    ∙ flat_map-append boxes_by tally.closed.items other.closed.items in
     let seen : (view_of after.seat).seen ≡ max (view_of tally.seat).seen (view_of other.seat).seen = ap (λ (v : View). v.seen) both in
     let raised : (view_of after.seat).raised ≡ max (view_of tally.seat).raised (view_of other.seat).raised = ap (λ (v : View). v.raised) both in
     record {
@@ -78,8 +76,8 @@ gathered word tally other after seat both greater appended =
           | inr is ↦ subst (IsSound rule) (sym is) two.sound
         ];
         raised = omega (arith, raised, greater.greatest, one.raised, two.raised);
-        closed = All-same (λ (box : Closed). IsClosedFor rule (seen_by after.seat) (spans_of box.cell) box.why) _ _ joined
-            (All-append (λ (box : Closed). IsClosedFor rule (seen_by after.seat) (spans_of box.cell) box.why) (boxes_in_runs tally.closed.items) (boxes_in_runs other.closed.items)
+        closed = All-same (λ (box : List (ℕ × ℕ) × Why). IsClosedFor rule (seen_by after.seat) box.0 box.1) _ _ joined
+            (All-append (λ (box : List (ℕ × ℕ) × Why). IsClosedFor rule (seen_by after.seat) box.0 box.1) (boxes_in_runs tally.closed.items) (boxes_in_runs other.closed.items)
             (all_closed_longer rule tally.seat after.seat (boxes_in_runs tally.closed.items) (omega (arith, seen)) one.closed)
             (all_closed_longer rule other.seat after.seat (boxes_in_runs other.closed.items) (omega (arith, seen)) two.closed));
         passed = subst ArePassed (sym appended) (All-append IsPassed tally.closed.items other.closed.items one.passed two.passed);

@@ -6,7 +6,7 @@ use Rattle.std.proofs.Math.Nat.{eq-zero-or-pos}
 use Rattle.std.proofs.lemmas.List.Elements.{All-append, All-map, Contains-append_left, Contains-append_right}
 use Rattle.std.proofs.lemmas.List.Sums.{get_or-le-sum_by, sum_by-cons}
 use Rattle.gl_box.specs.declared.cell.Cell.{Cell}
-use Rattle.gl_box.specs.declared.closed.Closed.{Closed}
+use Rattle.gl_box.specs.declared.closed.Why.{Why}
 use Rattle.gl_box.specs.Cell.{Covers, holds, spans_of}
 use Rattle.gl_box.specs.Halves.{IsHalf}
 use Rattle.gl_box.specs.Frontier.{IsNode}
@@ -18,45 +18,21 @@ use Rattle.gl_goal.specs.Goal.{Goal, whole_cell}
 use Rattle.gl_plain.specs.Search.{IsNeeded}
 use Rattle.gl_order.specs.Order.{AreParts, cells_of}
 use Rattle.gl_pool.specs.Code.Many.{CameToAll, WeighSame}
-use Rattle.gl_pool.specs.Parts.{ArePartedInto, IsCutFrom, IsFromTaken, IsPartOfTaken, IsStrange, IsTakenInside, times_held}
-use Rattle.gl_pool.proofs.Parting.{times_closed-append, times_held-append}
-
--- what is inside a list that grows
-inside_more : (rule : Goal) (taken more : List Cell) (cell : Cell) → ((c : Cell) → Contains taken c → Contains more c) → IsTakenInside rule taken cell → IsTakenInside rule more cell
-inside_more rule taken more cell grows is = record { is_taken = grows cell is.is_taken; inside = is.inside }
-
-cut_any : (rule : Goal) (seen : Option ℕ) (cell part : List (ℕ × ℕ)) → IsCutFrom rule seen cell part → IsCutFrom rule None cell part
-cut_any rule seen cell part cut = record { node = cut.node; is_node = cut.is_node; is_open = cut.is_open; above = λ total none. absurd (cc); is_half = cut.is_half }
-
-pub part_more : (rule : Goal) (seen : Option ℕ) (taken more : List Cell) (cell : Cell) → ((c : Cell) → Contains taken c → Contains more c) → IsPartOfTaken rule seen taken cell
-    → IsPartOfTaken rule None more cell
-part_more rule seen taken more cell grows part = record {
-  root = part.root;
-  is_taken = inside_more rule taken more part.root grows part.is_taken;
-  is_cut =
-      cut_any rule seen (spans_of part.root) (spans_of cell) part.is_cut;
-}
-
-pub from_more : (rule : Goal) (seen : Option ℕ) (taken more : List Cell) (cell : Cell) → ((c : Cell) → Contains taken c → Contains more c) → IsFromTaken rule seen taken cell
-    → IsFromTaken rule None more cell
-from_more rule seen taken more cell grows (inl is) = inl (inside_more rule taken more cell grows is)
-from_more rule seen taken more cell grows (inr part) = inr (part_more rule seen taken more cell grows part)
-
-pub strange_more : (rule : Goal) (taken more : List Cell) (cell : Cell) → ((c : Cell) → Contains taken c → Contains more c) → IsStrange rule taken cell → IsStrange rule more cell
-strange_more rule taken more cell grows is = record { is_taken = grows cell is.is_taken; outside = is.outside }
+use Rattle.gl_pool.specs.Parts.{ArePartedInto, IsFromTaken, IsPartOfTaken, IsStrange, times_held}
+use Rattle.gl_pool.proofs.Parting.{PartIn, closed_more, put_more, stranger, times_closed-append, times_held-append}
 
 -- whatever had been seen before
-pub parted_any : (rule : Goal) (seen : Option ℕ) (taken : List Cell) (closed : List Closed) (put strange : List Cell) → ArePartedInto rule seen taken closed put strange
+pub parted_any : (rule : Goal) (seen : Option ℕ) (taken : List Cell) (closed : List (List (ℕ × ℕ) × Why)) (put strange : List Cell) → ArePartedInto rule seen taken closed put strange
     → ArePartedInto rule None taken closed put strange
 parted_any rule seen taken closed put strange parts = record {
   parted = parts.parted;
-  closed_are = λ k d below. from_more rule seen taken taken _ (λ c has. has) (parts.closed_are k d below);
-  put_are = λ k d below. part_more rule seen taken taken _ (λ c has. has) (parts.put_are k d below);
+  closed_are = closed_more rule seen None taken taken (λ c has. has) (λ total none. absurd (cc)) closed parts.closed_are;
+  put_are = put_more rule seen None taken taken (λ c has. has) (λ total none. absurd (cc)) put parts.put_are;
   strange_are = parts.strange_are;
 }
 
 -- what some calls did and what others did is what they all did
-pub worked_both : (rule : Goal) (taken put : List Cell) (closed : List Closed) (strange taken' put' : List Cell) (closed' : List Closed) (strange' : List Cell)
+pub worked_both : (rule : Goal) (taken put : List Cell) (closed : List (List (ℕ × ℕ) × Why)) (strange taken' put' : List Cell) (closed' : List (List (ℕ × ℕ) × Why)) (strange' : List Cell)
     → ArePartedInto rule None taken closed put strange → ArePartedInto rule None taken' closed' put' strange'
     → ArePartedInto rule None (taken ++ taken') (closed ++ closed') (put ++ put') (strange ++ strange')
 worked_both rule taken put closed strange taken' put' closed' strange' one other =
@@ -72,12 +48,13 @@ worked_both rule taken put closed strange taken' put' closed' strange' one other
         times_held-append put put' tuple,
         times_held-append strange strange' tuple,
       );
-      strange_are = All-append (IsStrange rule (taken ++ taken')) strange strange' (λ k d below. strange_more rule taken (taken ++ taken') _ left (one.strange_are k d below))
-          (λ k d below. strange_more rule taken' (taken ++ taken') _ right (other.strange_are k d below));
-      closed_are = All-append (λ (box : Closed). IsFromTaken rule None (taken ++ taken') box.cell) closed closed'
-          (λ k d below. from_more rule None taken (taken ++ taken') _ left (one.closed_are k d below)) (λ k d below. from_more rule None taken' (taken ++ taken') _ right (other.closed_are k d below));
-      put_are = All-append (IsPartOfTaken rule None (taken ++ taken')) put put' (λ k d below. part_more rule None taken (taken ++ taken') _ left (one.put_are k d below))
-          (λ k d below. part_more rule None taken' (taken ++ taken') _ right (other.put_are k d below));
+      strange_are = All-append (IsStrange rule (taken ++ taken')) strange strange' (stranger rule None None taken (taken ++ taken') left (λ t is. is) strange one.strange_are)
+          (stranger rule None None taken' (taken ++ taken') right (λ t is. is) strange' other.strange_are);
+      closed_are = All-append (λ (box : List (ℕ × ℕ) × Why). IsFromTaken rule None (taken ++ taken') box.0) closed closed'
+          (closed_more rule None None taken (taken ++ taken') left (λ t is. is) closed one.closed_are)
+          (closed_more rule None None taken' (taken ++ taken') right (λ t is. is) closed' other.closed_are);
+      put_are = All-append (PartIn rule None (taken ++ taken')) put put' (put_more rule None None taken (taken ++ taken') left (λ t is. is) put one.put_are)
+          (put_more rule None None taken' (taken ++ taken') right (λ t is. is) put' other.put_are);
     }
 
 -- a list that weighs something has an element that does
@@ -121,92 +98,86 @@ spread-half cell part is_half = elim is_half.either [
 ]
 
 -- the cell of which a part was taken reaches further than the part, and no further than the whole
-root_further : (rule : Goal) (taken : List Cell) (cell : Cell) (part : IsPartOfTaken rule None taken cell)
-    → (spread (spans_of cell) < spread (spans_of part.root)) × (spread (spans_of part.root) ≤ spread (whole_cell rule.axes))
+root_further : (rule : Goal) (taken : List Cell) (cell : List (ℕ × ℕ)) (part : IsPartOfTaken rule None taken cell)
+    → (spread cell < spread part.root) × (spread part.root ≤ spread (whole_cell rule.axes))
 root_further rule taken cell part =
-    let less = spread-half part.is_cut.node (spans_of cell) part.is_cut.is_half in
-    let within = spread-covers (spans_of part.root) part.is_cut.node (covers_node (spans_of part.root) part.is_cut.node part.is_cut.is_node) in
-    (omega arith, spread-covers (whole_cell rule.axes) (spans_of part.root) part.is_taken.inside)
+    let less = spread-half part.is_cut.node cell part.is_cut.is_half in
+    let within = spread-covers part.root part.is_cut.node (covers_node part.root part.is_cut.node part.is_cut.is_node) in
+    (omega arith, spread-covers (whole_cell rule.axes) part.root part.is_taken.inside)
 
--- a part, by its spans
-part_along : (rule : Goal) (taken : List Cell) (cell other : Cell) → spans_of cell ≡ spans_of other → IsPartOfTaken rule None taken cell → IsPartOfTaken rule None taken other
-part_along rule taken cell other same part = record {
-  root = part.root;
-  is_taken = part.is_taken;
-  is_cut = subst (IsCutFrom rule None (spans_of part.root)) same part.is_cut;
-}
-
-put_cases : (rule : Goal) (first cell : Cell) (taken put : List Cell) (j : ℕ) (d : Cell) → spans_of first ≡ whole_cell rule.axes → All (IsPartOfTaken rule None taken) put → j < length (first ∷ put)
-    → spans_of (get_or (first ∷ put) j d) ≡ spans_of cell → (spans_of cell ≡ whole_cell rule.axes) ⊎ IsPartOfTaken rule None taken cell
+put_cases : (rule : Goal) (first : Cell) (cell : List (ℕ × ℕ)) (taken put : List Cell) (j : ℕ) (d : Cell) → spans_of first ≡ whole_cell rule.axes → All (PartIn rule None taken) put
+    → j < length (first ∷ put) → spans_of (get_or (first ∷ put) j d) ≡ cell → (cell ≡ whole_cell rule.axes) ⊎ IsPartOfTaken rule None taken cell
 put_cases rule first cell taken put zero d is halves below same = inl (sym same ∙ is)
-put_cases rule first cell taken put (suc j) d is halves below same = inr (part_along rule taken (get_or put j d) cell same (halves j d (omega arith)))
+put_cases rule first cell taken put (suc j) d is halves below same = inr (subst (IsPartOfTaken rule None taken) same (halves j d (omega arith)))
 
 -- a cell that was taken is the whole, or a part of one that was taken
-taken_cases : (rule : Goal) (first : Cell) (taken put : List Cell) (k : ℕ) (d : Cell) → spans_of first ≡ whole_cell rule.axes → WeighSame taken (first ∷ put) → All (IsPartOfTaken rule None taken) put
-    → k < length taken → (spans_of (get_or taken k d) ≡ whole_cell rule.axes) ⊎ IsPartOfTaken rule None taken (get_or taken k d)
+taken_cases : (rule : Goal) (first : Cell) (taken put : List Cell) (k : ℕ) (d : Cell) → spans_of first ≡ whole_cell rule.axes → WeighSame taken (first ∷ put) → All (PartIn rule None taken) put
+    → k < length taken → (spans_of (get_or taken k d) ≡ whole_cell rule.axes) ⊎ PartIn rule None taken (get_or taken k d)
 taken_cases rule first taken put k d is same halves below =
     let at = taken_put taken (first ∷ put) k d same below in
-    put_cases rule first (get_or taken k d) taken put at.0 d is halves at.1 at.2
+    put_cases rule first (spans_of (get_or taken k d)) taken put at.0 d is halves at.1 at.2
 
 -- a part of a node of the whole is a node of it
-part_node : (rule : Goal) (taken : List Cell) (cell : Cell) (part : IsPartOfTaken rule None taken cell) → IsNode (whole_cell rule.axes) (spans_of part.root)
+part_node : (rule : Goal) (taken : List Cell) (cell : List (ℕ × ℕ)) (part : IsPartOfTaken rule None taken cell) → IsNode (whole_cell rule.axes) part.root
     → IsNode (whole_cell rule.axes) part.is_cut.node
-part_node rule taken cell part root = node_through (whole_cell rule.axes) (spans_of part.root) part.is_cut.node root part.is_cut.is_node
+part_node rule taken cell part root = node_through (whole_cell rule.axes) part.root part.is_cut.node root part.is_cut.is_node
 
 -- each cell that was taken is a node of the whole
 taken_node : (far : ℕ) (rule : Goal) (first : Cell) (taken put : List Cell) (k : ℕ) (d : Cell) → spans_of first ≡ whole_cell rule.axes → WeighSame taken (first ∷ put)
-    → All (IsPartOfTaken rule None taken) put → k < length taken → spread (whole_cell rule.axes) - spread (spans_of (get_or taken k d)) ≤ far
+    → All (PartIn rule None taken) put → k < length taken → spread (whole_cell rule.axes) - spread (spans_of (get_or taken k d)) ≤ far
     → IsNode (whole_cell rule.axes) (spans_of (get_or taken k d))
 taken_node zero rule first taken put k d is same halves below near = elim (taken_cases rule first taken put k d is same halves below) [
   | inl all ↦ subst (IsNode (whole_cell rule.axes)) (sym all) (whole (whole_cell rule.axes))
   | inr part ↦
-      let further = root_further rule taken (get_or taken k d) part in
+      let further = root_further rule taken (spans_of (get_or taken k d)) part in
       absurd (omega (arith, further.0, further.1))
 ]
 taken_node (suc far) rule first taken put k d is same halves below near = elim (taken_cases rule first taken put k d is same halves below) [
   | inl all ↦ subst (IsNode (whole_cell rule.axes)) (sym all) (whole (whole_cell rule.axes))
   | inr part ↦
-      let further = root_further rule taken (get_or taken k d) part in
+      let further = root_further rule taken (spans_of (get_or taken k d)) part in
       let at = part.is_taken.is_taken in
-      let reach : spread (spans_of (get_or taken at.0 part.root)) ≡ spread (spans_of part.root) = ap (λ (c : Cell). spread (spans_of c)) at.2 in
-      let root = taken_node far rule first taken put at.0 part.root is same halves at.1 (omega (arith, reach, further.0, further.1)) in
+      let root_is : spans_of (get_or taken at.0 part.is_taken.root) ≡ part.root = ap spans_of at.2 ∙ sym part.is_taken.is in
+      let root = taken_node far rule first taken put at.0 part.is_taken.root is same halves at.1 (omega (arith, ap spread root_is, further.0, further.1)) in
       half (whole_cell rule.axes) part.is_cut.node (spans_of (get_or taken k d))
-      (part_node rule taken (get_or taken k d) part (subst (λ (c : Cell). IsNode (whole_cell rule.axes) (spans_of c)) at.2 root)) part.is_cut.is_half
+      (part_node rule taken (spans_of (get_or taken k d)) part (subst (IsNode (whole_cell rule.axes)) root_is root)) part.is_cut.is_half
 ]
 
-contained_node : (rule : Goal) (first : Cell) (taken put : List Cell) (closed : List Closed) (strange : List Cell) (cell : Cell) → CameToAll rule first taken put closed strange → Contains taken cell
-    → IsNode (whole_cell rule.axes) (spans_of cell)
+contained_node : (rule : Goal) (first : Cell) (taken put : List Cell) (closed : List (List (ℕ × ℕ) × Why)) (strange : List Cell) (cell : Cell) → CameToAll rule first taken put closed strange
+    → Contains taken cell → IsNode (whole_cell rule.axes) (spans_of cell)
 contained_node rule first taken put closed strange cell all at =
     subst (λ (c : Cell). IsNode (whole_cell rule.axes) (spans_of c)) at.2
     (taken_node (spread (whole_cell rule.axes)) rule first taken put at.0 cell all.is_whole all.balanced all.worked.put_are at.1 (omega arith))
 
-part_needed : (rule : Goal) (first : Cell) (taken put : List Cell) (closed : List Closed) (strange : List Cell) (cell : Cell) → CameToAll rule first taken put closed strange
-    → IsPartOfTaken rule None taken cell → IsNeeded rule (spans_of cell)
-part_needed rule first taken put closed strange cell all part = inr (record {
-  node = part.is_cut.node;
-  is_node = part_node rule taken cell part (contained_node rule first taken put closed strange part.root all part.is_taken.is_taken);
-  is_open = part.is_cut.is_open;
-  is_half = part.is_cut.is_half;
-})
+part_needed : (rule : Goal) (first : Cell) (taken put : List Cell) (closed : List (List (ℕ × ℕ) × Why)) (strange : List Cell) (cell : List (ℕ × ℕ)) → CameToAll rule first taken put closed strange
+    → IsPartOfTaken rule None taken cell → IsNeeded rule cell
+part_needed rule first taken put closed strange cell all part =
+    let root = contained_node rule first taken put closed strange part.is_taken.root all part.is_taken.is_taken in
+    inr (record {
+      node = part.is_cut.node;
+      is_node = part_node rule taken cell part (subst (IsNode (whole_cell rule.axes)) (sym part.is_taken.is) root);
+      is_open = part.is_cut.is_open;
+      is_half = part.is_cut.is_half;
+    })
 
-contained_needed : (rule : Goal) (first : Cell) (taken put : List Cell) (closed : List Closed) (strange : List Cell) (cell : Cell) → CameToAll rule first taken put closed strange → Contains taken cell
-    → IsNeeded rule (spans_of cell)
+contained_needed : (rule : Goal) (first : Cell) (taken put : List Cell) (closed : List (List (ℕ × ℕ) × Why)) (strange : List Cell) (cell : Cell) → CameToAll rule first taken put closed strange
+    → Contains taken cell → IsNeeded rule (spans_of cell)
 contained_needed rule first taken put closed strange cell all at =
     elim (taken_cases rule first taken put at.0 cell all.is_whole all.balanced all.worked.put_are at.1) [
       | inl is ↦ inl (subst (λ (c : Cell). spans_of c ≡ whole_cell rule.axes) at.2 is)
-      | inr part ↦ part_needed rule first taken put closed strange cell all (subst (IsPartOfTaken rule None taken) at.2 part)
+      | inr part ↦ part_needed rule first taken put closed strange (spans_of cell) all (subst (PartIn rule None taken) at.2 part)
     ]
 
 -- each closed cell is one that a search comes to
-pub closed_needed : (rule : Goal) (first : Cell) (taken put : List Cell) (closed : List Closed) (strange : List Cell) → CameToAll rule first taken put closed strange
-    → All (λ box. IsNeeded rule (spans_of box.cell)) closed
+pub closed_needed : (rule : Goal) (first : Cell) (taken put : List Cell) (closed : List (List (ℕ × ℕ) × Why)) (strange : List Cell) → CameToAll rule first taken put closed strange
+    → All (λ box. IsNeeded rule box.0) closed
 closed_needed rule first taken put closed strange all k d below = elim (all.worked.closed_are k d below) [
-  | inl is ↦ contained_needed rule first taken put closed strange (get_or closed k d).cell all is.is_taken
-  | inr part ↦ part_needed rule first taken put closed strange (get_or closed k d).cell all part
+  | inl is ↦ subst (IsNeeded rule) (sym is.is) (contained_needed rule first taken put closed strange is.root all is.is_taken)
+  | inr part ↦ part_needed rule first taken put closed strange (get_or closed k d).0 all part
 ]
 
 -- no cell is strange
-none_strange : (rule : Goal) (first : Cell) (taken put : List Cell) (closed : List Closed) (strange : List Cell) → CameToAll rule first taken put closed strange → strange ≡ []
+none_strange : (rule : Goal) (first : Cell) (taken put : List Cell) (closed : List (List (ℕ × ℕ) × Why)) (strange : List Cell) → CameToAll rule first taken put closed strange → strange ≡ []
 none_strange rule first taken put closed [] all = refl
 none_strange rule first taken put closed (cell ∷ cells) all =
     let is = all.worked.strange_are 0 cell (omega arith) in
@@ -225,11 +196,10 @@ needed_node rule cell (inl is) = subst (IsNode (whole_cell rule.axes)) (sym is) 
 needed_node rule cell (inr part) = half (whole_cell rule.axes) part.node cell part.is_node part.is_half
 
 -- the closed cells part the whole one
-pub closed_parts : (rule : Goal) (first : Cell) (taken put : List Cell) (closed : List Closed) (strange : List Cell) → CameToAll rule first taken put closed strange
+pub closed_parts : (rule : Goal) (first : Cell) (taken put : List Cell) (closed : List (List (ℕ × ℕ) × Why)) (strange : List Cell) → CameToAll rule first taken put closed strange
     → AreParts (whole_cell rule.axes) (cells_of closed)
 closed_parts rule first taken put closed strange all = record {
-  nodes = All-map (IsNode (whole_cell rule.axes)) (λ box. spans_of box.cell) closed
-      (λ k d below. needed_node rule (spans_of (get_or closed k d).cell) (closed_needed rule first taken put closed strange all k d below));
+  nodes = All-map (IsNode (whole_cell rule.axes)) (λ box. box.0) closed (λ k d below. needed_node rule (get_or closed k d).0 (closed_needed rule first taken put closed strange all k d below));
   once = λ tuple held.
       let weight : Cell → ℕ = λ cell. cond (holds (spans_of cell) tuple) 1 0 in
       let parted = all.worked.parted tuple in

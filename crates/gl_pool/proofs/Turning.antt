@@ -7,7 +7,7 @@ use Rattle.std.proofs.lemmas.List.{get_or-map, get_or-reverse, length-map, lengt
 use Rattle.std.proofs.lemmas.List.Elements.{All-cons, All-head, All-nil, All-tail}
 use Rattle.std.proofs.lemmas.List.Sums.{sum_by-append, sum_by-cons}
 use Rattle.gl_box.specs.declared.cell.Cell.{Cell}
-use Rattle.gl_box.specs.declared.closed.Closed.{Closed}
+use Rattle.gl_box.specs.declared.closed.Why.{Why}
 use Rattle.gl_goal.specs.Goal.{Goal}
 use Rattle.gl_best.specs.declared.word.BestWord.{BestWord}
 use Rattle.gl_best.specs.Rule.{times}
@@ -17,11 +17,12 @@ use Rattle.gl_deal.specs.Tokens.{hand_view}
 use Rattle.gl_pool.specs.declared.crew.Worker.{Worker}
 use Rattle.gl_pool.specs.declared.tally.Tally.{Tally}
 use Rattle.gl_pool.specs.Code.Crew.{AreSeated, Collects, HasTurned, MoveAll, WorkedAll, closed_by, post_of, times_seated}
-use Rattle.gl_pool.specs.Parts.{ArePartedInto, IsFromTaken, IsPartOfTaken, IsStrange}
+use Rattle.gl_pool.specs.Parts.{ArePartedInto, IsFromTaken, IsStrange}
+use Rattle.gl_pool.proofs.Parting.{PartIn}
 use Rattle.gl_pool.specs.Taken.{Moves, taken_weight}
 use Rattle.gl_pool.specs.Code.Tally.{IsTally}
 use Rattle.gl_pool.proofs.Together.{worked_both}
-use Rattle.gl_order.specs.InRuns.{boxes_in_runs}
+use Rattle.gl_order.specs.Runs.{boxes_in_runs}
 
 -- each worker of a list has turned into that of another
 pub TurnedAll : Goal → BestWord → List Worker → List Worker → Type 0
@@ -74,8 +75,8 @@ one_moved before after befores afters taken put all_taken all_put moves rest = r
 none_parted : (rule : Goal) → ArePartedInto rule None [] [] [] []
 none_parted rule = record {
   parted = λ tuple. refl;
-  closed_are = All-nil (λ (box : Closed). IsFromTaken rule None [] box.cell);
-  put_are = All-nil (IsPartOfTaken rule None []);
+  closed_are = All-nil (λ (box : List (ℕ × ℕ) × Why). IsFromTaken rule None [] box.0);
+  put_are = All-nil (PartIn rule None []);
   strange_are = All-nil (IsStrange rule []);
 }
 
@@ -107,14 +108,15 @@ turn_together rule word (b ∷ bs) (a ∷ afters) turned nothing =
     let empty : (boxes_in_runs b.tally.closed.items) ≡ [] = All-head (λ (w : Worker). (boxes_in_runs w.tally.closed.items) ≡ []) b bs nothing in
     let rest = turn_together rule word bs afters turned.1 (All-tail (λ (w : Worker). (boxes_in_runs w.tally.closed.items) ≡ []) b bs nothing) in
     let turn = turned.0.turn in
-    let own : (boxes_in_runs a.tally.closed.items) ≡ turn.closed = turn.joined ∙ ap (λ (l : List Closed). l ++ turn.closed) empty in
+    let own : (boxes_in_runs a.tally.closed.items) ≡ turn.closed = turn.joined ∙ ap (λ (l : List (List (ℕ × ℕ) × Why)). l ++ turn.closed) empty in
     let both = worked_both rule rest.taken rest.put (closed_by afters) rest.strange turn.taken turn.put turn.closed turn.strange rest.parts turn.parts in
     record {
       taken = rest.taken ++ turn.taken;
       put = rest.put ++ turn.put;
       strange = rest.strange ++ turn.strange;
       moves = one_moved b.place a.place (map place_in bs) (map place_in afters) turn.taken turn.put rest.taken rest.put turn.moves rest.moves;
-      parts = subst (λ (l : List Closed). ArePartedInto rule None (rest.taken ++ turn.taken) (closed_by afters ++ l) (rest.put ++ turn.put) (rest.strange ++ turn.strange)) (sym own) both;
+      parts = subst (λ (l : List (List (ℕ × ℕ) × Why)). ArePartedInto rule None (rest.taken ++ turn.taken) (closed_by afters ++ l) (rest.put ++ turn.put)
+          (rest.strange ++ turn.strange)) (sym own) both;
       tallies = All-cons (λ (w : Worker). IsTally rule word w.tally) a afters turned.0.is_tally rest.tallies;
       numbers = λ number.
           let same : times number (view_of a.tally.seat).numbers ≡ times number (view_of b.tally.seat).numbers = ap (times number) turn.numbers in
@@ -167,7 +169,7 @@ worked_all rule word places after tally tally_after before results is empty seat
         strange = all.strange;
         moves = subst (λ (l : List Place). MoveAll l after all.taken all.put) seated.places_are
             (subst (λ (l : List Place). MoveAll (map place_in before) l all.taken all.put) (sym collects.places_are) all.moves);
-        parts = subst (λ (l : List Closed). ArePartedInto rule None all.taken l all.put all.strange) (sym collects.closed) all.parts;
+        parts = subst (λ (l : List (List (ℕ × ℕ) × Why)). ArePartedInto rule None all.taken l all.put all.strange) (sym collects.closed) all.parts;
         numbers = λ number. collects.numbers number ∙ all.numbers number ∙ seated.numbers number;
       },
     )

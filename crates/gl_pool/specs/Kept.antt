@@ -1,7 +1,6 @@
 -- What a worker's seat has seen, and what the worker has kept and raised.
 use Rattle.std.specs.Prelude.{◌≡◌, ℕ, ◌+◌, ◌<◌, ◌≤◌, List, All, Option, None, Some}
-use Rattle.gl_box.specs.declared.closed.Closed.{Closed}
-use Rattle.gl_box.specs.Cell.{spans_of}
+use Rattle.gl_box.specs.declared.closed.Why.{Why}
 use Rattle.gl_box.specs.Tuple.{places_of}
 use Rattle.gl_goal.specs.Goal.{Goal, IsReached}
 use Rattle.gl_goal.specs.Certificate.{IsClosedFor}
@@ -31,6 +30,5 @@ IsKept goal before after (Some best) =
     × (before.seen < after.raised)
 
 -- each closed cell is closed by its reason for what the seat has seen
-abbrev pub AreClosedFor : Goal → Seat → List Closed → Type 0
-AreClosedFor goal seat closed =
-    All (λ box. IsClosedFor goal (seen_by seat) (spans_of box.cell) box.why) closed
+abbrev pub AreClosedFor : Goal → Seat → List (List (ℕ × ℕ) × Why) → Type 0
+AreClosedFor goal seat closed = All (λ box. IsClosedFor goal (seen_by seat) box.0 box.1) closed

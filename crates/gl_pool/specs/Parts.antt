@@ -2,11 +2,12 @@
 -- parted.
 use Rattle.std.specs.Prelude.{◌≡◌, ℕ, ◌+◌, ◌<◌, ◌⊎◌, List, map, All, Contains, Option, Some}
 use Rattle.gl_box.specs.declared.cell.Cell.{Cell}
-use Rattle.gl_box.specs.declared.closed.Closed.{Closed}
+use Rattle.gl_box.specs.declared.closed.Why.{Why}
 use Rattle.gl_box.specs.Cell.{Covers, spans_of}
 use Rattle.gl_box.specs.Halves.{IsHalf}
 use Rattle.gl_box.specs.Frontier.{IsNode, mult}
 use Rattle.gl_goal.specs.Goal.{Goal, IsOpen, whole_cell}
+use Rattle.gl_order.specs.Order.{cells_of}
 
 -- A half of a node of a cell, where the node had to be cut: it is neither disordered nor shut, and
 -- its bound is above the total that had been seen, if one had.
@@ -18,19 +19,21 @@ pub record IsCutFrom (goal : Goal) (seen : Option ℕ) (cell half : List (ℕ ×
   pub is_half : IsHalf node half
 
 -- a cell that was taken, and lies inside the whole cell
-pub record IsTakenInside (goal : Goal) (taken : List Cell) (cell : Cell) : Type 0 where
-  pub is_taken : Contains taken cell
-  pub inside : Covers (whole_cell goal.axes) (spans_of cell)
+pub record IsTakenInside (goal : Goal) (taken : List Cell) (cell : List (ℕ × ℕ)) : Type 0 where
+  pub root : Cell
+  pub is_taken : Contains taken root
+  pub is : cell ≡ spans_of root
+  pub inside : Covers (whole_cell goal.axes) cell
 
 -- a half of such a node of a cell that was taken inside the whole cell
 pub record IsPartOfTaken (goal : Goal) (seen : Option ℕ) (taken : List Cell)
-    (cell : Cell) : Type 0 where
-  pub root : Cell
+    (cell : List (ℕ × ℕ)) : Type 0 where
+  pub root : List (ℕ × ℕ)
   pub is_taken : IsTakenInside goal taken root
-  pub is_cut : IsCutFrom goal seen (spans_of root) (spans_of cell)
+  pub is_cut : IsCutFrom goal seen root cell
 
 -- a cell that was taken inside the whole cell, or such a part of one
-abbrev pub IsFromTaken : Goal → Option ℕ → List Cell → Cell → Type 0
+abbrev pub IsFromTaken : Goal → Option ℕ → List Cell → List (ℕ × ℕ) → Type 0
 IsFromTaken goal seen taken cell =
     IsTakenInside goal taken cell ⊎ IsPartOfTaken goal seen taken cell
 
@@ -44,17 +47,17 @@ abbrev pub times_held : List Cell → List ℕ → ℕ
 times_held cells tuple = mult (map spans_of cells) tuple
 
 -- how often some closed cells do
-abbrev pub times_closed : List Closed → List ℕ → ℕ
-times_closed closed tuple = mult (map (λ box. spans_of box.cell) closed) tuple
+abbrev pub times_closed : List (List (ℕ × ℕ) × Why) → List ℕ → ℕ
+times_closed closed tuple = mult (cells_of closed) tuple
 
 -- The cells that were taken hold each tuple as often as those that were closed, those that were put
 -- and the strange ones together. A closed cell was taken inside the whole cell, or is a part of
 -- such a cell, and one that was put is a part.
 pub record ArePartedInto (goal : Goal) (seen : Option ℕ) (taken : List Cell)
-    (closed : List Closed) (put strange : List Cell) : Type 0 where
+    (closed : List (List (ℕ × ℕ) × Why)) (put strange : List Cell) : Type 0 where
   pub parted : (tuple : List ℕ)
       → times_held taken tuple
       ≡ times_closed closed tuple + times_held put tuple + times_held strange tuple
-  pub closed_are : All (λ box. IsFromTaken goal seen taken box.cell) closed
-  pub put_are : All (IsPartOfTaken goal seen taken) put
+  pub closed_are : All (λ box. IsFromTaken goal seen taken box.0) closed
+  pub put_are : All (λ cell. IsPartOfTaken goal seen taken (spans_of cell)) put
   pub strange_are : All (IsStrange goal taken) strange

@@ -1,5 +1,5 @@
 -- What one worker does in one call.
-use Rattle.std.specs.Prelude.{List, Option}
+use Rattle.std.specs.Prelude.{ℕ, List, map, Option}
 use Rattle.gl_box.specs.declared.cell.Cell.{Cell}
 use Rattle.gl_goal.specs.Goal.{Goal}
 use Rattle.gl_best.specs.declared.word.BestWord.{BestWord}
@@ -9,7 +9,8 @@ use Rattle.gl_deal.specs.declared.place.Place.{Place}
 use Rattle.gl_deal.specs.Rule.{HasSettledAll, TookAllItPut}
 use Rattle.gl_deal.specs.Tokens.{hand_view}
 use Rattle.gl_goal.specs.declared.best.Best.{Best}
-use Rattle.gl_box.specs.declared.closed.Closed.{Closed}
+use Rattle.gl_box.specs.declared.closed.Why.{Why}
+use Rattle.gl_box.specs.Closed.{box_of}
 use Rattle.gl_pool.specs.declared.share.Haul.{Haul}
 use Rattle.gl_pool.specs.declared.share.Share.{Share}
 use Rattle.gl_pool.specs.Trail.{boxes_in}
@@ -22,7 +23,7 @@ use Rattle.gl_pool.specs.Taken.{Moves}
 -- closed is closed for what the seat has seen at the return. Where the passes of all other workers
 -- were settled at the call, the hand took or gathered all that it put.
 pub record HasDone (goal : Goal) (word : BestWord) (before after : Place)
-    (seat_before seat_after : Seat) (best : Option Best) (boxes : List Closed)
+    (seat_before seat_after : Seat) (best : Option Best) (boxes : List (List (ℕ × ℕ) × Why))
     (cells : List Cell) : Type 0 where
   pub taken : List Cell
   pub put : List Cell
@@ -36,8 +37,8 @@ pub record HasDone (goal : Goal) (word : BestWord) (before after : Place)
 -- its share is what it has to show
 abbrev pub HasWorked : Goal → BestWord → Place → Place → Seat → Seat → Share → Type 0
 HasWorked goal word before after seat_before seat_after share =
-    HasDone goal word before after seat_before seat_after share.kept share.closed.items
-    share.strange.items
+    HasDone goal word before after seat_before seat_after share.kept
+    (map box_of share.closed.items) share.strange.items
 
 -- its haul is what it has to show
 abbrev pub HasHauled : Goal → BestWord → Place → Place → Seat → Seat → Haul → Type 0

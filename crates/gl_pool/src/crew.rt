@@ -1,7 +1,7 @@
-ghost use Rattle.std.specs.Prelude.{◌≡◌, ◌≤◌, ◌<◌, [], All, IfOk, OnOk, length, map};
+ghost use Rattle.std.specs.Prelude.{◌≡◌, ◌≤◌, ◌<◌, [], All, IfOk, length};
 ghost use Rattle.gl_best.specs.Seats.{IsSeatOf, view_of};
 ghost use Rattle.gl_pool.specs.Code.Tally.{IsTally};
-ghost use Rattle.gl_order.specs.InRuns.{boxes_in_runs};
+ghost use Rattle.gl_order.specs.Runs.{boxes_in_runs};
 ghost use Rattle.gl_pool.specs.Code.Settle.{StandReady};
 ghost use Rattle.gl_pool.specs.Code.Crew.{AreSeated, Collects, HasTurned, WorkedAll, has_seat};
 

@@ -4,7 +4,7 @@ ghost use Rattle.gl_best.specs.Seats.{HasAll, IsSeatOf, view_of};
 ghost use Rattle.gl_plain.specs.Answer.{IsAnswer};
 ghost use Rattle.gl_goal.specs.Best.{IsSound};
 ghost use Rattle.gl_pool.specs.Code.Many.{ComesToAll, IsDealt, IsLeft};
-ghost use Rattle.gl_order.specs.InRuns.{boxes_in_runs};
+ghost use Rattle.gl_order.specs.Runs.{boxes_in_runs};
 ghost use Rattle.gl_pool.specs.Code.Tally.{IsTally};
 
 use crate::crew::work_all;

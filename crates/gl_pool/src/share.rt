@@ -16,7 +16,7 @@ pub struct Share {
     pub strange: Vec<Cell>,
 }
 
-/// The same, with the closed cells as several lists.
+/// The same, with the closed cells as runs.
 #[derive(Drop)]
 pub(crate) struct Haul {
     pub(crate) kept: Option<Best>,

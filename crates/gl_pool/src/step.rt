@@ -1,6 +1,5 @@
 ghost use Rattle.std.specs.Prelude.{◌≡◌, ◌<◌, [], ◌∷◌, OnOk, vec_len};
 ghost use Rattle.gl_goal.specs.Goal.{Goal};
-ghost use Rattle.gl_plain.specs.Steps.{Closes};
 ghost use Rattle.gl_best.specs.declared.word.BestWord.{BestWord};
 ghost use Rattle.gl_best.specs.declared.word.Seat.{Seat};
 ghost use Rattle.gl_deal.specs.declared.place.Place.{Place};
@@ -11,7 +10,7 @@ ghost use Rattle.gl_pool.specs.Code.UnderWay.{GoesOn, IsAtWork, Steps};
 use crate::bench::Bench;
 use crate::trail::come_to;
 use gl_best::{BestWord, Seat};
-use gl_box::{Cell, Closed, Why, covers, halve};
+use gl_box::{Cell, Why, close_first, covers, cut_first};
 use gl_deal::Place;
 use gl_goal::{Best, Goal, whole};
 use gl_plain::{CellVerdict, test_for};
@@ -22,19 +21,6 @@ const STRETCH: u32 = 64;
 
 /// How many cells a worker keeps to itself at least.
 const KEPT_CELLS: usize = 1;
-
-/// Closes the last cell. The only error is want of memory.
-#[inline]
-fn close(cells: &mut Vec<Cell>, boxes: &mut Vec<Closed>, why: Why) -> Result<(), AllocError>
-    requires { 0 < vec_len cells.old }
-    ensures { OnOk result
-        (Closes cells.old.items cells.new.items boxes.old.items boxes.new.items why) }
-{
-    if let Some(cell) = cells.pop() {
-        boxes.push(Closed { cell, why })?;
-    }
-    Ok(())
-}
 
 /// One step at the last cell: it is closed, or gives way to its halves, the lower one last. A
 /// single tuple that is worth more than what the seat has seen is kept, and then its total is
@@ -58,27 +44,26 @@ fn step<G: Goal>(
 {
     let top = bench.cells.len() - 1;
     match test_for(goal, &bench.cells[top], bench.seen, &mut bench.legs) {
-        CellVerdict::Closed(why) => close(
+        CellVerdict::Closed(why) => close_first(
             &mut bench.cells,
-            &mut bench.share.closed.last.boxes,
+            &mut bench.share.closed.last.turns,
             why,
         )?,
-        CellVerdict::Open(bound) => match halve(&mut bench.cells[top]) {
-            Some(lower) => bench.cells.push(lower)?,
-            None => {
+        CellVerdict::Open(bound) => {
+            if !cut_first(&mut bench.cells, &mut bench.share.closed.last.turns)? {
                 bench.share.kept = Some(Best {
                     total: bound,
                     tuple: bench.cells[top].lowest(),
                 });
                 word.raise(seat, bound);
                 bench.seen = word.look(seat);
-                close(
+                close_first(
                     &mut bench.cells,
-                    &mut bench.share.closed.last.boxes,
+                    &mut bench.share.closed.last.turns,
                     Why::Bound,
                 )?;
             }
-        },
+        }
     }
     Ok(())
 }

@@ -1,17 +1,17 @@
-ghost use Rattle.std.specs.Prelude.{◌≡◌, [], ◌∷◌, ◌++◌, false, IfOk, IsTrue, OnOk};
+ghost use Rattle.std.specs.Prelude.{◌≡◌, [], ◌∷◌, ◌++◌, false, IfOk, IsTrue, OnOk, map};
+ghost use Rattle.gl_box.specs.Closed.{box_of};
 ghost use Rattle.gl_box.specs.Walk.{open_cells};
-ghost use Rattle.gl_order.specs.Runs.{ArePassed, IsPassed};
-ghost use Rattle.gl_order.specs.InRuns.{boxes_in_runs};
+ghost use Rattle.gl_order.specs.Runs.{ArePassed, IsPassed, boxes_by, boxes_in_runs};
 ghost use Rattle.gl_pool.specs.Code.Trail.{IsTrail};
 ghost use Rattle.gl_pool.specs.Trail.{boxes_in};
 
-use gl_box::{Cell, Closed, all_boxes, covers};
-use gl_order::Run;
+use gl_box::{Cell, Closed, covers};
+use gl_order::{Run, spread};
 use std::alloc::{AllocError, Global};
 use std::mem;
 
-/// The boxes that a worker closes: the runs that are done, and the one to which it adds. Of that
-/// one the open cells are those behind the cells that the worker has before it.
+/// The turns of a worker: the runs that are done, and the one to which it adds. Of that one the
+/// open cells are those behind the cells that the worker has before it.
 #[derive(Drop)]
 pub(crate) struct Trail {
     pub(crate) runs: Vec<Run>,
@@ -76,14 +76,14 @@ pub(crate) fn come_to(
     begin_run(alloc, whole, cell, trail)
 }
 
-/// Adds a run, if it has boxes. The only error is want of memory.
+/// Adds a run, if it has turns. The only error is want of memory.
 fn add_run(runs: &mut Vec<Run>, run: Run) -> Result<(), AllocError>
     ensures boxes { OnOk result
-        (boxes_in_runs runs.new.items ≡ boxes_in_runs runs.old.items ++ run.boxes.items) }
+        (boxes_in_runs runs.new.items ≡ boxes_in_runs runs.old.items ++ boxes_by run) }
     ensures passed { OnOk result (IsPassed run
         → ArePassed runs.old.items → ArePassed runs.new.items) }
 {
-    if !run.boxes.is_empty() {
+    if !run.turns.is_empty() {
         runs.push(run)?;
     }
     Ok(())
@@ -114,13 +114,9 @@ pub(crate) fn join_runs(runs: &mut Vec<Run>, mut others: Vec<Run>) -> Result<(),
 
 /// All boxes of a trail in one list. The only error is want of memory.
 pub(crate) fn boxes_of(alloc: Global, trail: Trail) -> Result<Vec<Closed>, AllocError>
-    ensures { IfOk result (λ boxes. boxes.items ≡ boxes_in trail) }
+    ensures { IfOk result (λ boxes. map box_of boxes.items ≡ boxes_in trail) }
 {
-    let Trail { runs, last } = trail;
-    let mut all = Vec::with_capacity(alloc, runs.len())?;
-    'runs: for run in runs {
-        all.push(run.boxes)?;
-    }
-    all.push(last.boxes)?;
-    all_boxes(alloc, all)
+    let Trail { mut runs, last } = trail;
+    runs.push(last)?;
+    spread(alloc, runs)
 }

@@ -1,64 +1,38 @@
--- A text that grows box by box, and list by list.
-use Rattle.std.proofs.Common.{◌≡◌, ◌∙◌, sym, ap, ℕ, ◌+◌, ◌<◌, List, [], ◌∷◌, ◌++◌, length, get_or, take, map, append_assoc, Option, Vec, Global}
+-- A text that grows box by box.
+use Rattle.std.proofs.Common.{◌≡◌, ◌∙◌, sym, ap, refl, ℕ, true, false, List, [], ◌∷◌, ◌++◌, map, append_assoc, Option, arith}
 use Rattle.std.specs.Fmt.{decimal}
-use Rattle.std.specs.List.{flat_map}
 use Rattle.std.specs.Prelude.{codes}
-use Rattle.std.proofs.lemmas.List.{append-nil, get_or-map, length-map, map-append, take_more}
+use Rattle.std.proofs.lemmas.List.{append-nil}
 use Rattle.std.proofs.lemmas.List.Concat.{flat_map-append}
-use Rattle.gl_box.specs.declared.closed.Closed.{Closed}
 use Rattle.gl_box.specs.declared.closed.Why.{Why}
-use Rattle.gl_box.specs.Closed.{box_of}
-use Rattle.gl_proof.specs.Kept.{Keeps}
-use Rattle.gl_proof.specs.Words.{spaced, total_word}
-use Rattle.gl_proof.proofs.Pieces.{pieces_more}
-use Rattle.gl_proof.specs.Claim.{Statement, box_line, claim_text, fix_lines, front_text, spelled}
+use Rattle.gl_box.specs.declared.closed.Why.TheVariants.{Disordered, Shut, Bound}
+use Rattle.gl_proof.specs.Kept.{Keeps, Writes}
+use Rattle.gl_proof.specs.Words.{spaced, span_word, total_word}
+use Rattle.gl_proof.specs.Claim.{Statement, box_line, claim_text, fix_lines, front_text, left_of, spelled}
 use Rattle.gl_proof.proofs.Lines.{claim_is}
-use Rattle.gl_proof.specs.Line.{ClaimLine, FixLine, ended, kind_word}
+use Rattle.gl_proof.specs.Line.{BoxLine, ClaimLine, FixLine, ended, kind_word, reason_word}
 use Rattle.gl_proof.specs.declared.claim.ClaimKind.{ClaimKind}
 
--- one box more
-pub box_more : (before was now : List ℕ) (boxes : List Closed) (i : ℕ) (closed : Closed) → i < length boxes → closed ≡ get_or boxes i closed
-    → was ≡ before ++ spelled (map box_line (take i (map box_of boxes))) → now ≡ was ++ ended (box_line (box_of closed)) → now ≡ before ++ spelled (map box_line (take (i + 1) (map box_of boxes)))
-box_more before was now boxes i closed below item is added =
-    let front = before ++ spelled (map box_line (take i (map box_of boxes))) in
-    let inside : i < length (map box_of boxes) = rw length-map below in
-    let read : get_or (map box_of boxes) i (box_of closed) ≡ box_of closed = get_or-map box_of boxes i closed (box_of closed) below ∙ ap box_of (sym item) in
-    added
-    ∙ ap (λ (l : List ℕ). l ++ ended (box_line (box_of closed))) is
-    ∙ ap (λ (b : List (ℕ × ℕ) × Why). front ++ ended (box_line b)) (sym read)
-    ∙ pieces_more ended box_line before (map box_of boxes) i (box_of closed) inside
+-- the line of a box, from the words with which it begins
+box_line_is : (why : Why) (spans : List (ℕ × ℕ)) → ended (BoxLine why spans) ≡ (codes "BOX" ++ 32 ∷ reason_word why) ++ (spaced (map span_word spans) ++ 10 ∷ [])
+box_line_is Disordered spans = refl
+box_line_is Shut spans = refl
+box_line_is Bound spans = refl
 
--- the boxes of lists that follow one another
-abbrev pub in_lists : List (Vec Closed Global) → List Closed
-in_lists lists = flat_map (λ list. list.items) lists
+pub box_next : (before after words : List ℕ) (statement : Statement) (boxes left : List (List (ℕ × ℕ) × Why)) (why : Why) (spans : List (ℕ × ℕ)) → boxes ≡ (spans, why) ∷ left
+    → words ≡ codes "BOX" ++ 32 ∷ reason_word why → after ≡ before ++ (words ++ (spaced (map span_word spans) ++ 10 ∷ []))
+    → Writes before after (left_of true statement boxes) (left_of true statement left) true
+box_next before after words statement boxes left why spans next is added = record {
+  written = ended (BoxLine why spans);
+  text = added ∙ ap (λ (l : List ℕ). before ++ (l ++ (spaced (map span_word spans) ++ 10 ∷ []))) is ∙ ap (λ (l : List ℕ). before ++ l) (sym (box_line_is why spans));
+  parts = ap (left_of true statement) next;
+  some = λ _. omega arith;
+}
 
--- the lines of boxes
-abbrev pub boxes_text : List Closed → List ℕ
-boxes_text boxes = spelled (map box_line (map box_of boxes))
-
-pub boxes_text-append : (front back : List Closed) → boxes_text (front ++ back) ≡ boxes_text front ++ boxes_text back
-boxes_text-append front back =
-    ap (λ (l : List (List (ℕ × ℕ) × Why)). spelled (map box_line l)) (map-append box_of front back)
-    ∙ ap spelled (map-append box_line (map box_of front) (map box_of back))
-    ∙ flat_map-append ended (map box_line (map box_of front)) (map box_line (map box_of back))
-
--- one list more
-pub lists_more : (lists : List (Vec Closed Global)) (i : ℕ) (list : Vec Closed Global) → i < length lists → list ≡ get_or lists i list
-    → in_lists (take (i + 1) lists) ≡ in_lists (take i lists) ++ list.items
-lists_more lists i list below item =
-    ap in_lists (take_more lists i list below ∙ ap (λ (l : Vec Closed Global). take i lists ++ l ∷ []) (sym item))
-    ∙ flat_map-append (λ list. list.items) (take i lists) (list ∷ [])
-    ∙ ap (λ (l : List Closed). in_lists (take i lists) ++ l) (append-nil list.items)
-
-pub list_more : (before was now piece : List ℕ) (lists : List (Vec Closed Global)) (i : ℕ) (list : Vec Closed Global) → i < length lists → list ≡ get_or lists i list
-    → was ≡ before ++ boxes_text (in_lists (take i lists)) → piece ≡ boxes_text list.items → now ≡ was ++ piece → now ≡ before ++ boxes_text (in_lists (take (i + 1) lists))
-list_more before was now piece lists i list below item is of added =
-    let front = in_lists (take i lists) in
-    added
-    ∙ ap (λ (l : List ℕ). l ++ piece) is
-    ∙ append_assoc before (boxes_text front) piece
-    ∙ ap (λ (l : List ℕ). before ++ (boxes_text front ++ l)) of
-    ∙ ap (λ (l : List ℕ). before ++ l) (sym (ap boxes_text (lists_more lists i list below item) ∙ boxes_text-append front list.items))
+-- the lines before the boxes come first
+pub front_next : (before after : List ℕ) (statement : Statement) (boxes : List (List (ℕ × ℕ) × Why)) → after ≡ before ++ front_text statement
+    → Writes before after (left_of false statement boxes) (left_of true statement boxes) true
+front_next before after statement boxes is = record { written = front_text statement; text = is; parts = refl; some = λ _. omega arith }
 
 -- the text of a claim is its front and its boxes
 pub claim_text-parts : (statement : Statement) → claim_text statement ≡ front_text statement ++ spelled (map box_line statement.boxes)

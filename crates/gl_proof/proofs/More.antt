@@ -2,9 +2,9 @@
 use Rattle.std.proofs.Common.{◌≡◌, ◌≢◌, ◌∙◌, sym, ap, refl, subst, ℕ, ◌+◌, ◌≤◌, List, [], ◌∷◌, ◌++◌, length, map, append_assoc, Option, Some, None, arith}
 use Rattle.std.specs.List.{flat_map}
 use Rattle.std.specs.Prelude.{All, min}
-use Rattle.std.proofs.lemmas.List.{append-nil, get_or_append_left, length-append, length-map, map-append}
+use Rattle.std.proofs.lemmas.List.{append-nil, get_or_append_left, length-append, length-map}
 use Rattle.std.proofs.lemmas.List.Concat.{flat_map-append}
-use Rattle.std.proofs.lemmas.List.Elements.{All-append, All-push, All-tail}
+use Rattle.std.proofs.lemmas.List.Elements.{All-push, All-tail}
 use Rattle.gl_box.specs.declared.closed.Closed.{Closed}
 use Rattle.gl_box.specs.declared.closed.Why.{Why}
 use Rattle.gl_box.specs.Closed.{box_of}
@@ -16,7 +16,7 @@ use Rattle.gl_proof.specs.Line.{AreSpans, EndLine, HeadingLine, ended}
 use Rattle.gl_proof.specs.Code.Passage.{IsClaimRead, AddsBoxes}
 use Rattle.gl_proof.specs.Reading.{AreClaimsAt, IsReadTo}
 use Rattle.gl_proof.specs.Text.{IsTextOf}
-use Rattle.gl_proof.proofs.Appended.{boxes_text, boxes_text-append, claim_text-parts}
+use Rattle.gl_proof.proofs.Appended.{claim_text-parts}
 use Rattle.gl_proof.proofs.Chain.{claims_more, length-claims_more}
 
 all_front : {X : Type 0} (P : X → Type 0) (xs ys : List X) → All P (xs ++ ys) → All P xs
@@ -56,45 +56,35 @@ lines_end v said s rest =
     ∙ ap (λ (l : List ℕ). all ++ l) (ap (λ (l : List ℕ). l ++ rest) (claim_text-parts s) ∙ append_assoc (front_text s) (spelled (map box_line s.boxes)) rest)
 
 -- a claim with other boxes
-abbrev pub with_boxes : List ℕ → ClaimKind → Option ℕ → List ℕ → List Closed → Statement
-with_boxes number kind total fixes boxes = record { number = number; kind = kind; total = total; fixes = fixes; boxes = map box_of boxes }
+abbrev pub with_boxes : List ℕ → ClaimKind → Option ℕ → List ℕ → List (List (ℕ × ℕ) × Why) → Statement
+with_boxes number kind total fixes boxes = record { number = number; kind = kind; total = total; fixes = fixes; boxes = boxes }
 
 length_boxes : (number : List ℕ) (kind : ClaimKind) (total : Option ℕ) (fixes : List ℕ) (boxes : List Closed)
-    → length (claim_lines (with_boxes number kind total fixes boxes)) ≡ 1 + length (fix_lines total fixes) + length boxes
+    → length (claim_lines (with_boxes number kind total fixes (map box_of boxes))) ≡ 1 + length (fix_lines total fixes) + length boxes
 length_boxes number kind total fixes boxes =
     omega (arith, length-append (fix_lines total fixes) (map box_line (map box_of boxes)), length-map (map box_of boxes) box_line, length-map boxes box_of)
 
 -- boxes more of the last claim
-pub boxes_more : (v : Version) (whole : List ℕ) (said : List Statement) (number : List ℕ) (kind : ClaimKind) (total : Option ℕ) (fixes : List ℕ) (front before after : List Closed) (text rest : List ℕ)
+pub boxes_more : (v : Version) (whole : List ℕ) (said : List Statement) (number : List ℕ) (kind : ClaimKind) (total : Option ℕ) (fixes : List ℕ) (before after : List Closed) (text rest : List ℕ)
     (line next count : ℕ) → AddsBoxes text before after rest → count + length before ≡ length after → next ≡ min (line + count) 4_294_967_295
-    → AreClaimsAt v whole (said ++ with_boxes number kind total fixes (front ++ before) ∷ []) text line
-    → AreClaimsAt v whole (said ++ with_boxes number kind total fixes (front ++ after) ∷ []) rest next
-boxes_more v whole said number kind total fixes front before after text rest line next count adds many is_next at =
-    let s = with_boxes number kind total fixes (front ++ before) in
-    let t = with_boxes number kind total fixes (front ++ after) in
+    → AreClaimsAt v whole (said ++ with_boxes number kind total fixes (map box_of before) ∷ []) text line
+    → AreClaimsAt v whole (said ++ with_boxes number kind total fixes (map box_of after) ∷ []) rest next
+boxes_more v whole said number kind total fixes before after text rest line next count adds many is_next at =
+    let s = with_boxes number kind total fixes (map box_of before) in
+    let t = with_boxes number kind total fixes (map box_of after) in
     let all = spelled (HeadingLine v ∷ flat_map claim_lines said) in
     let was : IsStatement s = all_back IsStatement said (s ∷ []) at.each 0 s (omega arith) in
-    let split : All HasSpans (map box_of front ++ map box_of before) = subst (All HasSpans) (map-append box_of front before) was.boxes in
-    let spans : All HasSpans (map box_of (front ++ after)) = subst (All HasSpans) (sym (map-append box_of front after))
-    (All-append HasSpans (map box_of front) (map box_of after) (all_front HasSpans (map box_of front) (map box_of before) split)
-    (adds.each (all_back HasSpans (map box_of front) (map box_of before) split))) in
-    let same : boxes_text (front ++ before) ++ text ≡ boxes_text (front ++ after) ++ rest =
-    ap (λ (l : List ℕ). l ++ text) (boxes_text-append front before) ∙ append_assoc (boxes_text front) (boxes_text before) text
-    ∙ ap (λ (l : List ℕ). boxes_text front ++ l) adds.is
-    ∙ sym (append_assoc (boxes_text front) (boxes_text after) rest) ∙ ap (λ (l : List ℕ). l ++ rest) (sym (boxes_text-append front after)) in
     record {
-      each = All-push IsStatement said t (all_front IsStatement said (s ∷ []) at.each) (record { number = was.number; total = was.total; fixes = was.fixes; boxes = spans });
-      is = at.is ∙ lines_end v said s text ∙ ap (λ (l : List ℕ). all ++ (front_text s ++ l)) same ∙ sym (lines_end v said t rest);
+      each = All-push IsStatement said t (all_front IsStatement said (s ∷ []) at.each) (record { number = was.number; total = was.total; fixes = was.fixes; boxes = adds.each was.boxes });
+      is = at.is ∙ lines_end v said s text ∙ ap (λ (l : List ℕ). all ++ (front_text s ++ l)) adds.is ∙ sym (lines_end v said t rest);
       counted = told_on next line (length (flat_map claim_lines (said ++ s ∷ [])) + 2) count is_next at.counted
           ∙ ap (λ (n : ℕ). min n 4_294_967_295) (omega (
             arith,
             many,
             length-claims_more said s,
             length-claims_more said t,
-            length_boxes number kind total fixes (front ++ before),
-            length_boxes number kind total fixes (front ++ after),
-            length-append front before,
-            length-append front after,
+            length_boxes number kind total fixes before,
+            length_boxes number kind total fixes after,
           ));
     }
 

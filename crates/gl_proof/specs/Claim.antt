@@ -1,8 +1,7 @@
 -- What a claim states, and its lines.
-use Rattle.std.specs.Prelude.{◌≡◌, ℕ, ◌^◌, ◌<◌, ◌≤◌, IsTrue, List, [], ◌∷◌, ◌++◌, length, map, Option, None, Some, IfSome, MatchOption, All}
+use Rattle.std.specs.Prelude.{◌≡◌, ℕ, ◌^◌, ◌<◌, ◌≤◌, IsTrue, Bool, true, false, List, [], ◌∷◌, ◌++◌, length, map, Option, None, Some, IfSome, MatchOption, All}
 use Rattle.std.specs.List.{flat_map}
 use Rattle.gl_box.specs.declared.closed.Why.{Why}
-use Rattle.gl_box.specs.Closed.{box_of}
 use Rattle.gl_box.specs.InLists.{boxes_in}
 use Rattle.gl_proof.specs.declared.claim.ClaimKind.{ClaimKind}
 use Rattle.gl_proof.specs.declared.claim.Claim.{Claim}
@@ -25,7 +24,7 @@ statement_of claim = record {
   kind = claim.kind;
   total = claim.total;
   fixes = claim.fixes.items;
-  boxes = map box_of (boxes_in claim.cells);
+  boxes = boxes_in claim.cells;
 }
 
 -- a claim that can be written: the number is an entrant's, and a total has at most 10 fixes
@@ -69,3 +68,8 @@ abbrev pub front_text : Statement → List ℕ
 front_text statement =
     spelled (ClaimLine statement.number statement.kind statement.total
     ∷ fix_lines statement.total statement.fixes)
+
+-- the text that is left of a claim: its boxes, and what stands before them until that has gone
+abbrev pub left_of : Bool → Statement → List (List (ℕ × ℕ) × Why) → List ℕ
+left_of false statement boxes = front_text statement ++ spelled (map box_line boxes)
+left_of true statement boxes = spelled (map box_line boxes)

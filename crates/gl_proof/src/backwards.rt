@@ -1,7 +1,7 @@
-ghost use Rattle.std.specs.Prelude.{◌≡◌, ◌+◌, ◌*◌, ◌≤◌, ◌++◌, ◌∷◌, length, drop, map};
+ghost use Rattle.std.specs.Prelude.{◌≡◌, ◌+◌, ◌*◌, ◌≤◌, ◌++◌, ◌∷◌, length, drop, map, All};
 ghost use Rattle.std.specs.Fmt.{decimal};
 ghost use Rattle.gl_box.specs.Cell.{ends};
-ghost use Rattle.gl_proof.specs.Words.{span_word, spaced};
+ghost use Rattle.gl_proof.specs.Words.{IsSpan, span_word, spaced};
 
 use gl_box::Span;
 use gl_text::write_digits;
@@ -39,6 +39,7 @@ fn write_number(buffer: &mut [u8], end: usize, number: u32) -> usize
 fn write_span(buffer: &mut [u8], end: usize, span: Span) -> usize
     requires room { 22 ≤ end }
     requires within { end ≤ length buffer.old }
+    ensures span { IsSpan (ends span) }
     ensures start { result ≤ end }
     ensures most { end ≤ result + 22 }
     ensures written { drop result buffer.new
@@ -55,6 +56,7 @@ fn write_span(buffer: &mut [u8], end: usize, span: Span) -> usize
 pub fn write_spans(buffer: &mut [u8], end: usize, spans: &[Span]) -> usize
     requires room { 22 * length spans.now ≤ end }
     requires within { end ≤ length buffer.old }
+    ensures each { All IsSpan (map ends spans.now) }
     ensures start { result ≤ end }
     ensures written { drop result buffer.new
         ≡ spaced (map span_word (map ends spans.now)) ++ drop end buffer.old }

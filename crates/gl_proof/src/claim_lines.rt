@@ -104,7 +104,7 @@ pub fn claim_at(alloc: Global, text: &[u8], line: u32) -> Result<(Claim, &[u8], 
         kind: front.kind,
         total: front.total,
         fixes,
-        cells: Boxes::from_list(cells),
+        cells: Boxes::Listed(cells),
     };
     Ok((claim, rest, next))
 }

@@ -13,6 +13,7 @@ use crate::proof::Proof;
 use crate::read::{heading_at, read_claims, read_lines};
 use crate::told::later;
 use crate::version::Version;
+use gl_box::Boxes;
 use std::alloc::{AllocError, Global};
 
 /// More bytes than any line of a proof has, and than the two lines with which a claim begins: where
@@ -48,13 +49,27 @@ fn add_to_last<'a>(
         → AreClaimsAt version whole (map statement_of claims.new.items) rest.now line.new) }
     ensures last { IfOk result (λ rest. 0 < length claims.new.items → NoBox rest.now) }
 {
-    let Some(mut claim) = claims.pop() else {
+    let Some(claim) = claims.pop() else {
         return Ok(text);
     };
-    let before = claim.cells.last.len();
-    let rest = add_boxes_at(&mut claim.cells.last, text)?;
-    *line = later(*line, claim.cells.last.len() - before);
-    claims.push(claim)?;
+    let Claim {
+        number,
+        kind,
+        total,
+        fixes,
+        cells,
+    } = claim;
+    let mut cells = cells.into_list(*claims.allocator())?;
+    let before = cells.len();
+    let rest = add_boxes_at(&mut cells, text)?;
+    *line = later(*line, cells.len() - before);
+    claims.push(Claim {
+        number,
+        kind,
+        total,
+        fixes,
+        cells: Boxes::Listed(cells),
+    })?;
     Ok(rest)
 }
 

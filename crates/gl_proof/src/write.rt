@@ -1,18 +1,18 @@
-ghost use Rattle.std.specs.Prelude.{◌≡◌, ℕ, List, [], ◌∷◌, ◌++◌, map, codes, OnOk, OnErr};
+ghost use Rattle.std.specs.Prelude.{◌≡◌, [], ◌∷◌, ◌++◌, map, codes, All, IfOk, OnOk, OnErr};
 ghost use Rattle.std.specs.Fmt.{decimal};
-ghost use Rattle.std.specs.List.{flat_map};
 ghost use Rattle.gl_box.specs.Cell.{spans_of};
-ghost use Rattle.gl_box.specs.Closed.{box_of};
+ghost use Rattle.gl_box.specs.InLists.{still_in};
 ghost use Rattle.gl_proof.specs.Kept.{Keeps};
-ghost use Rattle.gl_proof.specs.Words.{spaced, span_word, total_word};
-ghost use Rattle.gl_proof.specs.Claim.{IsWritable, box_line, claim_text, front_text, spelled, statement_of};
-ghost use Rattle.gl_proof.specs.Line.{BoxLine, ClaimLine, FixLine, ended, kind_word, reason_word};
+ghost use Rattle.gl_proof.specs.Words.{IsSpan, spaced, span_word};
+ghost use Rattle.gl_proof.specs.Claim.{IsWritable, claim_text, front_text, left_of, statement_of};
+ghost use Rattle.gl_proof.specs.Line.{ClaimLine, FixLine, ended, kind_word, reason_word};
 
 use crate::backwards::{SPAN_ROOM, write_spans};
 use crate::claim::{Claim, ClaimKind};
+use crate::lines_left::{LinesLeft, write_all};
 use crate::push::{push_number, push_total, push_word};
-use gl_box::{Closed, MOST_AXES, Why};
-use std::alloc::AllocError;
+use gl_box::{BoxesLeft, Cell, MOST_AXES, Why};
+use std::alloc::{AllocError, Global};
 
 /// Room for the spans of a box and LF behind them.
 const LINE_ROOM: usize = MOST_AXES * SPAN_ROOM + 1;
@@ -51,16 +51,18 @@ fn push_fixes(out: &mut Vec<u8>, fixes: &[u32]) -> Result<(), AllocError>
     Ok(())
 }
 
-/// Appends the line of a box.
-fn push_box_line(out: &mut Vec<u8>, closed: &Closed) -> Result<(), AllocError>
-    ensures ok { OnOk result (out.new.items
-        ≡ out.old.items ++ ended (BoxLine closed.now.why (spans_of closed.now.cell))) }
+/// Appends the line of a box that begins with some words. The only error is want of memory; `out`
+/// has then what it had, and perhaps more.
+pub fn push_box(out: &mut Vec<u8>, words: &[u8], cell: &Cell) -> Result<(), AllocError>
+    ensures spans { OnOk result (All IsSpan (spans_of cell.now)) }
+    ensures ok { OnOk result (out.new.items ≡ out.old.items
+        ++ (words.now ++ (spaced (map span_word (spans_of cell.now)) ++ 10 ∷ []))) }
     ensures err { OnErr result (Keeps out.old.items out.new.items) }
 {
     let mut line = [b'\n'; LINE_ROOM];
-    let spans = &closed.cell.spans[..closed.cell.axes as usize];
+    let spans = &cell.spans[..cell.axes as usize];
     let start = write_spans(&mut line, LINE_ROOM - 1, spans);
-    out.extend_from_slice(box_words(closed.why))?;
+    out.extend_from_slice(words)?;
     out.extend_from_slice(&line[start..])
 }
 
@@ -94,24 +96,8 @@ fn push_claim_line(
     Ok(())
 }
 
-/// Appends the lines of boxes, so that a claim with millions of them can be written piece by piece.
-/// The
-/// only error is want of memory; `out` has then what it had, and perhaps more.
-pub fn write_boxes(out: &mut Vec<u8>, cells: &[Closed]) -> Result<(), AllocError>
-    ensures ok { OnOk result (out.new.items
-        ≡ out.old.items ++ spelled (map box_line (map box_of cells.now))) }
-    ensures err { OnErr result (Keeps out.old.items out.new.items) }
-{
-    for closed in cells {
-        push_box_line(out, closed)?;
-    }
-    Ok(())
-}
-
-/// Appends the lines of a claim that stand before its boxes. The only error is want of memory;
-/// `out` has
-/// then what it had, and perhaps more.
-pub fn write_front(out: &mut Vec<u8>, claim: &Claim) -> Result<(), AllocError>
+/// Appends the lines of a claim that stand before its boxes.
+fn push_front(out: &mut Vec<u8>, claim: &Claim) -> Result<(), AllocError>
     ensures ok { OnOk result
         (out.new.items ≡ out.old.items ++ front_text (statement_of claim.now)) }
     ensures err { OnErr result (Keeps out.old.items out.new.items) }
@@ -124,16 +110,47 @@ pub fn write_front(out: &mut Vec<u8>, claim: &Claim) -> Result<(), AllocError>
     }
 }
 
-/// Appends the lines of the boxes of lists that follow one another.
-fn push_lists(out: &mut Vec<u8>, lists: &[Vec<Closed>]) -> Result<(), AllocError>
-    ensures ok { OnOk result (out.new.items ≡ out.old.items
-        ++ spelled (map box_line (map box_of (flat_map (λ list. list.items) lists.now)))) }
-    ensures err { OnErr result (Keeps out.old.items out.new.items) }
-{
-    for list in lists {
-        write_boxes(out, list.as_slice())?;
+/// The lines of a claim that are still to come.
+#[derive(Drop)]
+pub struct ClaimLines<'a> {
+    pub claim: &'a Claim,
+    /// Whether the lines before the boxes have gone.
+    pub begun: bool,
+    pub boxes: BoxesLeft<'a>,
+}
+
+impl Claim {
+    /// The lines of the claim, as docs/proof-file.md has them. The only error is want of memory.
+    pub fn lines(&self, alloc: Global) -> Result<ClaimLines<'_>, AllocError>
+        ensures { IfOk result (λ lines. left_of lines.begun (statement_of lines.claim.now)
+            (still_in lines.boxes) ≡ claim_text (statement_of self.now)) }
+    {
+        Ok(ClaimLines {
+            claim: self,
+            begun: false,
+            boxes: self.cells.each(alloc)?,
+        })
     }
-    Ok(())
+}
+
+impl LinesLeft for ClaimLines<'_> {
+    ghost left = { λ lines.
+        left_of lines.begun (statement_of lines.claim.now) (still_in lines.boxes) };
+
+    fn push_line(&mut self, out: &mut Vec<u8>) -> Result<bool, AllocError> {
+        if !self.begun {
+            push_front(out, self.claim)?;
+            self.begun = true;
+            return Ok(true);
+        }
+        match self.boxes.next()? {
+            Some(closed) => {
+                push_box(out, box_words(closed.why), &closed.cell)?;
+                Ok(true)
+            }
+            None => Ok(false),
+        }
+    }
 }
 
 /// Appends the lines of a claim.
@@ -142,9 +159,8 @@ fn push_claim(out: &mut Vec<u8>, claim: &Claim) -> Result<(), AllocError>
         (out.new.items ≡ out.old.items ++ claim_text (statement_of claim.now)) }
     ensures err { OnErr result (Keeps out.old.items out.new.items) }
 {
-    write_front(out, claim)?;
-    push_lists(out, claim.cells.lists.as_slice())?;
-    write_boxes(out, claim.cells.last.as_slice())
+    let lines = claim.lines(*out.allocator())?;
+    write_all(out, lines)
 }
 
 /// Appends just the lines of a claim, as docs/proof-file.md has them. The only error is want of

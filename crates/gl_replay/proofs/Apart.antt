@@ -2,28 +2,23 @@
 use Rattle.std.proofs.Common.{◌≡◌, sym, refl, subst, ℕ, ◌+◌, List, [], ◌∷◌, ◌++◌, map, arith}
 use Rattle.std.specs.Prelude.{All, IsPermutation, Option}
 use Rattle.std.specs.List.{AllZip}
-use Rattle.std.proofs.lemmas.List.{map-append}
-use Rattle.std.proofs.lemmas.List.Elements.{All-append, All-cons, All-head, All-map, All-nil, All-tail, All-weaker, Contains-append_right, Contains-get_or}
+use Rattle.std.proofs.lemmas.List.Elements.{All-append, All-cons, All-head, All-nil, All-tail, All-weaker, Contains-append_right, Contains-get_or}
 use Rattle.std.proofs.lemmas.List.Sorted.{IsPermutation-append_right, IsPermutation-refl, IsPermutation-trans}
-use Rattle.gl_box.specs.declared.closed.Closed.{Closed}
 use Rattle.gl_box.specs.declared.closed.Why.{Why}
 use Rattle.gl_box.specs.Cell.{spans_of}
 use Rattle.gl_box.specs.Closed.{box_of}
-use Rattle.gl_box.specs.Frontier.{mult}
+use Rattle.gl_box.specs.Frontier.{IsNode, mult}
 use Rattle.gl_box.proofs.Nodes.{covers_node}
 use Rattle.gl_box.proofs.Parts.{mult-append}
 use Rattle.gl_goal.specs.Goal.{Goal}
 use Rattle.gl_goal.specs.Certificate.{IsClosedFor}
-use Rattle.gl_order.specs.Order.{cells_of}
 use Rattle.gl_order.proofs.Flat.{turned}
 use Rattle.gl_plain.specs.declared.part.Part.{Part}
 use Rattle.gl_plain.specs.declared.part.Part.TheVariants.{Open, Done}
 use Rattle.gl_plain.specs.Parts.{GivesWay, IsDoneFor, cell_of}
 use Rattle.gl_plain.proofs.GivenWay.{joined}
-use Rattle.gl_plain.proofs.Roots.{All_members}
 use Rattle.gl_replay.specs.Code.Parts.{done_in, opened_in}
 use Rattle.gl_replay.specs.Replayed.{LiesInOne}
-use Rattle.gl_text.proofs.Lists.{All-unmap}
 
 abbrev Box : Type 0
 Box = List (ℕ × ℕ) × Why
@@ -32,12 +27,12 @@ lies_further : (root : List (ℕ × ℕ)) (roots : List (List (ℕ × ℕ))) (bo
 lies_further root roots box lies = (lies.0, Contains-append_right (root ∷ []) roots lies.0 lies.1, lies.2)
 
 -- The boxes are those of the closed parts, and others, which lie in the open cells.
-pub record Apart (parts : List Part) (boxes : List Closed) : Type 0 where
+pub record Apart (parts : List Part) (boxes : List Box) : Type 0 where
   pub finished : List Box
-  pub boxes_are : IsPermutation (done_in parts ++ finished) (map box_of boxes)
+  pub boxes_are : IsPermutation (done_in parts ++ finished) boxes
   pub inside : All (λ box. LiesInOne (opened_in parts) box.0) finished
 
-pub apart : (parts : List Part) (lists : List (List Closed)) → AllZip GivesWay parts lists → Apart parts (joined lists)
+pub apart : (parts : List Part) (lists : List (List Box)) → AllZip GivesWay parts lists → Apart parts (joined lists)
 apart [] [] each = record { finished = []; boxes_are = IsPermutation-refl []; inside = All-nil (λ (box : Box). LiesInOne [] box.0) }
 apart [] (list ∷ lists) each = absurd each
 apart (part ∷ parts) [] each = absurd each
@@ -45,25 +40,22 @@ apart (Open cell ∷ parts) (list ∷ lists) each =
     let rest = apart parts lists each.1 in
     let roots = spans_of cell ∷ opened_in parts in
     let P : Box → Type 0 = λ box. LiesInOne roots box.0 in
-    let within : All (LiesInOne roots) (cells_of list) =
-    All_members (LiesInOne roots) (spans_of cell) (cells_of list) each.0 (λ node below. (spans_of cell, Contains-get_or roots 0 (spans_of cell) (omega arith), covers_node (spans_of cell) node below)) in
-    let here : All P (map box_of list) = All-map P box_of list (All-unmap (LiesInOne roots) (λ (b : Closed). spans_of b.cell) list within) in
+    let here : All P list = All-weaker (λ (box : Box). IsNode (spans_of cell) box.0) P
+    (λ box node. (spans_of cell, Contains-get_or roots 0 (spans_of cell) (omega arith), covers_node (spans_of cell) box.0 node)) list each.0 in
     let there : All P rest.finished = All-weaker (λ (box : Box). LiesInOne (opened_in parts) box.0) P (lies_further (spans_of cell) (opened_in parts)) rest.finished rest.inside in
-    let moved : IsPermutation (done_in parts ++ (map box_of list ++ rest.finished)) (map box_of list ++ map box_of (joined lists)) =
-    IsPermutation-trans (done_in parts ++ (map box_of list ++ rest.finished)) (map box_of list ++ (done_in parts ++ rest.finished)) (map box_of list ++ map box_of (joined lists))
-    (turned (done_in parts) (map box_of list) rest.finished) (IsPermutation-append_right (map box_of list) (done_in parts ++ rest.finished) (map box_of (joined lists)) rest.boxes_are) in
     record {
-      finished = map box_of list ++ rest.finished;
-      boxes_are = subst (IsPermutation (done_in parts ++ (map box_of list ++ rest.finished))) (sym (map-append box_of list (joined lists))) moved;
-      inside = All-append P (map box_of list) rest.finished here there;
+      finished = list ++ rest.finished;
+      boxes_are = IsPermutation-trans (done_in parts ++ (list ++ rest.finished)) (list ++ (done_in parts ++ rest.finished)) (list ++ joined lists)
+          (turned (done_in parts) list rest.finished) (IsPermutation-append_right list (done_in parts ++ rest.finished) (joined lists) rest.boxes_are);
+      inside = All-append P list rest.finished here there;
     }
 apart (Done closed ∷ parts) (list ∷ lists) each =
     let rest = apart parts lists each.1 in
     let first = box_of closed ∷ [] in
     record {
       finished = rest.finished;
-      boxes_are = subst (λ (l : List Closed). IsPermutation (box_of closed ∷ (done_in parts ++ rest.finished)) (map box_of (l ++ joined lists))) (sym each.0)
-          (IsPermutation-append_right first (done_in parts ++ rest.finished) (map box_of (joined lists)) rest.boxes_are);
+      boxes_are = subst (λ (l : List Box). IsPermutation (box_of closed ∷ (done_in parts ++ rest.finished)) (l ++ joined lists)) (sym each.0)
+          (IsPermutation-append_right first (done_in parts ++ rest.finished) (joined lists) rest.boxes_are);
       inside = rest.inside;
     }
 

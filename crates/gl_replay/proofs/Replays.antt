@@ -18,9 +18,7 @@ use Rattle.gl_box.specs.Frontier.{IsNode, mult}
 use Rattle.gl_box.proofs.Parts.{mult-append}
 use Rattle.gl_goal.specs.Goal.{Goal, IsReached, whole_cell}
 use Rattle.gl_goal.specs.Certificate.{IsClosedFor}
-use Rattle.gl_box.specs.InLists.{boxes_in}
 use Rattle.gl_goal.specs.declared.best.Best.{Best}
-use Rattle.gl_plain.specs.declared.search.Finished.{Finished}
 use Rattle.gl_replay.specs.declared.machine.Machine.{Machine}
 use Rattle.gl_replay.specs.declared.replayed.Left.{Left}
 use Rattle.gl_replay.specs.declared.replayed.Replayed.{Replayed}
@@ -238,11 +236,6 @@ left_parts rule workers steps left of = record {
       );
 }
 
-pub ordered_nodes : (rule : Goal) (workers : ℕ) (steps : List Step) (left : Left) (ordered : List Part) → IsLeft rule workers steps left → IsPermutation left.parts.items ordered
-    → All (λ part. IsNode (whole_cell rule.axes) (cell_of part)) ordered
-ordered_nodes rule workers steps left ordered of moved =
-    All-permutation (λ (part : Part). IsNode (whole_cell rule.axes) (cell_of part)) left.parts.items ordered moved (left_nodes rule workers steps left of)
-
 pub ordered_done : (rule : Goal) (workers : ℕ) (steps : List Step) (left : Left) (ordered : List Part) → IsLeft rule workers steps left → IsPermutation left.parts.items ordered
     → All (IsDoneFor rule (total_of left.known)) ordered
 ordered_done rule workers steps left ordered of moved =
@@ -252,24 +245,23 @@ ordered_done rule workers steps left ordered of moved =
 
 -- what is answered
 
-pub replay_made : (rule : Goal) (workers : ℕ) (steps : List Step) (left : Left) (ordered : List Part) (found : Finished) (replayed : Replayed) → IsLeft rule workers steps left
-    → IsPermutation left.parts.items ordered → IsFinished rule ordered left.known found → boxes_in replayed.found.closed ≡ found.closed.items
-    → replayed.by_steps ≡ length (done_in left.parts.items) → IsReplay rule workers steps replayed
-replay_made rule workers steps left ordered found replayed of moved end are count =
+pub replay_made : (rule : Goal) (workers : ℕ) (steps : List Step) (left : Left) (ordered : List Part) (replayed : Replayed) → IsLeft rule workers steps left
+    → IsPermutation left.parts.items ordered → IsFinished rule ordered left.known replayed.found → replayed.by_steps ≡ length (done_in left.parts.items) → IsReplay rule workers steps replayed
+replay_made rule workers steps left ordered replayed of moved end count =
     let split = apart ordered end.gave.lists end.gave.each in
     let done_moved = flat-permutation done left.parts.items ordered moved in
     let opened_moved = flat-permutation opened left.parts.items ordered moved in
-    let joined_ : IsPermutation (done_in left.parts.items ++ split.finished) (map box_of (joined end.gave.lists)) =
-    IsPermutation-trans (done_in left.parts.items ++ split.finished) (done_in ordered ++ split.finished) (map box_of (joined end.gave.lists))
+    let all = joined end.gave.lists in
+    let joined_ : IsPermutation (done_in left.parts.items ++ split.finished) all =
+    IsPermutation-trans (done_in left.parts.items ++ split.finished) (done_in ordered ++ split.finished) all
     (IsPermutation-append_left split.finished (done_in left.parts.items) (done_in ordered) done_moved) split.boxes_are in
-    let answered : map box_of (joined end.gave.lists) ≡ map box_of (boxes_in replayed.found.closed) = ap (map box_of) (sym (are ∙ end.gave.all)) in
     record {
       state = of.state;
       after = of.after;
       safe = left_safe rule workers steps left of;
       only = λ other also. runs_one rule steps (start rule workers) other of.state also of.after;
       finished = split.finished;
-      boxes = subst (IsPermutation (closed_in of.state ++ split.finished)) answered (subst (λ (cs : List Box). IsPermutation (cs ++ split.finished) (map box_of (joined end.gave.lists))) of.closed joined_);
+      boxes = subst (IsPermutation (closed_in of.state ++ split.finished)) (sym end.gave.all) (subst (λ (cs : List Box). IsPermutation (cs ++ split.finished) all) of.closed joined_);
       inside = All-weaker (λ (box : Box). LiesInOne (opened_in ordered) box.0) (λ (box : Box). LiesInOne (open_in of.state) box.0)
           (λ box lies.
           let back = Contains-permutation (opened_in ordered) (opened_in left.parts.items) lies.0 (IsPermutation-sym (opened_in left.parts.items) (opened_in ordered) opened_moved) lies.1 in

@@ -1,10 +1,9 @@
 -- What a written order of steps comes to, and what is answered once the open cells are searched.
-use Rattle.std.specs.Prelude.{◌≡◌, ℕ, List, ◌++◌, length, map, All, Contains, IsPermutation}
+use Rattle.std.specs.Prelude.{◌≡◌, ℕ, List, ◌++◌, length, All, Contains, IsPermutation}
 use Rattle.gl_box.specs.declared.closed.Why.{Why}
 use Rattle.gl_box.specs.Cell.{Covers}
-use Rattle.gl_box.specs.Closed.{box_of}
 use Rattle.gl_goal.specs.Goal.{Goal}
-use Rattle.gl_box.specs.InLists.{boxes_in}
+use Rattle.gl_plain.specs.Found.{boxes_of}
 use Rattle.gl_replay.specs.declared.replayed.Replayed.{Replayed}
 use Rattle.gl_replay.specs.declared.schedule.Step.{Step}
 use Rattle.gl_replay.specs.Machine.{IsAfter, State, closed_in, open_in}
@@ -24,7 +23,6 @@ pub record IsReplay (goal : Goal) (workers : ℕ) (steps : List Step)
   pub only : (other : State) → IsAfter goal workers steps other → other ≡ state
   pub safe : IsSafe goal state
   pub finished : List (List (ℕ × ℕ) × Why)
-  pub boxes :
-      IsPermutation (closed_in state ++ finished) (map box_of (boxes_in replayed.found.closed))
+  pub boxes : IsPermutation (closed_in state ++ finished) (boxes_of replayed.found)
   pub inside : All (λ box. LiesInOne (open_in state) box.0) finished
   pub by_steps : replayed.by_steps ≡ length (closed_in state)

@@ -11,10 +11,10 @@ ghost use Rattle.gl_goal.specs.Best.{IsNoLess, IsSound, total_of};
 use crate::machine::Machine;
 use crate::schedule::Step;
 use crate::worker::Worker;
-use gl_box::{Boxes, Cell, Closed};
+use gl_box::{Cell, Closed};
 use gl_goal::{Best, Goal, better, whole};
 use gl_order::sorted;
-use gl_plain::{Finished, Found, Part, finish};
+use gl_plain::{Found, Part, finish};
 use std::alloc::{AllocError, Global};
 
 /// What a search by a written order of steps answers.
@@ -159,10 +159,6 @@ pub fn replay<G: Goal>(
     } = work(alloc, goal, workers, steps)?;
     let by_steps = count_done(&parts) as u32;
     let parts = sorted(alloc, &whole(goal), parts)?;
-    let Finished { best, closed } = finish(alloc, goal, known, &parts)?;
-    let closed = Boxes::from_list(closed);
-    Ok(Replayed {
-        found: Found { best, closed },
-        by_steps,
-    })
+    let found = finish(alloc, goal, known, &parts)?;
+    Ok(Replayed { found, by_steps })
 }

@@ -1,1 +1,2 @@
 pub mod FreeExamples
+pub mod NearExamples

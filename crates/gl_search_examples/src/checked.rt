@@ -1,5 +1,6 @@
 ghost use Rattle.std.specs.Prelude.{◌≤◌};
 
+use gl_box::Boxes;
 use gl_check::{Verdict, check_claim};
 use gl_goal::{FreeGoal, TriangleGoal};
 use gl_igc::Fix;
@@ -127,8 +128,9 @@ fn said_of_none(alloc: Global, goal: &TriangleGoal, boxes: &str) -> Result<Verdi
     let text = format!(in alloc; "GLIDEPROOF 2\nCLAIM EE TRIANGLE NONE\n{boxes}END\n")?;
     let proof = read_proof(alloc, text.as_bytes())?;
     let claim = proof.claims.first().ok_or("a claim")?;
-    if claim.cells.joined(alloc)?.len() != 64 {
-        return Err("64 boxes")?;
+    match &claim.cells {
+        Boxes::Listed(boxes) if boxes.len() == 64 => {}
+        _ => return Err("64 boxes")?,
     }
     Ok(check_claim(alloc, goal, claim)?)
 }

@@ -2,6 +2,7 @@ ghost use Rattle.std.specs.Prelude.{◌≤◌};
 
 use gl_igc::read_igc;
 use gl_near::*;
+use gl_proof::write_all;
 use gl_sphere::{read_place, vector};
 use std::alloc::{AllocError, Global};
 use std::process::Abort;
@@ -42,13 +43,15 @@ fn pair(total: u64, first: u32, second: u32) -> Option<NearBest> {
     })
 }
 
-/// Whether a claim is read of a text.
-fn is_read(alloc: Global, claim: &NearClaim, text: &[u8]) -> Result<bool, NearError> {
-    let read = read_near(alloc, text)?;
-    Ok(read.best == claim.best && read.closed.as_slice() == claim.closed.as_slice())
+/// The text of the proof of what was found, line by line.
+fn text_of(alloc: Global, found: &NearFound) -> Result<Vec<u8>, AllocError> {
+    let mut text = Vec::new(alloc);
+    write_all(&mut text, found.lines(alloc)?)?;
+    Ok(text)
 }
 
-/// Asserts what is found, that it is a certificate, and its text.
+/// Asserts what is found, the text of its proof, and that it is read as a certificate, which has
+/// that text again.
 fn found(
     rt: &(impl AllocGlobal + Abort),
     pairs: &Pairs,
@@ -56,13 +59,10 @@ fn found(
     text: &[u8],
 ) -> Result<(), Fail> {
     let found = search_near(rt.alloc(), pairs)?;
-    let claim = NearClaim {
-        best: found.best,
-        closed: found.closed,
-    };
+    assert_eq!(rt; text_of(rt.alloc(), &found)?.as_slice(), text);
+    let claim = read_near(rt.alloc(), text)?;
     assert_eq!(rt; claim.best, best);
     assert_eq!(rt; check_near(rt.alloc(), pairs, &claim)?, NearVerdict::Yes);
-    assert!(rt; is_read(rt.alloc(), &claim, text)?);
     let mut out = Vec::new(rt.alloc());
     write_near(&mut out, &claim)?;
     assert_eq!(rt; out.as_slice(), text);
@@ -91,10 +91,7 @@ fn no_pair_and_a_proof_of_it(rt: HostRuntime) -> Result<(), Fail> {
     let none = pairs_of(&rt, TO_NORTH, ALONE, 0)?;
     let text = b"GLIDENEAR 1\nLEAST NONE\nBOX T 0-0 0-0\nBOX T 1-1 0-0\nEND\n";
     found(&rt, &none, None, text)?;
-    let mut claim = NearClaim {
-        best: None,
-        closed: search_near(rt.alloc(), &none)?.closed,
-    };
+    let mut claim = read_near(rt.alloc(), text)?;
     let _last = claim.closed.pop();
     assert_eq!(rt; check_near(rt.alloc(), &none, &claim)?, NearVerdict::Open);
     Ok(())

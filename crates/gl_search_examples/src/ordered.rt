@@ -1,5 +1,5 @@
 // Boxes that come in any order are put into that of the search which closed them.
-ghost use Rattle.std.specs.Prelude.{◌≡◌, ◌<◌, ◌≤◌, length, IsPermutation};
+ghost use Rattle.std.specs.Prelude.{◌<◌, ◌≤◌, length, IsPermutation};
 
 use gl_box::Closed;
 use gl_goal::{FreeGoal, whole};
@@ -64,7 +64,7 @@ fn come_back(rt: &(impl AllocGlobal + Abort), fixes: &[Fix]) -> Result<(), Fail>
     let goal = FreeGoal::new(rt.alloc(), fixes, 0, last, 1_000)?;
     for way in [Shuffle::Reversed, Shuffle::Rotated, Shuffle::Swapped] {
         let found = search_one(rt.alloc(), &goal)?;
-        let mut boxes = found.closed.into_list()?;
+        let mut boxes = found.closed.to_list(rt.alloc())?;
         let searched = boxes.clone()?;
         disorder(&mut boxes, way);
         assert!(rt; boxes.as_slice() != searched.as_slice(), "{way:?}");

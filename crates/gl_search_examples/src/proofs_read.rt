@@ -1,4 +1,4 @@
-use gl_box::{Boxes, Cell, Closed, Tuple, Why};
+use gl_box::{Boxes, Cell, Closed, GoalTurn, Span, Tuple, Walk, Why};
 use gl_desk::Name;
 use gl_proof::*;
 use std::alloc::{AllocError, Global};
@@ -173,7 +173,7 @@ fn a_claim_is_written(rt: HostRuntime) -> Result<(), Fail> {
         kind: ClaimKind::Out,
         total: Some(11_119_492),
         fixes: [2].to_vec(rt.alloc())?,
-        cells: Boxes::from_list([first_box()].to_vec(rt.alloc())?),
+        cells: Boxes::Listed([first_box()].to_vec(rt.alloc())?),
     };
     let mut text = b"GLIDEPROOF 2\n".to_vec(rt.alloc())?;
     write_claim(&mut text, &claim)?;
@@ -182,30 +182,33 @@ fn a_claim_is_written(rt: HostRuntime) -> Result<(), Fail> {
     Ok(())
 }
 
-/// Three equal boxes in three lists.
-fn three_boxes(alloc: Global) -> Result<Boxes, AllocError> {
-    let mut cells = Boxes::empty(alloc);
-    for apart in [false, true, true] {
-        if apart {
-            cells.begin_list()?;
-        }
-        cells.push(first_box())?;
-    }
-    Ok(cells)
+/// A walk over two places on a single axis: they are cut, the first one is closed as disordered and
+/// the second one by its bound.
+fn walk_over_two(alloc: Global) -> Result<Boxes, AllocError> {
+    let both = Span { lo: 0, hi: 1 };
+    let none = Span { lo: 0, hi: 0 };
+    let whole = Cell {
+        axes: 1,
+        spans: [both, none, none, none, none, none, none, none, none, none],
+    };
+    Ok(Boxes::Walked(Walk {
+        opened: [whole].to_vec(alloc)?,
+        turns: [GoalTurn::Cut, GoalTurn::Disordered, GoalTurn::Bound].to_vec(alloc)?,
+    }))
 }
 
 #[test]
-fn boxes_of_several_lists_are_written_one_after_the_other(rt: HostRuntime) -> Result<(), Fail> {
+fn boxes_of_a_walk_are_written_one_after_the_other(rt: HostRuntime) -> Result<(), Fail> {
     let claim = Claim {
         number: Name::from_text(rt.alloc(), "CC")?,
         kind: ClaimKind::Out,
         total: None,
         fixes: Vec::new(rt.alloc()),
-        cells: three_boxes(rt.alloc())?,
+        cells: walk_over_two(rt.alloc())?,
     };
     let mut text = Vec::new(rt.alloc());
     write_claim(&mut text, &claim)?;
-    let lines: &[u8] = b"CLAIM CC OUT NONE\nBOX B 0-0\nBOX B 0-0\nBOX B 0-0\n";
+    let lines: &[u8] = b"CLAIM CC OUT NONE\nBOX D 0-0\nBOX B 1-1\n";
     assert_eq!(rt; text.as_slice(), lines);
     Ok(())
 }

@@ -186,7 +186,7 @@ fn a_stolen_half_is_closed(rt: HostRuntime) -> Result<(), Fail> {
     let both = Span { lo: 0, hi: 1 };
     let disordered = closed([later, first, both, both, both], Why::Disordered);
     assert_eq!(rt; answer.by_steps, 1);
-    let boxes = answer.found.closed.into_list()?;
+    let boxes = answer.found.closed.to_list(rt.alloc())?;
     assert!(rt; boxes.iter().any(|it| *it == disordered));
     Ok(())
 }
@@ -204,7 +204,7 @@ fn the_whole_cell_in_a_hand(rt: HostRuntime) -> Result<(), Fail> {
         let answer = replayed(rt.alloc(), &fixes, 1, plan)?;
         let bound = closed([Span { lo: 0, hi: 0 }; 5], Why::Bound);
         assert_eq!(rt; answer.by_steps, by_steps, "{plan}");
-        let boxes = answer.found.closed.into_list()?;
+        let boxes = answer.found.closed.to_list(rt.alloc())?;
         assert_eq!(rt; boxes.as_slice(), [bound].as_slice());
     }
     Ok(())

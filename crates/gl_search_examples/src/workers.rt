@@ -1,6 +1,6 @@
 // What one worker of a search by several does, with nobody beside it.
 use gl_best::BestWord;
-use gl_box::{Boxes, Closed};
+use gl_box::Boxes;
 use gl_check::{Verdict, check_claim};
 use gl_deal::{Place, deal};
 use gl_desk::Name;
@@ -71,16 +71,6 @@ fn verdict_on(alloc: Global, goal: &FreeGoal, cells: Boxes) -> Result<Verdict, A
     check_claim(alloc, goal, &claim)
 }
 
-/// The boxes, each in a list of its own.
-fn lists_of_one(alloc: Global, boxes: &[Closed]) -> Result<Boxes, AllocError> {
-    let mut cells = Boxes::empty(alloc);
-    for closed in boxes {
-        cells.begin_list()?;
-        cells.push(*closed)?;
-    }
-    Ok(cells)
-}
-
 #[test]
 fn a_worker_keeps_only_what_it_has_not_heard_of(rt: HostRuntime) -> Result<(), Fail> {
     let goal = one_degree(rt.alloc())?;
@@ -91,9 +81,7 @@ fn a_worker_keeps_only_what_it_has_not_heard_of(rt: HostRuntime) -> Result<(), F
         assert_eq!(rt; share.kept.map(|best| best.total), kept);
         assert!(rt; share.strange.is_empty());
         assert_eq!(rt; place.hand.take(), None);
-        let apart = lists_of_one(rt.alloc(), share.closed.as_slice())?;
-        assert_eq!(rt; verdict_on(rt.alloc(), &goal, apart)?, Verdict::Yes);
-        let cells = Boxes::from_list(share.closed);
+        let cells = Boxes::Listed(share.closed);
         assert_eq!(rt; verdict_on(rt.alloc(), &goal, cells)?, Verdict::Yes);
     }
     Ok(())

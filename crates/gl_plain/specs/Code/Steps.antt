@@ -1,18 +1,16 @@
--- A search under way: the closed boxes and then the open cells, the last one first, part the tuples
--- of the cell that it began with.
-use Rattle.std.specs.Prelude.{List, All, ℕ, map, Option, ◌≡◌, ◌⊎◌, [], ◌∷◌, ◌++◌, reverse}
+-- A search under way: what it closed, and the cells that are still open, the last one first.
+use Rattle.std.specs.Prelude.{List, All, ℕ, Option, ◌≡◌, ◌⊎◌, ◌∷◌, ◌++◌}
+use Rattle.gl_box.specs.Along.{Closes, Cuts}
 use Rattle.gl_box.specs.Cell.{Covers, spans_of}
-use Rattle.gl_box.specs.Frontier.{IsFrontier, IsNode}
-use Rattle.gl_box.specs.Halves.{AreHalves}
+use Rattle.gl_box.specs.Frontier.{IsNode}
+use Rattle.gl_box.specs.Turns.{boxes_from, left_open}
+use Rattle.gl_box.specs.Walk.{open_cells}
 use Rattle.gl_box.specs.declared.cell.Cell.{Cell}
-use Rattle.gl_box.specs.declared.closed.Closed.{Closed}
 use Rattle.gl_box.specs.declared.closed.Why.{Why}
 use Rattle.gl_goal.specs.Certificate.{IsClosedFor}
 use Rattle.gl_goal.specs.Goal.{Goal, whole_cell, IsOpen}
 use Rattle.gl_goal.specs.Best.{IsSound, total_of}
-use Rattle.gl_order.specs.Order.{cells_of}
 use Rattle.gl_plain.specs.Search.{IsHalfOfOpen}
-use Rattle.gl_plain.specs.Steps.{Closes}
 use Rattle.gl_plain.specs.declared.dive.Candidate.{Candidate}
 use Rattle.gl_goal.specs.declared.best.Best.{Best}
 
@@ -21,61 +19,67 @@ abbrev pub AreWithin : Goal → List Candidate → Type 0
 AreWithin goal candidates =
     All (λ candidate. Covers (whole_cell goal.axes) (spans_of candidate.cell)) candidates
 
--- a cell that a search from a root comes to: the root, or a half of a node that had to be cut
-abbrev pub IsMetFrom : Goal → List (ℕ × ℕ) → List (ℕ × ℕ) → Type 0
-IsMetFrom goal root cell = (cell ≡ root) ⊎ IsHalfOfOpen goal cell
+-- a cell that a search from a root comes to: a node of it, which is the root or a half of a node
+-- that had to be cut
+pub record IsMetFrom (goal : Goal) (root cell : List (ℕ × ℕ)) : Type 0 where
+  pub inside : IsNode root cell
+  pub met : (cell ≡ root) ⊎ IsHalfOfOpen goal cell
 
--- A cell gave way to boxes that were added, each closed by its reason for the total that was found.
-pub record IsSearched (goal : Goal) (root : List (ℕ × ℕ)) (best : Option Best)
-    (before after : List Closed) : Type 0 where
-  pub boxes : List Closed
-  pub added : after ≡ before ++ boxes
-  pub parted : IsFrontier root (cells_of boxes)
-  pub closed : All (λ box. IsClosedFor goal (total_of best) (spans_of box.cell) box.why) boxes
-  pub met : All (λ box. IsMetFrom goal root (spans_of box.cell)) boxes
+-- a box of such a search, closed by its reason for a total
+pub record IsBoxFrom (goal : Goal) (root : List (ℕ × ℕ)) (total : Option ℕ)
+    (box : List (ℕ × ℕ) × Why) : Type 0 where
+  pub closed : IsClosedFor goal total box.0 box.1
+  pub met : IsMetFrom goal root box.0
 
--- the cells of the boxes, and after them the open cells, the last one first
-abbrev pub in_order : List Cell → List Closed → List (List (ℕ × ℕ))
-in_order open_ closed = map (λ box. spans_of box.cell) closed ++ reverse (map spans_of open_)
+-- turns at a root, whatever is open behind it, close some boxes and leave some cells open
+pub record Lead (root : List (ℕ × ℕ)) (turns : List (Option Why))
+    (boxes : List (List (ℕ × ℕ) × Why)) (cells : List Cell) : Type 0 where
+  pub left : (others : List (List (ℕ × ℕ)))
+      → left_open (root ∷ others) turns ≡ open_cells cells ++ others
+  pub closed : (others : List (List (ℕ × ℕ))) → boxes_from (root ∷ others) turns ≡ boxes
 
 -- a search from a root, which is a node of the whole cell
 pub record IsUnderWay (goal : Goal) (root : List (ℕ × ℕ)) (best : Option Best)
-    (cells : List Cell) (boxes : List Closed) : Type 0 where
+    (cells : List Cell) (boxes : List (List (ℕ × ℕ) × Why)) : Type 0 where
   pub sound : IsSound goal best
   pub node : IsNode (whole_cell goal.axes) root
-  pub parted : IsFrontier root (in_order cells boxes)
-  pub closed : All (λ box. IsClosedFor goal (total_of best) (spans_of box.cell) box.why) boxes
-  pub boxes_met : All (λ box. IsMetFrom goal root (spans_of box.cell)) boxes
-  pub cells_met : All (λ cell. IsMetFrom goal root (spans_of cell)) cells
+  pub boxes_are : All (IsBoxFrom goal root (total_of best)) boxes
+  pub cells_are : All (λ cell. IsMetFrom goal root (spans_of cell)) cells
 
--- such a search, whose boxes are added to others
-pub record GoesOn (goal : Goal) (root : List (ℕ × ℕ)) (best : Option Best)
-    (cells : List Cell) (before after : List Closed) : Type 0 where
-  pub boxes : List Closed
-  pub added : after ≡ before ++ boxes
+-- such a search, whose turns are added to others
+pub record GoesOn (goal : Goal) (root : List (ℕ × ℕ)) (best : Option Best) (cells : List Cell)
+    (before after : List (Option Why)) : Type 0 where
+  pub turns : List (Option Why)
+  pub boxes : List (List (ℕ × ℕ) × Why)
+  pub added : after ≡ before ++ turns
+  pub lead : Lead root turns boxes cells
   pub way : IsUnderWay goal root best cells boxes
 
--- the last open cell gave way to its halves, the lower one last
-pub record Cuts (goal : Goal) (before after : List Cell)
-    (boxes_before boxes_after : List Closed) : Type 0 where
-  pub rest : List Cell
-  pub cell : Cell
-  pub lower : Cell
-  pub upper : Cell
-  pub top : before ≡ rest ++ cell ∷ []
-  pub cut : after ≡ (rest ++ upper ∷ []) ++ lower ∷ []
-  pub halves : AreHalves (spans_of cell) (spans_of lower) (spans_of upper)
-  pub is_open : IsOpen goal (spans_of cell)
-  pub same : boxes_after ≡ boxes_before
+-- a search from a root to its end: nothing in it is open any more
+pub record IsSearched (goal : Goal) (root : List (ℕ × ℕ)) (best : Option Best)
+    (before after : List (Option Why)) : Type 0 where
+  pub turns : List (Option Why)
+  pub boxes : List (List (ℕ × ℕ) × Why)
+  pub added : after ≡ before ++ turns
+  pub left : (others : List (List (ℕ × ℕ))) → left_open (root ∷ others) turns ≡ others
+  pub closed : (others : List (List (ℕ × ℕ))) → boxes_from (root ∷ others) turns ≡ boxes
+  pub boxes_are : All (IsBoxFrom goal root (total_of best)) boxes
 
--- the last open cell was closed for a total by a reason, or cut
+-- the last open cell was closed for a total by a reason
 pub record ClosesFor (goal : Goal) (total : Option ℕ) (before after : List Cell)
-    (boxes_before boxes_after : List Closed) : Type 0 where
+    (turns_before turns_after : List (Option Why)) : Type 0 where
   pub why : Why
-  pub closes : Closes before after boxes_before boxes_after why
+  pub closes : Closes before after turns_before turns_after why
   pub reason : IsClosedFor goal total (spans_of closes.cell) why
 
-abbrev pub Advances : Goal → Option ℕ → List Cell → List Cell → List Closed → List Closed → Type 0
-Advances goal total before after boxes_before boxes_after =
-    ClosesFor goal total before after boxes_before boxes_after
-    ⊎ Cuts goal before after boxes_before boxes_after
+-- the last open cell, which is neither disordered nor shut, gave way to its halves
+pub record CutsOpen (goal : Goal) (before after : List Cell)
+    (turns_before turns_after : List (Option Why)) : Type 0 where
+  pub cuts : Cuts before after turns_before turns_after
+  pub is_open : IsOpen goal (spans_of cuts.cell)
+
+abbrev pub Advances : Goal → Option ℕ → List Cell → List Cell → List (Option Why)
+    → List (Option Why) → Type 0
+Advances goal total before after turns_before turns_after =
+    ClosesFor goal total before after turns_before turns_after
+    ⊎ CutsOpen goal before after turns_before turns_after

@@ -2,7 +2,7 @@
 use Rattle.std.specs.Prelude.{◌≡◌, ℕ, ◌+◌, List, [], ◌∷◌, ◌++◌, map, sum_by, All, None, Result, Ok, IfOk}
 use Rattle.std.specs.declared.alloc.AllocError.{AllocError}
 use Rattle.gl_box.specs.declared.cell.Cell.{Cell}
-use Rattle.gl_box.specs.declared.closed.Closed.{Closed}
+use Rattle.gl_box.specs.declared.closed.Why.{Why}
 use Rattle.gl_goal.specs.Goal.{Goal}
 use Rattle.gl_best.specs.declared.word.BestWord.{BestWord}
 use Rattle.gl_best.specs.Rule.{times}
@@ -14,7 +14,7 @@ use Rattle.gl_pool.specs.declared.tally.Tally.{Tally}
 use Rattle.gl_pool.specs.Parts.{ArePartedInto}
 use Rattle.gl_pool.specs.Taken.{duty_of, ends_of, taken_weight}
 use Rattle.gl_pool.specs.Code.Tally.{IsTally, Turns}
-use Rattle.gl_order.specs.InRuns.{boxes_in_runs}
+use Rattle.gl_order.specs.Runs.{boxes_in_runs}
 
 -- what stays of a place while its worker works
 pub record Post : Type 0 where
@@ -85,7 +85,7 @@ abbrev pub has_seat : BestWord → Result Worker AllocError → Type 0
 has_seat word worked = IfOk worked (λ worker. IsSeatOf word worker.tally.seat)
 
 -- the closed cells of some workers, those of the last one first
-abbrev pub closed_by : List Worker → List Closed
+abbrev pub closed_by : List Worker → List (List (ℕ × ℕ) × Why)
 closed_by [] = []
 closed_by (worker ∷ workers) = closed_by workers ++ boxes_in_runs worker.tally.closed.items
 

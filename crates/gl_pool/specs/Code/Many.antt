@@ -1,7 +1,7 @@
 -- What is left of a search once all workers came back, and what the cells came to in the end.
 use Rattle.std.specs.Prelude.{◌≡◌, ℕ, ◌+◌, ◌<◌, List, [], ◌∷◌, length, sum_by, None}
 use Rattle.gl_box.specs.declared.cell.Cell.{Cell}
-use Rattle.gl_box.specs.declared.closed.Closed.{Closed}
+use Rattle.gl_box.specs.declared.closed.Why.{Why}
 use Rattle.gl_box.specs.Cell.{spans_of}
 use Rattle.gl_goal.specs.Goal.{Goal, whole_cell}
 use Rattle.gl_deal.specs.declared.place.Place.{Place}
@@ -12,15 +12,15 @@ use Rattle.gl_pool.specs.Code.Crew.{got_weight, put_weight}
 use Rattle.gl_pool.specs.Parts.{ArePartedInto}
 use Rattle.gl_pool.specs.Code.Settle.{StandReady, place_at}
 use Rattle.gl_pool.specs.Taken.{ends_of}
-use Rattle.gl_order.specs.InRuns.{boxes_in_runs}
+use Rattle.gl_order.specs.Runs.{boxes_in_runs}
 
 -- two lists of cells weigh the same, however cells are weighed
 pub record WeighSame (cells others : List Cell) : Type 0 where
   pub weighs : (weight : Cell → ℕ) → sum_by weight cells ≡ sum_by weight others
 
 -- cells were taken and parted, and all that was put, the whole cell first, was taken
-pub record CameToAll (goal : Goal) (first : Cell) (taken put : List Cell) (closed : List Closed)
-    (strange : List Cell) : Type 0 where
+pub record CameToAll (goal : Goal) (first : Cell) (taken put : List Cell)
+    (closed : List (List (ℕ × ℕ) × Why)) (strange : List Cell) : Type 0 where
   pub is_whole : spans_of first ≡ whole_cell goal.axes
   pub balanced : WeighSame taken (first ∷ put)
   pub worked : ArePartedInto goal None taken closed put strange

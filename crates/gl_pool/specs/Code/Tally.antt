@@ -1,7 +1,7 @@
 -- What workers found so far, and what one turn of a worker adds.
 use Rattle.std.specs.Prelude.{◌≡◌, ℕ, ◌+◌, ◌⊎◌, max, List, ◌++◌, Option, None, Some}
 use Rattle.gl_box.specs.declared.cell.Cell.{Cell}
-use Rattle.gl_box.specs.declared.closed.Closed.{Closed}
+use Rattle.gl_box.specs.declared.closed.Why.{Why}
 use Rattle.gl_goal.specs.Goal.{Goal}
 use Rattle.gl_goal.specs.declared.best.Best.{Best}
 use Rattle.gl_goal.specs.Best.{IsSound}
@@ -14,8 +14,7 @@ use Rattle.gl_pool.specs.declared.tally.Tally.{Tally}
 use Rattle.gl_pool.specs.Kept.{AreClosedFor}
 use Rattle.gl_pool.specs.Parts.{ArePartedInto}
 use Rattle.gl_pool.specs.Taken.{Moves}
-use Rattle.gl_order.specs.Runs.{ArePassed}
-use Rattle.gl_order.specs.InRuns.{boxes_in_runs}
+use Rattle.gl_order.specs.Runs.{ArePassed, boxes_in_runs}
 
 -- the word that says what was found: 0 for nothing, else the total plus one
 abbrev pub word_of : Option Best → ℕ
@@ -41,7 +40,7 @@ pub record IsGreater (one other greater : Option Best) : Type 0 where
 pub record Turns (goal : Goal) (before after : Place) (tally tally_after : Tally) : Type 0 where
   pub taken : List Cell
   pub put : List Cell
-  pub closed : List Closed
+  pub closed : List (List (ℕ × ℕ) × Why)
   pub strange : List Cell
   pub moves : Moves before after taken put
   pub parts : ArePartedInto goal None taken closed put strange

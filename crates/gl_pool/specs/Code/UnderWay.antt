@@ -1,7 +1,8 @@
 -- A worker between two steps of one call.
 use Rattle.std.specs.Prelude.{◌≡◌, ℕ, ◌+◌, ◌<◌, List, length, All, Option}
 use Rattle.gl_box.specs.declared.cell.Cell.{Cell}
-use Rattle.gl_box.specs.declared.closed.Closed.{Closed}
+use Rattle.gl_box.specs.declared.closed.Why.{Why}
+use Rattle.gl_box.specs.Cell.{spans_of}
 use Rattle.gl_goal.specs.Goal.{Goal}
 use Rattle.gl_best.specs.declared.word.BestWord.{BestWord}
 use Rattle.gl_best.specs.declared.word.Seat.{Seat}
@@ -17,15 +18,15 @@ use Rattle.gl_pool.specs.Trail.{boxes_in}
 -- it closed, those that it put and the strange ones. Only a cell that stands alone can be one that
 -- was taken; where there are more, they are parts.
 pub record AreBeingParted (goal : Goal) (seen : Option ℕ) (taken cells : List Cell)
-    (closed : List Closed) (put strange : List Cell) : Type 0 where
+    (closed : List (List (ℕ × ℕ) × Why)) (put strange : List Cell) : Type 0 where
   pub parted : (tuple : List ℕ)
       → times_held taken tuple
       ≡ times_held cells tuple + times_closed closed tuple + times_held put tuple
       + times_held strange tuple
-  pub cells_are : All (IsFromTaken goal seen taken) cells
-  pub parts : 1 < length cells → All (IsPartOfTaken goal seen taken) cells
-  pub closed_are : All (λ box. IsFromTaken goal seen taken box.cell) closed
-  pub put_are : All (IsPartOfTaken goal seen taken) put
+  pub cells_are : All (λ cell. IsFromTaken goal seen taken (spans_of cell)) cells
+  pub parts : 1 < length cells → All (λ cell. IsPartOfTaken goal seen taken (spans_of cell)) cells
+  pub closed_are : All (λ box. IsFromTaken goal seen taken box.0) closed
+  pub put_are : All (λ cell. IsPartOfTaken goal seen taken (spans_of cell)) put
   pub strange_are : All (IsStrange goal taken) strange
 
 -- what a worker was given when it was called

@@ -1,4 +1,4 @@
-use Rattle.gl_near.proofs.Stack.{under_way_on, work_falls}
+use Rattle.gl_near.proofs.Stack.{pairs_short, under_way_on, work_falls}
 use Rattle.gl_near.proofs.search.run.Goals as goal
 
 pub advance-requires-clause-covers : goal.advance-requires-clause-covers
@@ -9,4 +9,4 @@ loop-best-smaller c = work_falls _ _ _ _ _ _ c.in_ok-advance.ensures.step
 
 pub loop-best-preserved : goal.loop-best-preserved
 loop-best-preserved c =
-    under_way_on _ _ _ _ _ _ _ c.in_ok-advance.ensures.sound c.in_ok-advance.ensures.falls c.loop-best.invariant c.in_ok-advance.ensures.step
+    under_way_on _ _ _ _ _ _ _ (pairs_short c.args.pairs.now) c.in_ok-advance.ensures.sound c.in_ok-advance.ensures.falls c.loop-best.invariant c.in_ok-advance.ensures.step

@@ -1,9 +1,8 @@
-use Rattle.std.proofs.Common.{◌≡◌, inr, subst, sym, ℕ, List, length, map, arith}
+use Rattle.std.proofs.Common.{◌≡◌, inr, subst, ℕ, length, map, arith}
 use Rattle.std.proofs.lemmas.List.{length-map}
-use Rattle.gl_box.specs.declared.closed.Closed.{Closed}
 use Rattle.gl_box.specs.Closed.{box_of}
 use Rattle.gl_proof.specs.Code.Fronts.{said_of}
-use Rattle.gl_proof.specs.Code.Passage.{IsClaimRead, LacksClaim, LacksFixes}
+use Rattle.gl_proof.specs.Code.Passage.{LacksClaim, LacksFixes}
 use Rattle.gl_proof.proofs.Refused.{or_weaker}
 use Rattle.gl_proof.proofs.Chain.{claim_read}
 use Rattle.gl_proof.proofs.claim_lines.claim_at.Goals as goal
@@ -30,8 +29,6 @@ returns-clause-ok c =
     let long : c.len.result ≡ length boxes = omega (arith, c.len.ensures, cells.ok.0, length-map cells.items box_of) in
     let front = c.in-Some.front in
     let fixes = c.in-Ok.read.0.items in
-    subst (λ (b : List Closed). IsClaimRead c.args.text.now c.args.line (record { number = c.in_ok-name_of.field-0; kind = front.kind; total = front.total; fixes = fixes; boxes = map box_of b })
-    c.in_ok-cells.rest.now c.later-next.result) (sym c.from_list.ensures)
-    (claim_read c.args.text.now c.in-Some.rest.now c.in-Ok.read.1.now c.in_ok-cells.rest.now c.in_ok-name_of.field-0 front.number.now front.kind front.total fixes boxes c.args.line
+    claim_read c.args.text.now c.in-Some.rest.now c.in-Ok.read.1.now c.in_ok-cells.rest.now c.in_ok-name_of.field-0 front.number.now front.kind front.total fixes boxes c.args.line
     c.lines_before_boxes.result c.later-behind_front.result c.later-next.result
-    c.in_ok-name_of.ensures c.in-Some.ensures c.in-Ok.ensures.ok c.in_ok-cells.ensures (c.lines_before_boxes.ensures fixes) c.later-behind_front.ensures (omega (arith, c.later-next.ensures, long)))
+    c.in_ok-name_of.ensures c.in-Some.ensures c.in-Ok.ensures.ok c.in_ok-cells.ensures (c.lines_before_boxes.ensures fixes) c.later-behind_front.ensures (omega (arith, c.later-next.ensures, long))

@@ -1,20 +1,18 @@
 use Rattle.std.proofs.Common.{◌∙◌, sym, ap, subst, ℕ, List, map, length, arith}
 use Rattle.std.specs.Prelude.{All}
-use Rattle.gl_box.specs.Closed.{box_of}
-use Rattle.gl_box.specs.Frontier.{IsFrontier, IsNode}
+use Rattle.gl_box.specs.Frontier.{IsFrontier}
 use Rattle.gl_box.proofs.Parts.{mult-held}
 use Rattle.gl_goal.specs.Goal.{whole_cell}
 use Rattle.gl_goal.proofs.Optimum.{certificate_optimum}
 use Rattle.gl_goal.proofs.Totals.{none_exactly}
-use Rattle.gl_box.specs.InLists.{boxes_in}
 use Rattle.gl_order.specs.Order.{AreParts}
 use Rattle.gl_goal.specs.Best.{total_of}
 use Rattle.gl_plain.specs.declared.part.Part.{Part}
-use Rattle.gl_replay.specs.declared.replayed.Replayed.{Replayed}
+use Rattle.gl_plain.specs.Found.{boxes_of}
 use Rattle.gl_plain.specs.Parts.{IsDoneFor, IsFinished, cell_of}
-use Rattle.gl_plain.proofs.Certified.{certified}
+use Rattle.gl_plain.proofs.Stack.{certificate_made}
 use Rattle.gl_replay.specs.Code.Parts.{done_in}
-use Rattle.gl_replay.proofs.Replays.{left_few, left_parts, ordered_done, ordered_nodes, replay_made}
+use Rattle.gl_replay.proofs.Replays.{left_few, left_parts, ordered_done, replay_made}
 use Rattle.gl_replay.proofs.replayed.replay.Goals as goal
 
 pub overflow_cast-by_steps : goal.overflow_cast-by_steps
@@ -29,11 +27,11 @@ sorted-requires g c =
     subst (λ (cell : List (ℕ × ℕ)). AreParts cell (map cell_of left.parts.items)) (sym c.whole.ensures)
     (left_parts (g.G.Goal.rule c.args.goal.now) c.args.workers c.args.steps.now left c.in_ok-known.ensures)
 
-pub finish-requires-clause-nodes : goal.finish-requires-clause-nodes
-finish-requires-clause-nodes g c =
+pub finish-requires-clause-parted : goal.finish-requires-clause-parted
+finish-requires-clause-parted g c =
     let rule = g.G.Goal.rule c.args.goal.now in
-    subst (All (λ (part : Part). IsNode (whole_cell rule.axes) (cell_of part))) (sym c.deref-2.ensures.value)
-    (ordered_nodes rule c.args.workers c.args.steps.now c.in_ok-known.field-0 c.in_ok-parts.parts.items c.in_ok-known.ensures c.in_ok-parts.ensures.permutation)
+    subst (λ (parts : List Part). IsFrontier (whole_cell rule.axes) (map cell_of parts)) (sym c.deref-2.ensures.value)
+    (subst (λ (cell : List (ℕ × ℕ)). IsFrontier cell (map cell_of c.in_ok-parts.parts.items)) c.whole.ensures c.in_ok-parts.ensures.frontier)
 
 pub finish-requires-clause-done : goal.finish-requires-clause-done
 finish-requires-clause-done g c =
@@ -44,29 +42,24 @@ finish-requires-clause-done g c =
 
 pub returns-clause-certificate : goal.returns-clause-certificate
 returns-clause-certificate g c =
-    let rule = g.G.Goal.rule c.args.goal.now in
-    let frontier = subst (λ (cell : List (ℕ × ℕ)). IsFrontier cell (map cell_of c.in_ok-parts.parts.items)) c.whole.ensures c.in_ok-parts.ensures.frontier in
-    certified rule c.deref-2.result.now c.in_ok-known.field-0.known c.in_ok-best.field-0 (boxes_in c.from_list-closed.result)
-    (subst (λ (parts : List Part). IsFrontier (whole_cell rule.axes) (map cell_of parts)) (sym c.deref-2.ensures.value) frontier) c.in_ok-best.ensures c.from_list-closed.ensures
+    let end = c.in_ok-found.ensures in
+    certificate_made (g.G.Goal.rule c.args.goal.now) c.in_ok-found.found.best (boxes_of c.in_ok-found.found) end.sound end.parted end.closed
 
 pub returns-clause-once : goal.returns-clause-once
 returns-clause-once g c tuple held =
-    let rule = g.G.Goal.rule c.args.goal.now in
-    mult-held (whole_cell rule.axes) (map (λ box. box.0) (map box_of (boxes_in c.from_list-closed.result))) tuple (returns-clause-certificate g c).frontier held
+    mult-held (whole_cell (g.G.Goal.rule c.args.goal.now).axes) (map (λ box. box.0) (boxes_of c.in_ok-found.found)) tuple c.in_ok-found.ensures.parted held
 
 pub returns-clause-optimum : goal.returns-clause-optimum
 returns-clause-optimum g c = certificate_optimum _ _ _ _ (g.met.G.Goal.laws c.args.goal.now) (returns-clause-certificate g c)
 
 pub returns-clause-none : goal.returns-clause-none
 returns-clause-none g c =
-    none_exactly (g.G.Goal.rule c.args.goal.now) c.in_ok-best.field-0.best (certificate_optimum _ _ _ _ (g.met.G.Goal.laws c.args.goal.now) (returns-clause-certificate g c))
+    none_exactly (g.G.Goal.rule c.args.goal.now) c.in_ok-found.found.best (certificate_optimum _ _ _ _ (g.met.G.Goal.laws c.args.goal.now) (returns-clause-certificate g c))
 
 pub returns-clause-steps : goal.returns-clause-steps
 returns-clause-steps g c =
     let left = c.in_ok-known.field-0 in
-    let found = c.in_ok-best.field-0 in
     let rule = g.G.Goal.rule c.args.goal.now in
-    let replayed : Replayed = record { found = record { best = found.best; closed = c.from_list-closed.result }; by_steps = c.count_done-by_steps.result } in
-    let end = subst (λ (parts : List Part). IsFinished rule parts left.known found) c.deref-2.ensures.value c.in_ok-best.ensures in
-    replay_made rule c.args.workers c.args.steps.now left c.in_ok-parts.parts.items found replayed c.in_ok-known.ensures c.in_ok-parts.ensures.permutation end c.from_list-closed.ensures
+    let end = subst (λ (parts : List Part). IsFinished rule parts left.known c.in_ok-found.found) c.deref-2.ensures.value c.in_ok-found.ensures in
+    replay_made rule c.args.workers c.args.steps.now left c.in_ok-parts.parts.items _ c.in_ok-known.ensures c.in_ok-parts.ensures.permutation end
     (c.count_done-by_steps.ensures ∙ ap (λ (parts : List Part). length (done_in parts)) c.deref.ensures.value)

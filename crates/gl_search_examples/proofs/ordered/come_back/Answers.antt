@@ -1,14 +1,20 @@
-use Rattle.std.proofs.Common.{◌≡◌, ◌∙◌, sym, ap, subst, ℕ, List, [], ◌++◌, take, drop, length, arith}
+use Rattle.std.proofs.Common.{◌≡◌, ◌∙◌, sym, ap, subst, ℕ, List, [], ◌++◌, take, drop, length, map, arith}
 use Rattle.std.specs.List.Sorted.{IsPermutation}
 use Rattle.std.proofs.lemmas.List.{drop_all}
 use Rattle.std.proofs.lemmas.List.Sorted.{length_permutation}
 use lib.Seq.{take-append_seam}
 use Rattle.gl_box.specs.declared.closed.Closed.{Closed}
+use Rattle.gl_box.specs.declared.closed.Why.{Why}
 use Rattle.gl_box.specs.Cell.{spans_of}
+use Rattle.gl_box.specs.Closed.{box_of}
+use Rattle.gl_box.specs.Frontier.{IsFrontier}
+use Rattle.gl_box.proofs.Passed.{map_twice}
 use Rattle.gl_order.specs.Order.{AreParts, cells_of}
-use Rattle.gl_plain.proofs.Certified.{certified_parts}
-use Rattle.gl_box.specs.InLists.{boxes_in}
+use Rattle.gl_order.proofs.Partings.{frontier_parts, parts-permutation}
 use Rattle.gl_search_examples.proofs.ordered.come_back.Goals as goal
+
+abbrev cell_of : Closed → List (ℕ × ℕ)
+cell_of box = spans_of box.cell
 
 -- a list that was lent whole is what stands there
 lent : (many : ℕ) (new old : List Closed) → length new ≡ length old → many ≡ length old → take many (new ++ drop (length new) old) ≡ new
@@ -21,8 +27,10 @@ pub sorted-requires : goal.sorted-requires
 sorted-requires g c =
     let same = subst (λ (boxes : List Closed). IsPermutation boxes c.disorder.new.boxes) c.deref_mut.ensures.value c.disorder.ensures in
     let list = c.in_ok-boxes.boxes in
-    let searched = subst (λ (boxes : List Closed). IsPermutation boxes c.disorder.new.boxes) c.in_ok-boxes.ensures same in
+    let all = spans_of c.whole.result in
     let back = lent list.len c.disorder.new.boxes list.items (length_permutation list.items c.disorder.new.boxes same) list.ok.0 in
-    subst (λ (boxes : List Closed). AreParts (spans_of c.whole.result) (cells_of boxes)) (sym back)
-    (subst (λ (all : List (ℕ × ℕ)). AreParts all (cells_of c.disorder.new.boxes)) (sym c.whole.ensures)
-    (certified_parts _ _ _ (boxes_in c.in_ok-found.found.closed) c.disorder.new.boxes c.in_ok-found.ensures.certificate searched))
+    let frontier = subst (λ (boxes : List (List (ℕ × ℕ) × Why)). IsFrontier _ (cells_of boxes)) (sym c.in_ok-boxes.ensures) c.in_ok-found.found.ensures.certificate.frontier in
+    let parts = subst (λ (whole : List (ℕ × ℕ)). AreParts whole (cells_of (map box_of list.items))) (sym c.whole.ensures) (frontier_parts _ _ frontier) in
+    subst (λ (boxes : List Closed). AreParts all (map cell_of boxes)) (sym back)
+    (parts-permutation cell_of all list.items c.disorder.new.boxes same
+    (subst (AreParts all) (sym (map_twice box_of (λ (box : List (ℕ × ℕ) × Why). box.0) list.items)) parts))
