@@ -185,12 +185,8 @@ fn a_claim_is_written(rt: HostRuntime) -> Result<(), Fail> {
 /// A walk over two places on a single axis: they are cut, the first one is closed as disordered and
 /// the second one by its bound.
 fn walk_over_two(alloc: Global) -> Result<Boxes, AllocError> {
-    let both = Span { lo: 0, hi: 1 };
-    let none = Span { lo: 0, hi: 0 };
-    let whole = Cell {
-        axes: 1,
-        spans: [both, none, none, none, none, none, none, none, none, none],
-    };
+    let mut whole = Cell::point(&Tuple::first(1));
+    whole.set(0, Span { lo: 0, hi: 1 });
     Ok(Boxes::Walked(Walk {
         opened: [whole].to_vec(alloc)?,
         turns: [GoalTurn::Cut, GoalTurn::Disordered, GoalTurn::Bound].to_vec(alloc)?,

@@ -23,14 +23,19 @@ lent many new old same is =
     ∙ ap (λ (n : ℕ). take n (new ++ [])) (is ∙ sym same)
     ∙ take-append_seam new []
 
+-- boxes of a walk part its cell as they are spread out
+spread_parts : (whole : List (ℕ × ℕ)) (boxes walked : List (List (ℕ × ℕ) × Why)) → boxes ≡ walked → IsFrontier whole (cells_of walked) → AreParts whole (cells_of boxes)
+spread_parts whole boxes walked same frontier =
+    frontier_parts whole (cells_of boxes) (subst (λ (l : List (List (ℕ × ℕ) × Why)). IsFrontier whole (cells_of l)) (sym same) frontier)
+
 pub sorted-requires : goal.sorted-requires
 sorted-requires g c =
     let same = subst (λ (boxes : List Closed). IsPermutation boxes c.disorder.new.boxes) c.deref_mut.ensures.value c.disorder.ensures in
     let list = c.in_ok-boxes.boxes in
     let all = spans_of c.whole.result in
     let back = lent list.len c.disorder.new.boxes list.items (length_permutation list.items c.disorder.new.boxes same) list.ok.0 in
-    let frontier = subst (λ (boxes : List (List (ℕ × ℕ) × Why)). IsFrontier _ (cells_of boxes)) (sym c.in_ok-boxes.ensures) c.in_ok-found.found.ensures.certificate.frontier in
-    let parts = subst (λ (whole : List (ℕ × ℕ)). AreParts whole (cells_of (map box_of list.items))) (sym c.whole.ensures) (frontier_parts _ _ frontier) in
+    let parts = subst (λ (whole : List (ℕ × ℕ)). AreParts whole (cells_of (map box_of list.items))) (sym c.whole.ensures)
+    (spread_parts _ (map box_of list.items) _ c.in_ok-boxes.ensures c.in_ok-found.ensures.certificate.frontier) in
     subst (λ (boxes : List Closed). AreParts all (map cell_of boxes)) (sym back)
     (parts-permutation cell_of all list.items c.disorder.new.boxes same
     (subst (AreParts all) (sym (map_twice box_of (λ (box : List (ℕ × ℕ) × Why). box.0) list.items)) parts))
