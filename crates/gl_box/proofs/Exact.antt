@@ -3,7 +3,9 @@ use Rattle.std.proofs.Common.{◌≡◌, ◌∙◌, sym, ap, refl, subst, ℕ, �
 use Rattle.std.proofs.lemmas.Bool.{cases_order}
 use Rattle.std.proofs.lemmas.List.{take-append-drop, take_all}
 use Rattle.gl_box.specs.Frontier.{IsFrontier}
-use Rattle.gl_box.specs.Boxes.{AreRight, AreWhole, BeginWhole, IsPlaced, IsRight, IsSaid, NumbersBox, Said, NoneWrong, ExtraBox, StrayBox, UnclosedBox, Unfinished}
+use Rattle.gl_box.specs.Boxes.{AreRight, AreWhole, BeginWhole, IsPlaced, IsRight, IsSaid, NumbersBox}
+use Rattle.gl_box.specs.declared.checking.Said.{Said}
+use Rattle.gl_box.specs.declared.checking.Said.TheVariants.{NoneWrong, ExtraBox, StrayBox, UnclosedBox, Unfinished}
 use Rattle.gl_box.proofs.Frontiers.{frontier_ends}
 
 -- the boxes are right up to a place, where something is wrong or they end

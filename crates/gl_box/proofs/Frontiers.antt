@@ -176,8 +176,11 @@ frontiers_none (first ∷ others) fronts =
     let both : [] ≡ some.0 ∷ (some.1 ++ fronts.1) = fronts.4 ∙ ap (λ (l : List (List (ℕ × ℕ))). l ++ fronts.1) some.2 in
     absurd (cc)
 
+pub open_cells-append : (cells others : List Cell) → open_cells (cells ++ others) ≡ open_cells others ++ open_cells cells
+open_cells-append cells others = ap reverse (map-append spans_of cells others) ∙ reverse-append (map spans_of cells) (map spans_of others)
+
 pub open_push : (cells : List Cell) (cell : Cell) → open_cells (cells ++ cell ∷ []) ≡ spans_of cell ∷ open_cells cells
-open_push cells cell = ap reverse (map-append spans_of cells (cell ∷ [])) ∙ reverse-append (map spans_of cells) (spans_of cell ∷ [])
+open_push cells cell = open_cells-append cells (cell ∷ [])
 
 pub walked_start : (whole : List (ℕ × ℕ)) → IsWalked whole [] (whole ∷ [])
 walked_start whole more = (

@@ -1,7 +1,7 @@
--- Nodes lie in their cell, frontiers can be refined, and halves are smaller.
-use Rattle.std.proofs.Common.{◌≡◌, ◌∙◌, sym, ap, refl, subst, ℕ, zero, suc, ◌+◌, ◌-◌, ◌/◌, ◌<◌, ◌≤◌, Bool, true, false, cond, ◌⊎◌, inl, inr, List, [], ◌∷◌, ◌++◌, length, get_or, slice_set, arith, append_assoc}
+-- Nodes lie in their cell, and halves are smaller.
+use Rattle.std.proofs.Common.{◌≡◌, ◌∙◌, sym, ap, refl, subst, ℕ, zero, suc, ◌+◌, ◌-◌, ◌/◌, ◌<◌, ◌≤◌, Bool, true, false, cond, ◌⊎◌, inl, inr, List, [], ◌∷◌, length, get_or, slice_set, arith}
 use Rattle.std.proofs.lemmas.Bool.{cases_lt}
-use Rattle.std.proofs.lemmas.List.{append-nil, get_or_append_left, get_or-append-add, get_or-append_right, length-append}
+use Rattle.std.proofs.lemmas.List.{get_or_append_left, get_or-append-add, get_or-append_right, length-append}
 use Rattle.gl_box.specs.Cell.{Covers, Holds, holds, point}
 use Rattle.gl_box.specs.Halves.{AreHalves, IsHalf, IsSingle, span_at, width}
 use Rattle.gl_box.specs.Frontier.{IsFrontier, IsNode}
@@ -65,56 +65,6 @@ covers_half cell part is_half = elim is_half.either [
 pub covers_node : (cell node : List (ℕ × ℕ)) → IsNode cell node → Covers cell node
 covers_node _ _ (whole cell) = covers_self cell
 covers_node _ _ (half cell node part below is_half) = covers_through cell node part (covers_node cell node below) (covers_half node part is_half)
-
--- where a list that is joined is cut at an element, the element stands in the front or in the back
-pub record InFront {A : Type 0} (front back xs ys : List A) (x : A) : Type 0 where
-  pub between : List A
-  pub in_front : front ≡ xs ++ x ∷ between
-  pub rest : ys ≡ between ++ back
-
-pub record InBack {A : Type 0} (front back xs ys : List A) (x : A) : Type 0 where
-  pub between : List A
-  pub start : xs ≡ front ++ between
-  pub in_back : back ≡ between ++ x ∷ ys
-
-pub joined_at : {A : Type 0} (front back xs ys : List A) (x : A) → front ++ back ≡ xs ++ x ∷ ys → InFront front back xs ys x ⊎ InBack front back xs ys x
-joined_at [] back xs ys x same = inr (record { between = xs; start = refl; in_back = same })
-joined_at (f ∷ fs) back [] ys x same =
-    let first : f ≡ x = cc in
-    let others : fs ++ back ≡ ys = cc in
-    inl (record { between = fs; in_front = ap (λ y. y ∷ fs) first; rest = sym others })
-joined_at {A = A} (f ∷ fs) back (z ∷ zs) ys x same =
-    let first : f ≡ z = cc in
-    let others : fs ++ back ≡ zs ++ x ∷ ys = cc in
-    elim (joined_at fs back zs ys x others) [
-      | inl at ↦ inl (record { between = at.between; in_front = ap (λ y. y ∷ fs) first ∙ ap (λ (l : List A). z ∷ l) at.in_front; rest = at.rest })
-      | inr at ↦ inr (record { between = at.between; start = ap (λ (l : List A). z ∷ l) at.start ∙ ap (λ y. y ∷ (fs ++ at.between)) (sym first); in_back = at.in_back })
-    ]
-
--- a frontier in which one cell gives way to a frontier of its own
-pub refined : (cell : List (ℕ × ℕ)) (cells xs ys : List (List (ℕ × ℕ))) (node : List (ℕ × ℕ)) (finer : List (List (ℕ × ℕ))) → IsFrontier cell cells → cells ≡ xs ++ node ∷ ys → IsFrontier node finer
-    → IsFrontier cell (xs ++ (finer ++ ys))
-refined _ _ [] ys node finer (alone cell cells is) at inner =
-    let both : cell ∷ [] ≡ node ∷ ys = sym is ∙ at in
-    let same : node ≡ cell = cc in
-    let none : ys ≡ [] = cc in
-    subst (λ (c : List (ℕ × ℕ)). IsFrontier c ([] ++ (finer ++ ys))) same (subst (IsFrontier node) (sym (append-nil finer) ∙ ap (λ (l : List (List (ℕ × ℕ))). finer ++ l) (sym none)) inner)
-refined _ _ (x ∷ xs) ys node finer (alone cell cells is) at inner =
-    let both : cell ∷ [] ≡ x ∷ (xs ++ node ∷ ys) = sym is ∙ at in
-    absurd (omega (arith, ap length both, length-append xs (node ∷ ys)))
-refined _ _ xs ys node finer (parted cell lower upper front back cells halves low high is) at inner =
-    elim (joined_at front back xs ys node (sym is ∙ at)) [
-      | inl there ↦
-          parted cell lower upper (xs ++ (finer ++ there.between)) back (xs ++ (finer ++ ys)) halves (refined lower front xs there.between node finer low there.in_front inner) high
-          (ap (λ (l : List (List (ℕ × ℕ))). xs ++ (finer ++ l)) there.rest ∙ simp append_assoc)
-      | inr there ↦
-          parted cell lower upper front (there.between ++ (finer ++ ys)) (xs ++ (finer ++ ys)) halves low (refined upper back there.between ys node finer high there.in_back inner)
-          (ap (λ (l : List (List (ℕ × ℕ))). l ++ (finer ++ ys)) there.start ∙ simp append_assoc)
-    ]
-
--- the halves of a cell are a frontier of it
-pub halves_frontier : (cell lower upper : List (ℕ × ℕ)) → AreHalves cell lower upper → IsFrontier cell (lower ∷ upper ∷ [])
-halves_frontier cell lower upper halves = parted cell lower upper (lower ∷ []) (upper ∷ []) (lower ∷ upper ∷ []) halves (alone lower (lower ∷ []) refl) (alone upper (upper ∷ []) refl) refl
 
 -- how far a cell's spans reach, all together
 unfoldable pub spread : List (ℕ × ℕ) → ℕ

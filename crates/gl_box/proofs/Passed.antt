@@ -1,23 +1,194 @@
--- What is said of boxes, from where a walk over them ends.
-use Rattle.std.proofs.Common.{◌≡◌, ◌∙◌, sym, ap, refl, subst, ℕ, ◌+◌, ◌<◌, ◌≤◌, List, [], ◌∷◌, ◌++◌, length, get_or, take, map, arith}
-use Rattle.std.specs.Prelude.{◌↔◌}
+-- What is known of boxes that come one after the other.
+use Rattle.std.proofs.Common.{◌≡◌, ◌∙◌, sym, ap, refl, subst, ℕ, ◌+◌, ◌<◌, List, [], ◌∷◌, ◌++◌, length, get_or, map, take, arith, below_more}
+use Rattle.std.specs.Prelude.{◌↔◌, IsTrue, MatchOption, Option, None, Some, false, is_some, min}
 use Rattle.std.specs.List.{HoldsAt}
-use Rattle.std.proofs.lemmas.List.{get_or-map, length-map, nil_from_length, take_all, take_more}
+use Rattle.std.proofs.lemmas.Bool.{false≢true}
+use Rattle.std.proofs.Math.ListN.{get_or-append}
+use Rattle.std.proofs.Math.Seq.{get_or-append_seam, take-append-add, take-append_seam}
+use Rattle.std.proofs.lemmas.List.{append-nil, append_assoc, get_or-map, length-append, length-map, map-append, nil_from_length, take-append-le, take_all, take_more}
 use Rattle.gl_box.specs.declared.cell.Cell.{Cell}
 use Rattle.gl_box.specs.Cell.{Covers}
+use Rattle.gl_box.specs.Boxes.{AreRight, AreWhole, BeginWhole, Begins, IsFirst, IsPlaced, IsRight, NumbersBox}
 use Rattle.gl_box.specs.Frontier.{IsFrontier}
-use Rattle.gl_box.specs.declared.passage.Walked.{Walked}
-use Rattle.gl_box.specs.declared.passage.WalkEnd.{WalkEnd}
-use Rattle.gl_box.specs.declared.passage.WalkEnd.TheVariants.{Whole, Extra, Place, Open}
-use Rattle.gl_box.specs.Boxes.{AreRight, AreWhole, BeginWhole, Begins, EndsAt, IsEnd, IsSaid, NumbersBox, Said, NoneWrong, ExtraBox, StrayBox, UnclosedBox, Unfinished}
+use Rattle.gl_box.specs.declared.checking.Said.{Said}
+use Rattle.gl_box.specs.declared.checking.Said.TheVariants.{NoneWrong, ExtraBox, StrayBox, UnclosedBox, Unfinished}
+use Rattle.gl_box.specs.Passing.{ArePassed, AreSaid, HasSaid, IsCovered, IsPassing, cells_of}
 use Rattle.gl_box.specs.Walk.{AreFrontiers, IsWalked, open_cells}
-use Rattle.gl_box.proofs.Frontiers.{covers_begun, length-open_cells, walked_on}
+use Rattle.gl_box.proofs.Frontiers.{covers_begun, length-open_cells, walked_begins, walked_on, walked_open, walked_out, walked_start, walked_whole}
 
 pub no_cell : (cells : List Cell) → length cells ≡ 0 → open_cells cells ≡ []
 no_cell cells none = ap open_cells (nil_from_length cells none)
 
 pub some_cell : (cells : List Cell) → (length cells ≡ 0 → ⊥) → open_cells cells ≡ [] → ⊥
 some_cell cells some none = some (sym (length-open_cells cells) ∙ ap length none)
+
+-- a cell that stands where it must stands there whatever follows
+placed_more : (whole : List (ℕ × ℕ)) (cells more : List (List (ℕ × ℕ))) (place : ℕ) → place < length cells → IsPlaced whole cells place → IsPlaced whole (cells ++ more) place
+placed_more whole cells more place below is = record {
+  needed = λ front. is.needed (subst (IsFrontier whole) (take-append-le place cells more (omega (arith, below))) front);
+  placed = subst (Begins whole) (sym (take-append-le (place + 1) cells more (omega (arith, below)))) is.placed;
+}
+
+length-cells : {W : Type 0} (boxes : List (List (ℕ × ℕ) × W)) → length (cells_of boxes) ≡ length boxes
+length-cells {W} boxes = length-map boxes (λ (box : List (ℕ × ℕ) × W). box.0)
+
+cells-append : {W : Type 0} (boxes more : List (List (ℕ × ℕ) × W)) → cells_of (boxes ++ more) ≡ cells_of boxes ++ cells_of more
+cells-append {W} boxes more = map-append (λ (box : List (ℕ × ℕ) × W). box.0) boxes more
+
+-- so do boxes, and those that are closed are closed
+right_more : {W : Type 0} (whole : List (ℕ × ℕ)) (Closes : List (ℕ × ℕ) × W → Type 0) (boxes more : List (List (ℕ × ℕ) × W))
+    → AreRight whole (cells_of boxes) (HoldsAt Closes boxes) (length boxes) → AreRight whole (cells_of (boxes ++ more)) (HoldsAt Closes (boxes ++ more)) (length boxes)
+right_more {W} whole Closes boxes more right place below = record {
+  placed = subst (λ (l : List (List (ℕ × ℕ))). IsPlaced whole l place) (sym (cells-append boxes more))
+      (placed_more whole (cells_of boxes) (cells_of more) place (omega (arith, below, length-cells boxes)) (right place below).placed);
+  closed = λ d. subst Closes (sym (get_or-append boxes more d place below)) ((right place below).closed d);
+}
+
+-- the cells before a box
+before_next : {W : Type 0} (boxes more : List (List (ℕ × ℕ) × W)) → take (length boxes) (cells_of (boxes ++ more)) ≡ cells_of boxes
+before_next {W} boxes more =
+    ap (λ (n : ℕ). take n (cells_of (boxes ++ more))) (sym (length-cells boxes)) ∙ ap (take (length (cells_of boxes))) (cells-append boxes more) ∙ take-append_seam (cells_of boxes) (cells_of more)
+
+-- and with it
+with_next : {W : Type 0} (boxes more : List (List (ℕ × ℕ) × W)) (next : List (ℕ × ℕ) × W) → take (length boxes + 1) (cells_of (boxes ++ next ∷ more)) ≡ cells_of boxes ++ next.0 ∷ []
+with_next {W} boxes more next =
+    ap (λ (n : ℕ). take (n + 1) (cells_of (boxes ++ next ∷ more))) (sym (length-cells boxes)) ∙ ap (take (length (cells_of boxes) + 1)) (cells-append boxes (next ∷ more))
+    ∙ take-append-add (cells_of boxes) (cells_of (next ∷ more)) 1
+
+-- the box behind those that are passed is the first that is wrong, if it is
+first_at : {W : Type 0} (whole : List (ℕ × ℕ)) (Closes : List (ℕ × ℕ) × W → Type 0) (boxes more : List (List (ℕ × ℕ) × W)) (next : List (ℕ × ℕ) × W) (opened : List (List (ℕ × ℕ))) (number : ℕ)
+    (IsWrong : ℕ → Type 0) → ArePassed whole Closes boxes opened number → IsWrong (length boxes) → IsFirst whole (cells_of (boxes ++ next ∷ more)) (HoldsAt Closes (boxes ++ next ∷ more)) IsWrong number
+first_at {W} whole Closes boxes more next opened number IsWrong passed wrong = record {
+  place = length boxes;
+  numbered = passed.numbered;
+  within = omega (arith, length-cells (boxes ++ next ∷ more), length-append boxes (next ∷ more));
+  before = right_more whole Closes boxes (next ∷ more) passed.right;
+  wrong = wrong;
+}
+
+-- what is said of boxes and one more, whatever follows
+said_next : {W : Type 0} (whole : List (ℕ × ℕ)) (Closes : List (ℕ × ℕ) × W → Type 0) (boxes : List (List (ℕ × ℕ) × W)) (next : List (ℕ × ℕ) × W) (said : Said)
+    → ((more : List (List (ℕ × ℕ) × W)) → AreSaid whole Closes (boxes ++ next ∷ more) said) → HasSaid whole Closes (boxes ++ next ∷ []) said
+said_next {W} whole Closes boxes next said each more =
+    subst (λ (l : List (List (ℕ × ℕ) × W)). AreSaid whole Closes l said) (sym (append_assoc boxes (next ∷ []) more)) (each more)
+
+pub extra_said : {W : Type 0} (whole : List (ℕ × ℕ)) (Closes : List (ℕ × ℕ) × W → Type 0) (boxes : List (List (ℕ × ℕ) × W)) (next : List (ℕ × ℕ) × W) (opened : List (List (ℕ × ℕ))) (number : ℕ)
+    → ArePassed whole Closes boxes opened number → opened ≡ [] → HasSaid whole Closes (boxes ++ next ∷ []) (ExtraBox number)
+extra_said whole Closes boxes next opened number passed none = said_next whole Closes boxes next (ExtraBox number)
+    (λ more. first_at whole Closes boxes more next opened number (AreWhole whole (cells_of (boxes ++ next ∷ more))) passed
+    (subst (IsFrontier whole) (sym (before_next boxes (next ∷ more))) (walked_whole whole (cells_of boxes) opened passed.walked none)))
+
+pub stray_said : {W : Type 0} (whole : List (ℕ × ℕ)) (Closes : List (ℕ × ℕ) × W → Type 0) (boxes : List (List (ℕ × ℕ) × W)) (next : List (ℕ × ℕ) × W) (opened : List (List (ℕ × ℕ))) (number : ℕ)
+    → ArePassed whole Closes boxes opened number → (opened ≡ [] → ⊥) → ((more : List (List (ℕ × ℕ))) → AreFrontiers opened (next.0 ∷ more) → ⊥)
+    → HasSaid whole Closes (boxes ++ next ∷ []) (StrayBox number)
+stray_said whole Closes boxes next opened number passed some out = said_next whole Closes boxes next (StrayBox number)
+    (λ more. let cells = cells_of (boxes ++ next ∷ more) in first_at whole Closes boxes more next opened number (λ place. (AreWhole whole cells place → ⊥) × (BeginWhole whole cells (place + 1) → ⊥)) passed (
+      λ front. walked_open whole (cells_of boxes) opened passed.walked some (subst (IsFrontier whole) (before_next boxes (next ∷ more)) front),
+      λ begins. walked_out whole next.0 (cells_of boxes) opened passed.walked out (subst (Begins whole) (with_next boxes more next) begins),
+    ))
+
+-- the walk behind one box more
+record GoesOn {W : Type 0} (whole : List (ℕ × ℕ)) (boxes : List (List (ℕ × ℕ) × W)) (next : List (ℕ × ℕ) × W) (after : List (List (ℕ × ℕ))) : Type 0 where
+  walked : IsWalked whole (cells_of boxes ++ next.0 ∷ []) after
+  placed : (more : List (List (ℕ × ℕ) × W)) → IsPlaced whole (cells_of (boxes ++ next ∷ more)) (length boxes)
+
+goes_on : {W : Type 0} (whole : List (ℕ × ℕ)) (Closes : List (ℕ × ℕ) × W → Type 0) (boxes : List (List (ℕ × ℕ) × W)) (next : List (ℕ × ℕ) × W) (opened after : List (List (ℕ × ℕ))) (number : ℕ)
+    → ArePassed whole Closes boxes opened number → (opened ≡ [] → ⊥) → ((more : List (List (ℕ × ℕ))) → AreFrontiers opened (next.0 ∷ more) ↔ AreFrontiers after more) → GoesOn whole boxes next after
+goes_on whole Closes boxes next opened after number passed some step =
+    let walked = walked_on whole next.0 (cells_of boxes) opened after passed.walked step in
+    record {
+      walked = walked;
+      placed = λ more. record {
+        needed = λ front. walked_open whole (cells_of boxes) opened passed.walked some (subst (IsFrontier whole) (before_next boxes (next ∷ more)) front);
+        placed = subst (Begins whole) (sym (with_next boxes more next)) (walked_begins whole (cells_of boxes ++ next.0 ∷ []) after walked);
+      };
+    }
+
+-- a box that the walk came to lies in the whole
+pub next_covered : {W : Type 0} (whole : List (ℕ × ℕ)) (Closes : List (ℕ × ℕ) × W → Type 0) (boxes : List (List (ℕ × ℕ) × W)) (next : List (ℕ × ℕ) × W) (opened after : List (List (ℕ × ℕ))) (number : ℕ)
+    → ArePassed whole Closes boxes opened number → (opened ≡ [] → ⊥) → ((more : List (List (ℕ × ℕ))) → AreFrontiers opened (next.0 ∷ more) ↔ AreFrontiers after more) → Covers whole next.0
+next_covered whole Closes boxes next opened after number passed some step =
+    covers_begun whole next.0 (cells_of boxes)
+    (walked_begins whole (cells_of boxes ++ next.0 ∷ []) after (goes_on whole Closes boxes next opened after number passed some step).walked)
+
+pub unclosed_said : {W : Type 0} (whole : List (ℕ × ℕ)) (Closes : List (ℕ × ℕ) × W → Type 0) (boxes : List (List (ℕ × ℕ) × W)) (next : List (ℕ × ℕ) × W) (opened after : List (List (ℕ × ℕ))) (number : ℕ)
+    → ArePassed whole Closes boxes opened number → (opened ≡ [] → ⊥) → ((more : List (List (ℕ × ℕ))) → AreFrontiers opened (next.0 ∷ more) ↔ AreFrontiers after more) → (Closes next → ⊥)
+    → HasSaid whole Closes (boxes ++ next ∷ []) (UnclosedBox number)
+unclosed_said {W} whole Closes boxes next opened after number passed some step not_closed =
+    let on = goes_on whole Closes boxes next opened after number passed some step in
+    said_next whole Closes boxes next (UnclosedBox number)
+    (λ more. let all = boxes ++ next ∷ more in first_at whole Closes boxes more next opened number (λ place. IsPlaced whole (cells_of all) place × (HoldsAt Closes all place → ⊥)) passed
+    (on.placed more, λ at. not_closed (subst Closes (get_or-append_seam boxes next more next) (at next))))
+
+pub closed_on : {W : Type 0} (whole : List (ℕ × ℕ)) (Closes : List (ℕ × ℕ) × W → Type 0) (boxes : List (List (ℕ × ℕ) × W)) (next : List (ℕ × ℕ) × W) (opened after : List (List (ℕ × ℕ))) (number : ℕ)
+    → ArePassed whole Closes boxes opened number → (opened ≡ [] → ⊥) → ((more : List (List (ℕ × ℕ))) → AreFrontiers opened (next.0 ∷ more) ↔ AreFrontiers after more) → Closes next
+    → IsCovered whole Closes boxes next after
+closed_on {W} whole Closes boxes next opened after number passed some step closed =
+    let on = goes_on whole Closes boxes next opened after number passed some step in
+    let all = boxes ++ next ∷ [] in
+    let longer : length boxes + 1 ≡ length all = sym (length-append boxes (next ∷ [])) in
+    record {
+      walked = subst (λ (l : List (List (ℕ × ℕ))). IsWalked whole l after) (sym (cells-append boxes (next ∷ []))) on.walked;
+      right = subst (AreRight whole (cells_of all) (HoldsAt Closes all)) longer
+          (below_more (IsRight whole (cells_of all) (HoldsAt Closes all)) (length boxes) (right_more whole Closes boxes (next ∷ []) passed.right)
+          (record { placed = on.placed []; closed = λ d. subst Closes (sym (get_or-append_seam boxes next [] d)) closed }));
+    }
+
+-- where no box follows
+pub none_said : {W : Type 0} (whole : List (ℕ × ℕ)) (Closes : List (ℕ × ℕ) × W → Type 0) (boxes : List (List (ℕ × ℕ) × W)) (opened : List (List (ℕ × ℕ))) (number : ℕ)
+    → ArePassed whole Closes boxes opened number → opened ≡ [] → AreSaid whole Closes boxes NoneWrong
+none_said whole Closes boxes opened number passed none = (
+  walked_whole whole (cells_of boxes) opened passed.walked none,
+  λ place below. (passed.right place (omega (arith, below, length-cells boxes))).closed,
+)
+
+pub unfinished_said : {W : Type 0} (whole : List (ℕ × ℕ)) (Closes : List (ℕ × ℕ) × W → Type 0) (boxes : List (List (ℕ × ℕ) × W)) (opened : List (List (ℕ × ℕ))) (number : ℕ)
+    → ArePassed whole Closes boxes opened number → (opened ≡ [] → ⊥) → AreSaid whole Closes boxes Unfinished
+unfinished_said whole Closes boxes opened number passed some = (
+  λ place below. passed.right place (omega (arith, below, length-cells boxes)),
+  λ front. walked_open whole (cells_of boxes) opened passed.walked some (subst (IsFrontier whole) (take_all (length (cells_of boxes)) (cells_of boxes) (omega arith)) front),
+)
+
+pub had_said : {W : Type 0} (whole : List (ℕ × ℕ)) (Closes : List (ℕ × ℕ) × W → Type 0) (boxes : List (List (ℕ × ℕ) × W)) (said : Said) → HasSaid whole Closes boxes said → AreSaid whole Closes boxes said
+had_said {W} whole Closes boxes said has = subst (λ (l : List (List (ℕ × ℕ) × W)). AreSaid whole Closes l said) (append-nil boxes) (has [])
+
+pub stays_said : {W : Type 0} (whole : List (ℕ × ℕ)) (Closes : List (ℕ × ℕ) × W → Type 0) (boxes more : List (List (ℕ × ℕ) × W)) (said : Said) → HasSaid whole Closes boxes said
+    → HasSaid whole Closes (boxes ++ more) said
+stays_said {W} whole Closes boxes more said has others =
+    subst (λ (l : List (List (ℕ × ℕ) × W)). AreSaid whole Closes l said) (sym (append_assoc boxes more others)) (has (more ++ others))
+
+-- no box yet
+pub none_passed : {W : Type 0} (whole : List (ℕ × ℕ)) (Closes : List (ℕ × ℕ) × W → Type 0) → ArePassed whole Closes [] (whole ∷ []) 1
+none_passed whole Closes = record { walked = walked_start whole; right = λ place below. absurd (omega (arith, below)); numbered = refl }
+
+-- one box more
+pub passing_next : {W : Type 0} (whole : List (ℕ × ℕ)) (Closes : List (ℕ × ℕ) × W → Type 0) (boxes : List (List (ℕ × ℕ) × W)) (next : List (ℕ × ℕ) × W) (opened : List (List (ℕ × ℕ))) (number : ℕ)
+    (fault : Option Said) → NumbersBox number (length boxes + 1) → MatchOption fault (IsCovered whole Closes boxes next opened) (HasSaid whole Closes (boxes ++ next ∷ []))
+    → IsPassing whole Closes (boxes ++ next ∷ []) opened number fault
+passing_next whole Closes boxes next opened number None numbered covered = record {
+  walked = covered.walked;
+  right = covered.right;
+  numbered = numbered ∙ ap (λ (n : ℕ). min (n + 1) 4_294_967_295) (sym (length-append boxes (next ∷ [])));
+}
+passing_next whole Closes boxes next opened number (Some said) numbered has = has
+
+pub passing_stays : {W : Type 0} (whole : List (ℕ × ℕ)) (Closes : List (ℕ × ℕ) × W → Type 0) (boxes more : List (List (ℕ × ℕ) × W)) (opened : List (List (ℕ × ℕ))) (number : ℕ) (wrong : Option Said)
+    → IsTrue (is_some wrong) → IsPassing whole Closes boxes opened number wrong → IsPassing whole Closes (boxes ++ more) opened number wrong
+passing_stays whole Closes boxes more opened number None some has = absurd (false≢true some)
+passing_stays whole Closes boxes more opened number (Some said) some has = stays_said whole Closes boxes more said has
+
+pub still_passed : {W : Type 0} (whole : List (ℕ × ℕ)) (Closes : List (ℕ × ℕ) × W → Type 0) (boxes : List (List (ℕ × ℕ) × W)) (opened : List (List (ℕ × ℕ))) (number : ℕ) (wrong : Option Said)
+    → is_some wrong ≡ false → IsPassing whole Closes boxes opened number wrong → ArePassed whole Closes boxes opened number
+still_passed whole Closes boxes opened number None none passed = passed
+still_passed whole Closes boxes opened number (Some said) none passed = absurd (false≢true (sym none))
+
+-- what holds of a box holds where it stands
+pub holds_at : {A B : Type 0} (view : A → B) (P : B → Type 0) (items : List A) (i : ℕ) (item : A) → i < length items → item ≡ get_or items i item → P (view item) → HoldsAt P (map view items) i
+holds_at view P items i item below is holds d = subst P (sym (get_or-map view items i item d below ∙ ap view (sym is))) holds
+
+pub map_twice : {A B C : Type 0} (f : A → B) (g : B → C) (xs : List A) → map (λ x. g (f x)) xs ≡ map g (map f xs)
+map_twice f g [] = refl
+map_twice {A} {B} {C} f g (x ∷ xs) = ap (λ (l : List C). g (f x) ∷ l) (map_twice f g xs)
 
 -- the cells of one box more
 pub cells_more : {B : Type 0} (cell : B → List (ℕ × ℕ)) (boxes : List B) (i : ℕ) (next : B) → i < length boxes → next ≡ get_or boxes i next
@@ -35,78 +206,3 @@ pub walked_more : {B : Type 0} (whole : List (ℕ × ℕ)) (cell : B → List (�
 walked_more whole cell boxes i next spans opened after below item is walked step =
     subst (λ (l : List (List (ℕ × ℕ))). IsWalked whole l after) (ap (λ (c : List (ℕ × ℕ)). take i (map cell boxes) ++ c ∷ []) is
     ∙ sym (cells_more cell boxes i next below item)) (walked_on whole spans (take i (map cell boxes)) opened after walked step)
-
--- a cell that stands where it must lies in the whole
-pub placed_covered : (whole : List (ℕ × ℕ)) (cells : List (List (ℕ × ℕ))) (place : ℕ) → place < length cells → BeginWhole whole cells (place + 1) → Covers whole (get_or cells place [])
-placed_covered whole cells place below begins =
-    covers_begun whole (get_or cells place []) (take place cells) (subst (Begins whole) (take_more cells place [] below) begins)
-
--- the cells that a walk passed are right where they are closed
-pub rights : (whole : List (ℕ × ℕ)) (cells : List (List (ℕ × ℕ))) (IsClosedAt : ℕ → Type 0) (walked : Walked) → EndsAt whole cells walked → (count : ℕ) → count ≤ walked.count
-    → ((place : ℕ) → place < count → IsClosedAt place) → AreRight whole cells IsClosedAt count
-rights whole cells IsClosedAt walked ends count few closed place below =
-    record { placed = ends.placed place (omega (arith, below, few)); closed = closed place below }
-
--- a walk passes no more cells than there are
-pub count_within : (whole : List (ℕ × ℕ)) (cells : List (List (ℕ × ℕ))) (count : ℕ) (end_ : WalkEnd) → IsEnd whole cells count end_ → count ≤ length cells
-count_within whole cells count Whole at = omega (arith, at.0)
-count_within whole cells count Extra at = omega (arith, at.0)
-count_within whole cells count Place at = omega (arith, at.0)
-count_within whole cells count Open at = omega (arith, at.0)
-
--- what is said where a walk ends in this way and each cell that it passed is closed
-abbrev pub end_said : WalkEnd → ℕ → Said
-end_said Whole number = NoneWrong
-end_said Extra number = ExtraBox number
-end_said Place number = StrayBox number
-end_said Open number = Unfinished
-
-said_at : (whole : List (ℕ × ℕ)) (cells : List (List (ℕ × ℕ))) (IsClosedAt : ℕ → Type 0) (count number : ℕ) (end_ : WalkEnd) → IsEnd whole cells count end_ → AreRight whole cells IsClosedAt count
-    → NumbersBox number count → IsSaid whole cells IsClosedAt (end_said end_ number)
-said_at whole cells IsClosedAt count number Whole at right numbered = (
-  subst (IsFrontier whole) (take_all count cells (omega (arith, at.0))) at.1,
-  λ place below. (right place (omega (arith, below, at.0))).closed,
-)
-said_at whole cells IsClosedAt count number Extra at right numbered =
-    record { place = count; numbered = numbered; within = at.0; before = right; wrong = at.1 }
-said_at whole cells IsClosedAt count number Place at right numbered =
-    record { place = count; numbered = numbered; within = at.0; before = right; wrong = (at.1, at.2) }
-said_at whole cells IsClosedAt count number Open at right numbered = (
-  λ place below. right place (omega (arith, below, at.0)),
-  subst (λ (n : ℕ). AreWhole whole cells n → ⊥) at.0 at.1,
-)
-
--- where each cell that the walk passed is closed
-pub passed_said : (whole : List (ℕ × ℕ)) (cells : List (List (ℕ × ℕ))) (IsClosedAt : ℕ → Type 0) (walked : Walked) (number : ℕ) → EndsAt whole cells walked
-    → ((place : ℕ) → place < walked.count → IsClosedAt place) → NumbersBox number walked.count → IsSaid whole cells IsClosedAt (end_said walked.end number)
-passed_said whole cells IsClosedAt walked number ends closed numbered =
-    said_at whole cells IsClosedAt walked.count number walked.end ends.end_ (rights whole cells IsClosedAt walked ends walked.count (omega arith) closed) numbered
-
--- and where one of them isn't
-pub unclosed_said : (whole : List (ℕ × ℕ)) (cells : List (List (ℕ × ℕ))) (IsClosedAt : ℕ → Type 0) (walked : Walked) (place number : ℕ) → EndsAt whole cells walked → place < walked.count
-    → ((before : ℕ) → before < place → IsClosedAt before) → (IsClosedAt place → ⊥) → NumbersBox number place → IsSaid whole cells IsClosedAt (UnclosedBox number)
-unclosed_said whole cells IsClosedAt walked place number ends below closed open_ numbered = record {
-  place = place;
-  numbered = numbered;
-  within = omega (arith, below, count_within whole cells walked.count walked.end ends.end_);
-  before = rights whole cells IsClosedAt walked ends place (omega (arith, below)) closed;
-  wrong = (ends.placed place below, open_);
-}
-
--- what holds of a box holds where it stands
-pub holds_at : {A B : Type 0} (view : A → B) (P : B → Type 0) (items : List A) (i : ℕ) (item : A) → i < length items → item ≡ get_or items i item → P (view item) → HoldsAt P (map view items) i
-holds_at view P items i item below is holds d = subst P (sym (get_or-map view items i item d below ∙ ap view (sym is))) holds
-
-pub held_at : {A B : Type 0} (view : A → B) (P : B → Type 0) (items : List A) (i : ℕ) (item : A) → i < length items → item ≡ get_or items i item → HoldsAt P (map view items) i → P (view item)
-held_at view P items i item below is holds = subst P (get_or-map view items i item (view item) below ∙ ap view (sym is)) (holds (view item))
-
-pub map_twice : {A B C : Type 0} (f : A → B) (g : B → C) (xs : List A) → map (λ x. g (f x)) xs ≡ map g (map f xs)
-map_twice f g [] = refl
-map_twice {A} {B} {C} f g (x ∷ xs) = ap (λ (l : List C). g (f x) ∷ l) (map_twice f g xs)
-
--- a box that a walk passed lies in the whole
-pub passed_covered : {W : Type 0} (whole : List (ℕ × ℕ)) (boxes : List (List (ℕ × ℕ) × W)) (walked : Walked) (place : ℕ) → EndsAt whole (map (λ box. box.0) boxes) walked → place < walked.count
-    → place < length boxes → HoldsAt (λ box. Covers whole box.0) boxes place
-passed_covered {W} whole boxes walked place ends passed below d =
-    subst (Covers whole) (get_or-map (λ (box : List (ℕ × ℕ) × W). box.0) boxes place d [] below)
-    (placed_covered whole (map (λ box. box.0) boxes) place (omega (arith, below, length-map boxes (λ (box : List (ℕ × ℕ) × W). box.0))) (ends.placed place passed).placed)

@@ -5,11 +5,12 @@ use Rattle.std.proofs.lemmas.Bool.{cond-false, cond-true, le-ltb, lt-ltb, ltb-tr
 use Rattle.std.proofs.lemmas.List.{append-nil, map-append}
 use Rattle.std.proofs.lemmas.Option.{cond_some}
 use Rattle.gl_box.specs.declared.cell.Cell.{Cell}
+use Rattle.gl_box.specs.Along.{Closes, Cuts, StaysSingle}
 use Rattle.gl_box.specs.Cell.{spans_of}
 use Rattle.gl_box.specs.Frontier.{IsFrontier}
 use Rattle.gl_box.specs.Frontier.IsFrontier.{alone, parted}
 use Rattle.gl_box.specs.Halves.{AreHalves, IsSingle, IsWidest, halves_of, lower_at, span_at, upper_at, widest_axis, width}
-use Rattle.gl_box.specs.Turns.{boxes_from, closed_by, cut_into, left_open, open_after, when_cut}
+use Rattle.gl_box.specs.Turns.{boxes_from, closed_by, cut_into, left_open, open_after, others_of, when_cut}
 use Rattle.gl_box.specs.Walk.{AreFrontiers, cuts_of, open_cells}
 use Rattle.gl_box.proofs.Frontiers.{open_push, widest_unique}
 use Rattle.gl_box.proofs.Singles.{widest_is}
@@ -140,6 +141,48 @@ uncut_opened before rest cell top single =
     let others = open_cells rest in
     let opened : open_cells before ≡ spans_of cell ∷ others = ap open_cells top ∙ open_push rest cell in
     opened ∙ sym (ap when_cut opened ∙ ap (λ (h : Option (List (ℕ × ℕ) × List (ℕ × ℕ))). cut_into h (spans_of cell) others) (single_uncut (spans_of cell) single))
+
+-- a turn that is added
+pub turn_added : {T W : Type 0} (reason : T → Option W) (before after : List T) (turn : T) (why : Option W) → after ≡ before ++ turn ∷ [] → reason turn ≡ why
+    → map reason after ≡ map reason before ++ why ∷ []
+turn_added {T} {W} reason before after turn why is told =
+    ap (map reason) is ∙ map-append reason before (turn ∷ []) ∙ ap (λ (w : Option W). map reason before ++ w ∷ []) told
+
+-- a single tuple is closed by such a turn
+pub single_closed : {W : Type 0} (cell left : Cell) (before after : List Cell) (turns same turns_after : List (Option W)) (why : W) → StaysSingle cell left before after turns same
+    → turns_after ≡ same ++ Some why ∷ [] → Closes cell before after turns turns_after why
+single_closed {W} cell left before after turns same turns_after why stays is =
+    record { top = stays.top; turn = is ∙ ap (λ (ts : List (Option W)). ts ++ Some why ∷ []) stays.turns }
+
+-- where turns lead that are added, whatever else is open, and which boxes they close
+pub record Leads {W : Type 0} (start : List (List (ℕ × ℕ))) (turns turns_after : List (Option W)) (cells : List Cell) (others : List (List (ℕ × ℕ))) (closed : List (List (ℕ × ℕ) × W)) : Type 0 where
+  pub left : left_open start turns_after ≡ open_cells cells ++ others
+  pub boxes : boxes_from start turns_after ≡ boxes_from start turns ++ closed
+
+-- the last open cell comes before all others
+open_last : (cells rest : List Cell) (cell : Cell) (others : List (List (ℕ × ℕ))) → cells ≡ rest ++ cell ∷ [] → open_cells cells ++ others ≡ spans_of cell ∷ (open_cells rest ++ others)
+open_last cells rest cell others top = ap (λ (l : List (List (ℕ × ℕ))). l ++ others) (ap open_cells top ∙ open_push rest cell)
+
+module _ {W : Type 0} (start others : List (List (ℕ × ℕ))) (cell : Cell) (before after : List Cell) (turns turns_after : List (Option W)) (led : left_open start turns ≡ open_cells before ++ others) where
+  pub leads_closed : (why : W) → Closes cell before after turns turns_after why → Leads start turns turns_after after others ((spans_of cell, why) ∷ [])
+  leads_closed why closes =
+      let there : left_open start turns ≡ spans_of cell ∷ (open_cells after ++ others) = led ∙ open_last before after cell others closes.top in
+      record {
+        left = ap (left_open start) closes.turn ∙ left_open-append start turns (Some why ∷ []) ∙ ap others_of there;
+        boxes = ap (boxes_from start) closes.turn ∙ boxes_from-append start turns (Some why ∷ [])
+            ∙ ap (λ (l : List (List (ℕ × ℕ))). boxes_from start turns ++ boxes_from l (Some why ∷ [])) there;
+      }
+
+  pub leads_cut : Cuts cell before after turns turns_after → Leads start turns turns_after after others []
+  leads_cut cuts =
+      let rest = cuts.rest in
+      let two : open_cells after ++ others ≡ spans_of cuts.lower ∷ spans_of cuts.upper ∷ (open_cells rest ++ others) =
+      open_last after (rest ++ cuts.upper ∷ []) cuts.lower others cuts.cut ∙ ap (λ (l : List (List (ℕ × ℕ))). spans_of cuts.lower ∷ l) (open_last (rest ++ cuts.upper ∷ []) rest cuts.upper others refl) in
+      record {
+        left = ap (left_open start) cuts.turn ∙ left_open-append start turns (None ∷ []) ∙ ap when_cut (led ∙ open_last before rest cell others cuts.top)
+            ∙ cut_open (spans_of cell) (spans_of cuts.lower) (spans_of cuts.upper) (open_cells rest ++ others) cuts.halves ∙ sym two;
+        boxes = ap (boxes_from start) cuts.turn ∙ boxes_from-append start turns (None ∷ []);
+      }
 
 -- a walk that goes on by cuts to a cell
 pub record IsThere {W : Type 0} (opened : List (List (ℕ × ℕ))) (turns after : List (Option W)) (cell : List (ℕ × ℕ)) (others : List (List (ℕ × ℕ))) : Type 0 where

@@ -1,7 +1,7 @@
 -- The open cells of a search: how many steps they can take.
-use Rattle.std.proofs.Common.{◌≡◌, ap, ℕ, zero, suc, ◌+◌, ◌<◌, ◌≤◌, List, [], ◌∷◌, ◌++◌, Option, arith}
+use Rattle.std.proofs.Common.{◌≡◌, ap, inl, inr, ℕ, zero, suc, ◌+◌, ◌<◌, ◌≤◌, List, [], ◌∷◌, ◌++◌, Option, arith}
 use Rattle.gl_box.specs.declared.cell.Cell.{Cell}
-use Rattle.gl_box.specs.Along.{Closes, Cuts}
+use Rattle.gl_box.specs.Along.{Advances, Closes, Cuts}
 use Rattle.gl_box.specs.Cell.{spans_of}
 use Rattle.gl_box.proofs.Nodes.{spread, spread-lower, spread-upper}
 
@@ -39,17 +39,22 @@ pub work_of-one : (cell : Cell) → work_of (cell ∷ []) ≡ turns (spread (spa
 unfolding work_of
 work_of-one cell = omega arith
 
--- each step leaves less work
-pub closes_falls : {W : Type 0} (before after : List Cell) (turns_before turns_after : List (Option W)) (why : W) → Closes before after turns_before turns_after why → work_of after < work_of before
-closes_falls before after turns_before turns_after why closes =
-    let cell = closes.cell in
+closes_falls : {W : Type 0} (cell : Cell) (before after : List Cell) (turns_before turns_after : List (Option W)) (why : W) → Closes cell before after turns_before turns_after why
+    → work_of after < work_of before
+closes_falls cell before after turns_before turns_after why closes =
     omega (arith, ap work_of closes.top, work_of-append after (cell ∷ []), work_of-one cell, turns_some (spread (spans_of cell)))
 
-pub cuts_falls : {W : Type 0} (before after : List Cell) (turns_before turns_after : List (Option W)) → Cuts before after turns_before turns_after → work_of after < work_of before
-cuts_falls before after turns_before turns_after cuts =
+cuts_falls : {W : Type 0} (cell : Cell) (before after : List Cell) (turns_before turns_after : List (Option W)) → Cuts cell before after turns_before turns_after → work_of after < work_of before
+cuts_falls cell before after turns_before turns_after cuts =
     let rest = cuts.rest in
-    let low = spread-lower (spans_of cuts.cell) (spans_of cuts.lower) (spans_of cuts.upper) cuts.halves in
-    let high = spread-upper (spans_of cuts.cell) (spans_of cuts.lower) (spans_of cuts.upper) cuts.halves in
+    let low = spread-lower (spans_of cell) (spans_of cuts.lower) (spans_of cuts.upper) cuts.halves in
+    let high = spread-upper (spans_of cell) (spans_of cuts.lower) (spans_of cuts.upper) cuts.halves in
     let less = turns_cut _ _ _ low high in
     let all = work_of-append (rest ++ cuts.upper ∷ []) (cuts.lower ∷ []) in
-    omega (arith, less, ap work_of cuts.top, ap work_of cuts.cut, work_of-append rest (cuts.cell ∷ []), all, work_of-append rest (cuts.upper ∷ []), work_of-one cuts.cell, work_of-one cuts.lower, work_of-one cuts.upper)
+    omega (arith, less, ap work_of cuts.top, ap work_of cuts.cut, work_of-append rest (cell ∷ []), all, work_of-append rest (cuts.upper ∷ []), work_of-one cell, work_of-one cuts.lower, work_of-one cuts.upper)
+
+-- each step leaves less work
+pub work_falls : {W : Type 0} (IsClosed : List (ℕ × ℕ) → W → Type 0) (IsOpen : List (ℕ × ℕ) → Type 0) (before after : List Cell) (turns_before turns_after : List (Option W))
+    → Advances IsClosed IsOpen before after turns_before turns_after → work_of after < work_of before
+work_falls IsClosed IsOpen before after turns_before turns_after (inl closed) = closes_falls closed.cell before after turns_before turns_after closed.why closed.closes
+work_falls IsClosed IsOpen before after turns_before turns_after (inr open_) = cuts_falls open_.cell before after turns_before turns_after open_.cuts

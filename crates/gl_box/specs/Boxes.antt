@@ -3,9 +3,8 @@
 -- why, is said elsewhere; places count from 0.
 use Rattle.std.specs.Prelude.{◌≡◌, ℕ, ◌+◌, ◌<◌, List, ◌++◌, length, min, take}
 use Rattle.gl_box.specs.Frontier.{IsFrontier}
-use Rattle.gl_box.specs.declared.passage.Walked.{Walked}
-use Rattle.gl_box.specs.declared.passage.WalkEnd.{WalkEnd}
-use Rattle.gl_box.specs.declared.passage.WalkEnd.TheVariants.{Whole, Extra, Place, Open}
+use Rattle.gl_box.specs.declared.checking.Said.{Said}
+use Rattle.gl_box.specs.declared.checking.Said.TheVariants.{NoneWrong, ExtraBox, StrayBox, UnclosedBox, Unfinished}
 
 -- cells begin a partition of a whole by splits: with some cells behind them they are a frontier
 abbrev pub Begins : List (ℕ × ℕ) → List (List (ℕ × ℕ)) → Type 0
@@ -25,24 +24,6 @@ pub record IsPlaced (whole : List (ℕ × ℕ)) (cells : List (List (ℕ × ℕ)
     : Type 0 where
   pub needed : AreWhole whole cells place → ⊥
   pub placed : BeginWhole whole cells (place + 1)
-
--- so do the first cells, so many of them
-abbrev pub ArePlaced : List (ℕ × ℕ) → List (List (ℕ × ℕ)) → ℕ → Type 0
-ArePlaced whole cells count = (place : ℕ) → place < count → IsPlaced whole cells place
-
--- why a walk over cells goes no further behind the first of them, so many
-abbrev pub IsEnd : List (ℕ × ℕ) → List (List (ℕ × ℕ)) → ℕ → WalkEnd → Type 0
-IsEnd whole cells count Whole = (count ≡ length cells) × AreWhole whole cells count
-IsEnd whole cells count Extra = (count < length cells) × AreWhole whole cells count
-IsEnd whole cells count Place =
-    (count < length cells) × ¬ AreWhole whole cells count × ¬ BeginWhole whole cells (count + 1)
-IsEnd whole cells count Open = (count ≡ length cells) × ¬ AreWhole whole cells count
-
--- how far a walk over cells comes, and why no further
-pub record EndsAt (whole : List (ℕ × ℕ)) (cells : List (List (ℕ × ℕ))) (walked : Walked)
-    : Type 0 where
-  pub placed : ArePlaced whole cells walked.count
-  pub end_ : IsEnd whole cells walked.count walked.end
 
 -- nothing is wrong with the cell at a place: it stands where it must, and it is closed
 pub record IsRight (whole : List (ℕ × ℕ)) (cells : List (List (ℕ × ℕ))) (IsClosedAt : ℕ → Type 0)
@@ -68,16 +49,6 @@ pub record IsFirst (whole : List (ℕ × ℕ)) (cells : List (List (ℕ × ℕ))
   pub within : place < length cells
   pub before : AreRight whole cells IsClosedAt place
   pub wrong : IsWrong place
-
--- What is said of boxes: that nothing is wrong, or what is the first thing that is. With a box of
--- this number the boxes before it are already the whole; with it they begin no partition of the
--- whole; it isn't closed. Or the boxes end before they are the whole.
-pub data Said : Type 0 where
-  NoneWrong : Said
-  ExtraBox : ℕ → Said
-  StrayBox : ℕ → Said
-  UnclosedBox : ℕ → Said
-  Unfinished : Said
 
 -- the first of these that holds
 abbrev pub IsSaid : List (ℕ × ℕ) → List (List (ℕ × ℕ)) → (ℕ → Type 0) → Said → Type 0

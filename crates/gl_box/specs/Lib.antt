@@ -8,3 +8,4 @@ pub mod InLists
 pub mod Walk
 pub mod Turns
 pub mod Along
+pub mod Passing

@@ -1,6 +1,7 @@
-ghost use Rattle.std.specs.Prelude.{◌≡◌, ◌<◌, ◌∷◌, ◌++◌, ℕ, List, None, false, map, replicate, IfOk, IsTrue, OnOk, vec_len};
+ghost use Rattle.std.specs.Prelude.{◌≡◌, [], ◌∷◌, ◌++◌, ℕ, List, None, false, map, replicate, IfOk, IsTrue};
+ghost use Rattle.gl_box.specs.declared.cell.Cell.{Cell};
 ghost use Rattle.gl_box.specs.Cell.{spans_of};
-ghost use Rattle.gl_box.specs.Along.{Closes, Cuts, StaysSingle};
+ghost use Rattle.gl_box.specs.Along.{Settles};
 ghost use Rattle.gl_box.specs.Walk.{AreFrontiers, ComesTo, open_cells};
 
 use crate::cell::Cell;
@@ -9,42 +10,34 @@ use crate::turn::Turn;
 use crate::walk::cuts_to;
 use std::alloc::AllocError;
 
-/// Closes the first open cell, the last of the list. The only error is want of memory.
+/// Settles the first open cell, the last of the list. By a reason, if there is one, it is closed.
+/// Otherwise it gives way to its halves, the lower one last; a single tuple can't be cut, and is
+/// answered: it is open no more, and no turn is kept for it. The only error is want of memory.
 #[inline]
-pub fn close_first<T: Turn>(
+pub fn settle<T: Turn>(
     opened: &mut Vec<Cell>,
     turns: &mut Vec<T>,
-    why: T::Why,
-) -> Result<(), AllocError>
-    requires { 0 < vec_len opened.old }
-    ensures { OnOk result (Closes opened.old.items opened.new.items
-        (map T.reason turns.old.items) (map T.reason turns.new.items) why) }
+    why: Option<T::Why>,
+) -> Result<Option<Cell>, AllocError>
+    ensures { IfOk result (λ single. (rest : List Cell) (cell : Cell)
+        → opened.old.items ≡ rest ++ cell ∷ []
+        → Settles cell opened.old.items opened.new.items
+        (map T.reason turns.old.items) (map T.reason turns.new.items) why single) }
 {
-    if let Some(_closed) = opened.pop() {
-        turns.push(T::close(why))?;
-    }
-    Ok(())
-}
-
-/// Cuts the first open cell, the last of the list, which gives way to its halves, the lower one
-/// last. Answers whether it did: a single tuple stays as it is. The only error is want of memory.
-#[inline]
-pub fn cut_first<T: Turn>(opened: &mut Vec<Cell>, turns: &mut Vec<T>) -> Result<bool, AllocError>
-    requires { 0 < vec_len opened.old }
-    ensures cut { IfOk result (λ is_cut. IsTrue is_cut
-        → Cuts opened.old.items opened.new.items
-        (map T.reason turns.old.items) (map T.reason turns.new.items)) }
-    ensures single { IfOk result (λ is_cut. is_cut ≡ false
-        → StaysSingle opened.old.items opened.new.items
-        (map T.reason turns.old.items) (map T.reason turns.new.items)) }
-{
-    let top = opened.len() - 1;
-    let Some(lower) = halve(&mut opened[top]) else {
-        return Ok(false);
+    let Some(mut first) = opened.pop() else {
+        return Ok(None);
     };
+    if let Some(why) = why {
+        turns.push(T::close(why))?;
+        return Ok(None);
+    }
+    let Some(lower) = halve(&mut first) else {
+        return Ok(Some(first));
+    };
+    opened.push(first)?;
     opened.push(lower)?;
     turns.push(T::cut())?;
-    Ok(true)
+    Ok(None)
 }
 
 /// Comes to a cell by cuts: the first open cell is cut, and its lower half again and again, until

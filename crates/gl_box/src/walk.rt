@@ -9,7 +9,7 @@ use crate::halves::widest;
 use std::alloc::AllocError;
 
 /// Room for open cells: each cut adds one, and a cell can be cut at most 32 times on each axis.
-pub(crate) const OPEN_ROOM: usize = 512;
+pub const OPEN_ROOM: usize = 512;
 
 /// Whether two cells have the same span on an axis.
 #[inline]

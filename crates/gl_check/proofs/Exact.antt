@@ -1,14 +1,17 @@
 -- A claim gets one verdict.
 use Rattle.std.proofs.Common.{◌≡◌, ◌∙◌, sym, ap, refl, ℕ, List, Option, Some, None}
 use Rattle.gl_box.specs.declared.closed.Why.{Why}
-use Rattle.gl_box.specs.Boxes.{Said, NoneWrong, ExtraBox, StrayBox, UnclosedBox, Unfinished}
+use Rattle.std.specs.List.{HoldsAt}
+use Rattle.gl_box.specs.declared.checking.Said.{Said}
+use Rattle.gl_box.specs.declared.checking.Said.TheVariants.{NoneWrong, ExtraBox, StrayBox, UnclosedBox, Unfinished}
+use Rattle.gl_box.specs.Passing.{cells_of}
 use Rattle.gl_box.proofs.Exact.{said_unique}
 use Rattle.gl_goal.specs.Goal.{Goal, whole_cell}
 use Rattle.gl_goal.specs.Certificate.{IsClaimed}
 use Rattle.gl_check.specs.declared.verdict.Verdict.{Verdict}
 use Rattle.gl_check.specs.declared.verdict.Verdict.TheVariants.{Yes, Fixes, Total, Extra, Place, Cell, Open}
-use Rattle.gl_check.specs.Verdict.{AreSaid, IsClosedAt, IsVerdict, cells_of}
-use Rattle.gl_check.proofs.Said.{certificate_said, same_worth, verdict_said}
+use Rattle.gl_check.specs.Verdict.{AreSaid, IsBoxClosed, IsVerdict, verdict_said}
+use Rattle.gl_check.proofs.Said.{certificate_said, same_worth}
 
 -- the verdict is of the fixes and the total, or of the boxes
 data Kind (rule : Goal) (total : Option ℕ) (fixes : List ℕ) (boxes : List (List (ℕ × ℕ) × Why)) (verdict : Verdict) : Type 0 where
@@ -48,7 +51,7 @@ kinds_unique rule total fixes boxes a b (of_total one is) (of_boxes said other c
 kinds_unique rule total fixes boxes a b (of_boxes said one claimed is) (of_fixes other at) = absurd (fixes_unclaimed rule total fixes boxes at claimed)
 kinds_unique rule total fixes boxes a b (of_boxes said one claimed is) (of_total other at) = absurd (total_unclaimed rule total fixes boxes at claimed)
 kinds_unique rule total fixes boxes a b (of_boxes said one claimed is) (of_boxes too other also at) =
-    one ∙ ap verdict_said (said_unique (whole_cell rule.axes) (cells_of boxes) (IsClosedAt rule total boxes) said too is at) ∙ sym other
+    one ∙ ap verdict_said (said_unique (whole_cell rule.axes) (cells_of boxes) (HoldsAt (IsBoxClosed rule total) boxes) said too is at) ∙ sym other
 
 -- one verdict is said of a claim
 pub verdict_unique : (rule : Goal) (total : Option ℕ) (fixes : List ℕ) (boxes : List (List (ℕ × ℕ) × Why)) (a b : Verdict) → IsVerdict rule total fixes boxes a → IsVerdict rule total fixes boxes b

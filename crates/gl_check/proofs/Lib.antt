@@ -1,5 +1,4 @@
 pub mod Choices
 pub mod Exact
 pub mod Judged
-pub mod Passed
 pub mod Said

@@ -1,26 +1,22 @@
 -- What a checker says of a claim: that it is a certificate, or the first thing that is wrong.
-use Rattle.std.specs.Prelude.{◌≡◌, ◌≢◌, ℕ, List, map, Option, IsSomeAnd}
-use Rattle.std.specs.List.{HoldsAt}
+use Rattle.std.specs.Prelude.{◌≡◌, ◌≢◌, ℕ, List, Option, IsSomeAnd}
+use Rattle.gl_box.specs.declared.checking.Said.{Said}
+use Rattle.gl_box.specs.declared.checking.Said.TheVariants.{NoneWrong, ExtraBox, StrayBox, UnclosedBox, Unfinished}
 use Rattle.gl_box.specs.declared.closed.Why.{Why}
-use Rattle.gl_box.specs.Boxes.{IsSaid, Said, ExtraBox, StrayBox, UnclosedBox, Unfinished}
+use Rattle.gl_box.specs.Passing as passing
 use Rattle.gl_goal.specs.Goal.{Goal, IsLegal, chosen, value, whole_cell}
 use Rattle.gl_goal.specs.Certificate.{IsCertificate, IsClaimed, IsClosedFor}
 use Rattle.gl_check.specs.declared.verdict.Verdict.{Verdict}
 use Rattle.gl_check.specs.declared.verdict.Verdict.TheVariants.{Yes, Fixes, Total, Extra, Place, Cell, Open}
 
--- the cells of boxes
-abbrev pub cells_of : List (List (ℕ × ℕ) × Why) → List (List (ℕ × ℕ))
-cells_of boxes = map (λ box. box.0) boxes
+-- a box is closed for the total by its reason
+abbrev pub IsBoxClosed : Goal → Option ℕ → List (ℕ × ℕ) × Why → Type 0
+IsBoxClosed goal total box = IsClosedFor goal total box.0 box.1
 
--- the box at a place, which counts from 0, is closed for the total by its reason
-abbrev pub IsClosedAt : Goal → Option ℕ → List (List (ℕ × ℕ) × Why) → ℕ → Type 0
-IsClosedAt goal total boxes place =
-    HoldsAt (λ box. IsClosedFor goal total box.0 box.1) boxes place
-
--- what is said of the boxes of a claim
+-- this is said of the boxes of a claim
 abbrev pub AreSaid : Goal → Option ℕ → List (List (ℕ × ℕ) × Why) → Said → Type 0
 AreSaid goal total boxes said =
-    IsSaid (whole_cell goal.axes) (cells_of boxes) (IsClosedAt goal total boxes) said
+    passing.AreSaid (whole_cell goal.axes) (IsBoxClosed goal total) boxes said
 
 -- The first of these that holds. Fixes: there is a total, and no legal tuple has these fixes.
 -- Total: they aren't worth the total. Then the first box that is wrong. Extra: the boxes before it
@@ -41,3 +37,11 @@ IsVerdict goal total fixes boxes (Cell number) =
     IsClaimed goal total fixes × AreSaid goal total boxes (UnclosedBox number)
 IsVerdict goal total fixes boxes Open =
     IsClaimed goal total fixes × AreSaid goal total boxes Unfinished
+
+-- the verdict where this is said of the boxes of a claim that holds
+abbrev pub verdict_said : Said → Verdict
+verdict_said NoneWrong = Yes
+verdict_said (ExtraBox number) = Extra number
+verdict_said (StrayBox number) = Place number
+verdict_said (UnclosedBox number) = Cell number
+verdict_said Unfinished = Open

@@ -1,106 +1,70 @@
-ghost use Rattle.std.specs.Prelude.{◌↔◌, ℕ, List, [], map, IfOk, IsTrue};
-ghost use Rattle.gl_box.specs.Cell.{Covers, spans_of};
-ghost use Rattle.gl_box.specs.Closed.{box_of};
-ghost use Rattle.gl_goal.specs.Goal.{whole_cell};
-ghost use Rattle.gl_goal.specs.Certificate.{IsClaimed, IsClosedFor};
+ghost use Rattle.std.specs.Prelude.{◌≡◌, [], IfOk};
 ghost use Rattle.gl_box.specs.InLists.{boxes_in};
-ghost use Rattle.gl_box.specs.Walk.{IsWalked, open_cells};
-ghost use Rattle.gl_check.specs.Verdict.{IsVerdict};
+ghost use Rattle.gl_goal.specs.Goal.{whole_cell};
+ghost use Rattle.gl_check.specs.Testing.{HasTaken};
+ghost use Rattle.gl_check.specs.Verdict.{AreSaid, IsBoxClosed};
 
-use crate::verdict::Verdict;
-use gl_box::{Boxes, Cell, Closed, Why, go_down, number_of};
+use gl_box::{BoxCheck, BoxTest, Boxes, Cell, Said, Why};
 use gl_goal::{Goal, Leg, measured_legs, whole};
 use std::alloc::{AllocError, Global};
 
-/// Room for open cells: each cut adds one, and a cell can be cut at most 32 times on each axis.
-const OPEN_ROOM: usize = 512;
+/// The test of the boxes of a goal: whether each is closed for a total by its reason.
+#[derive(Drop)]
+pub struct GoalTest<'a, G> {
+    pub goal: &'a G,
+    pub total: Option<u64>,
+}
 
-/// Whether a box is closed for the total by its reason.
-fn is_closed<G: Goal>(goal: &G, total: Option<u64>, closed: &Closed, legs: &mut [Leg]) -> bool
-    requires covers { Covers (whole_cell (G.rule goal.now).axes) (spans_of closed.now.cell) }
-    requires legs { G.are_legs goal.now legs.old }
-    ensures closed { IsTrue result
-        ↔ IsClosedFor (G.rule goal.now) total (spans_of closed.now.cell) closed.now.why }
-    ensures legs { G.are_legs goal.now legs.new }
-{
-    match closed.why {
-        Why::Disordered => goal.disordered(&closed.cell),
-        Why::Shut => goal.shut(&closed.cell),
-        Why::Bound => match total {
-            None => false,
-            Some(total) => goal.bound_by(&closed.cell, legs) <= total,
-        },
+impl<'a, G: Goal> BoxTest for GoalTest<'a, G> {
+    type Why = Why;
+
+    type Room = Vec<Leg>;
+
+    ghost whole = { λ test. whole_cell (G.rule test.goal.now).axes };
+
+    ghost closes = { λ test. IsBoxClosed (G.rule test.goal.now) test.total };
+
+    ghost is_room = { λ test legs. G.are_legs test.goal.now legs.items };
+
+    fn is_closed(&self, room: &mut Vec<Leg>, cell: &Cell, why: Why) -> bool {
+        match why {
+            Why::Disordered => self.goal.disordered(cell),
+            Why::Shut => self.goal.shut(cell),
+            Why::Bound => match self.total {
+                None => false,
+                Some(total) => self.goal.bound_by(cell, room.as_mut_slice()) <= total,
+            },
+        }
     }
 }
 
-/// What is said of boxes, of which none is passed yet: each is looked for where the walk over them
-/// stands, and then tested. The only error is want of memory.
-fn pass_boxes<G: Goal>(
-    goal: &G,
-    total: Option<u64>,
-    cells: &[Closed],
-    opened: &mut Vec<Cell>,
-    legs: &mut [Leg],
-) -> Result<Verdict, AllocError>
-    requires opened { IsWalked (whole_cell (G.rule goal.now).axes) []
-        (open_cells opened.old.items) }
-    requires legs { G.are_legs goal.now legs.old }
-    ensures { IfOk result (λ verdict. (fixes : List ℕ)
-        → IsClaimed (G.rule goal.now) total fixes
-        → IsVerdict (G.rule goal.now) total fixes (map box_of cells.now) verdict) }
-{
-    for (place, next) in cells.iter().enumerate() {
-        if opened.is_empty() {
-            return Ok(Verdict::Extra(number_of(place)));
-        }
-        if !go_down(opened, &next.cell)? {
-            return Ok(Verdict::Place(number_of(place)));
-        }
-        if !is_closed(goal, total, next, legs) {
-            return Ok(Verdict::Cell(number_of(place)));
-        }
-    }
-    if opened.is_empty() {
-        Ok(Verdict::Yes)
-    } else {
-        Ok(Verdict::Open)
-    }
-}
-
-/// What is said of the boxes of one list. The only error is want of memory.
-fn check_boxes<G: Goal>(
+/// A check of the boxes of a goal, as they come, of which it has seen none yet. The only error is
+/// want of memory.
+pub fn begin_check<G: Goal>(
     alloc: Global,
     goal: &G,
     total: Option<u64>,
-    cells: &[Closed],
-) -> Result<Verdict, AllocError>
-    ensures { IfOk result (λ verdict. (fixes : List ℕ)
-        → IsClaimed (G.rule goal.now) total fixes
-        → IsVerdict (G.rule goal.now) total fixes (map box_of cells.now) verdict) }
+) -> Result<BoxCheck<GoalTest<'_, G>, Vec<Leg>>, AllocError>
+    ensures begins { IfOk result (HasTaken G.rule G.are_legs []) }
+    ensures test { IfOk result (λ check. (check.test.goal.now ≡ goal.now) × (check.test.total ≡ total)) }
 {
-    let mut legs = measured_legs(alloc, goal)?;
-    let mut opened = Vec::with_capacity(alloc, OPEN_ROOM)?;
-    opened.push(whole(goal))?;
-    pass_boxes(goal, total, cells, &mut opened, legs.as_mut_slice())
+    let legs = measured_legs(alloc, goal)?;
+    BoxCheck::new(alloc, GoalTest { goal, total }, legs, whole(goal))
 }
 
-/// What is said of the boxes of a claim whose fixes reach its total. Those of a walk are spread out
-/// first. The only error is want of memory.
-pub fn check_form<G: Goal>(
+/// What is said of the boxes of a claim. The only error is want of memory.
+pub fn said_of<G: Goal>(
     alloc: Global,
     goal: &G,
     total: Option<u64>,
     cells: &Boxes,
-) -> Result<Verdict, AllocError>
-    ensures { IfOk result (λ verdict. (fixes : List ℕ)
-        → IsClaimed (G.rule goal.now) total fixes
-        → IsVerdict (G.rule goal.now) total fixes (boxes_in cells.now) verdict) }
+) -> Result<Said, AllocError>
+    ensures { IfOk result (AreSaid (G.rule goal.now) total (boxes_in cells.now)) }
 {
-    match cells {
-        Boxes::Listed(list) => check_boxes(alloc, goal, total, list.as_slice()),
-        Boxes::Walked(walk) => {
-            let list = walk.to_list(alloc)?;
-            check_boxes(alloc, goal, total, list.as_slice())
-        }
+    let mut check = begin_check(alloc, goal, total)?;
+    let mut boxes = cells.each(alloc)?;
+    'boxes: while let Some(next) = boxes.next()? {
+        check.take(&next.cell, next.why)?;
     }
+    Ok(check.said())
 }

@@ -7,7 +7,7 @@ ghost use Rattle.gl_check.specs.Checked.{IsCertified, IsCheckedAs};
 ghost use Rattle.gl_check.specs.declared.verdict.Verdict.{Verdict};
 ghost use Rattle.gl_check.specs.declared.verdict.Verdict.TheVariants.{Yes};
 
-use crate::boxes::check_form;
+use crate::boxes::said_of;
 use crate::choice::fault_of_choice;
 use crate::verdict::Verdict;
 use gl_goal::Goal;
@@ -21,7 +21,7 @@ fn verdict_of<G: Goal>(alloc: Global, goal: &G, claim: &Claim) -> Result<Verdict
     if let Some(verdict) = fault_of_choice(goal, claim.total, claim.fixes.as_slice()) {
         return Ok(verdict);
     }
-    check_form(alloc, goal, claim.total, &claim.cells)
+    Ok(Verdict::from(said_of(alloc, goal, claim.total, &claim.cells)?))
 }
 
 /// Checks a claim against a goal: `Yes` exactly where its boxes certify its total and its fixes,

@@ -1,3 +1,8 @@
+ghost use Rattle.std.specs.Prelude.{◌≡◌};
+ghost use Rattle.gl_check.specs.Verdict.{verdict_said};
+
+use gl_box::Said;
+
 /// What is said of a claim. Boxes count from 1, and a number above 4,294,967,295 is that one.
 #[derive(Clone, Copy, Debug, PartialEq, Eq)]
 pub enum Verdict {
@@ -15,4 +20,18 @@ pub enum Verdict {
     Cell(u32),
     /// The boxes end before the whole is covered.
     Open,
+}
+
+impl From<Said> for Verdict {
+    ghost from_gives = { λ said verdict. verdict ≡ verdict_said said };
+
+    fn from(said: Said) -> Verdict {
+        match said {
+            Said::NoneWrong => Verdict::Yes,
+            Said::ExtraBox(number) => Verdict::Extra(number),
+            Said::StrayBox(number) => Verdict::Place(number),
+            Said::UnclosedBox(number) => Verdict::Cell(number),
+            Said::Unfinished => Verdict::Open,
+        }
+    }
 }

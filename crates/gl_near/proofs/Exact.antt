@@ -1,6 +1,9 @@
 -- A claim gets one verdict.
 use Rattle.std.proofs.Common.{◌≡◌, ◌∙◌, sym, ap, refl, ℕ, List, Option, Some, None}
-use Rattle.gl_box.specs.Boxes.{Said, NoneWrong, ExtraBox, StrayBox, UnclosedBox, Unfinished}
+use Rattle.std.specs.List.{HoldsAt}
+use Rattle.gl_box.specs.declared.checking.Said.{Said}
+use Rattle.gl_box.specs.declared.checking.Said.TheVariants.{NoneWrong, ExtraBox, StrayBox, UnclosedBox, Unfinished}
+use Rattle.gl_box.specs.Passing.{cells_of}
 use Rattle.gl_box.proofs.Exact.{said_unique}
 use Rattle.gl_near.specs.declared.found.NearBest.{NearBest}
 use Rattle.gl_near.specs.declared.found.NearWhy.{NearWhy}
@@ -9,8 +12,8 @@ use Rattle.gl_near.specs.Certificate.{IsSound}
 use Rattle.gl_near.specs.declared.answer.NearVerdict.{NearVerdict}
 use Rattle.gl_near.specs.declared.answer.NearVerdict.TheVariants.{Yes, Pair, Total, Extra, Place, Cell, Open}
 use Rattle.gl_near.proofs.PairsLemmas.{reached_once}
-use Rattle.gl_near.specs.Verdict.{AreSaid, IsClosedAt, IsVerdict, cells_of}
-use Rattle.gl_near.proofs.Said.{certificate_said, verdict_said}
+use Rattle.gl_near.specs.Verdict.{AreSaid, IsBoxClosed, IsVerdict, verdict_said}
+use Rattle.gl_near.proofs.Said.{certificate_said}
 
 -- the verdict is of the pair and the total, or of the boxes
 data Kind (pairing : Pairing) (best : Option NearBest) (boxes : List (List (ℕ × ℕ) × NearWhy)) (verdict : NearVerdict) : Type 0 where
@@ -50,7 +53,7 @@ kinds_unique pairing best boxes a b (of_total one is) (of_boxes said other claim
 kinds_unique pairing best boxes a b (of_boxes said one claimed is) (of_pair other at) = absurd (pair_unclaimed pairing best boxes at claimed)
 kinds_unique pairing best boxes a b (of_boxes said one claimed is) (of_total other at) = absurd (total_unclaimed pairing best boxes at claimed)
 kinds_unique pairing best boxes a b (of_boxes said one claimed is) (of_boxes too other also at) =
-    one ∙ ap verdict_said (said_unique (whole_cell pairing) (cells_of boxes) (IsClosedAt pairing best boxes) said too is at) ∙ sym other
+    one ∙ ap verdict_said (said_unique (whole_cell pairing) (cells_of boxes) (HoldsAt (IsBoxClosed pairing best) boxes) said too is at) ∙ sym other
 
 -- one verdict is said of a claim
 pub verdict_unique : (pairing : Pairing) (best : Option NearBest) (boxes : List (List (ℕ × ℕ) × NearWhy)) (a b : NearVerdict) → IsVerdict pairing best boxes a → IsVerdict pairing best boxes b → a ≡ b

@@ -1,4 +1,4 @@
--- The open cells of a search: their work falls with each step, and its turns lead from the whole cell to them.
+-- The open cells of a search: its turns lead from the whole cell to them.
 use Rattle.std.proofs.Common.{◌≡◌, ◌∙◌, sym, ap, refl, subst, ℕ, ◌^◌, ◌-◌, ◌<◌, inl, inr, List, [], ◌∷◌, ◌++◌, length, map, take, arith}
 use Rattle.std.specs.Prelude.{◌↔◌, All, IfSome, IsNone, Option, Some, None}
 use Rattle.std.specs.Option.{option_to_list}
@@ -6,15 +6,14 @@ use Rattle.std.proofs.lemmas.List.{append-nil}
 use Rattle.std.proofs.lemmas.List.Elements.{All-cons, All-nil, All-push}
 use Rattle.gl_box.specs.declared.cell.Cell.{Cell}
 use Rattle.gl_box.specs.declared.span.Span.{Span}
-use Rattle.gl_box.specs.Along.{Cuts}
+use Rattle.gl_box.specs.Along.{Advances}
 use Rattle.gl_box.specs.Cell.{Covers, ends, point, spans_of}
 use Rattle.gl_box.specs.Halves.{IsSingle, span_at}
-use Rattle.gl_box.specs.Turns.{boxes_from, left_open, others_of, when_cut}
+use Rattle.gl_box.specs.Turns.{boxes_from, left_open}
 use Rattle.gl_box.specs.Walk.{open_cells}
-use Rattle.gl_box.proofs.Frontiers.{open_push}
 use Rattle.gl_box.proofs.Held.{length-covers}
 use Rattle.gl_box.proofs.Nodes.{covers_lower, covers_self, covers_through, covers_upper}
-use Rattle.gl_box.proofs.Turns.{boxes_from-append, cut_opened, left_open-append, turns_part}
+use Rattle.gl_box.proofs.Turns.{leads_closed, leads_cut, turns_part}
 use Rattle.gl_proof.specs.Words.{IsSpan}
 use Rattle.gl_near.specs.declared.dive.Candidate.{Candidate}
 use Rattle.gl_near.specs.declared.found.NearBest.{NearBest}
@@ -26,17 +25,10 @@ use Rattle.gl_near.specs.Line.{AreTwoSpans}
 use Rattle.gl_near.specs.Pairing.{Fits, IsApart, IsLeast, IsPairing, IsReached, Pairing, flights, least, place, whole_cell}
 use Rattle.gl_near.specs.Pairs.{pairing_of}
 use Rattle.gl_near.specs.Certificate.{IsCertificate, IsClosedFor, IsSound, total_of}
-use Rattle.gl_near.specs.Code.Search.{Advances, AreWithin, ClosesFor, IsBox, IsNoMore, IsUnderWay, Promises}
+use Rattle.gl_near.specs.Code.Search.{AreWithin, IsBox, IsNoMore, IsUnderWay, Promises}
 use Rattle.gl_near.proofs.PairsLemmas.{single_reached}
 use Rattle.gl_text.proofs.Lists.{All-last}
-use Rattle.gl_box.proofs.Work.{closes_falls, cuts_falls, work_of}
 use Rattle.gl_box.proofs.Lows.{single_low}
-
--- each step leaves less work
-pub work_falls : (pairing : Pairing) (total : Option ℕ) (before after : List Cell) (turns_before turns_after : List (Option NearWhy)) → Advances pairing total before after turns_before turns_after
-    → work_of after < work_of before
-work_falls pairing total before after turns_before turns_after (inl closes) = closes_falls before after turns_before turns_after closes.why closes.closes
-work_falls pairing total before after turns_before turns_after (inr cuts) = cuts_falls before after turns_before turns_after cuts
 
 -- a cell of two axes by its spans
 pair_of : (spans : List (ℕ × ℕ)) → length spans ≡ 2 → map (λ span. span.0) spans ≡ (span_at spans 0).0 ∷ (span_at spans 1).0 ∷ []
@@ -109,54 +101,41 @@ longer pairing old new boxes less all = λ k d below.
     record { closed = closed_longer pairing (total_of old) (total_of new) _ _ less box.closed; spans = box.spans }
 
 -- a search under way goes on
-under_way-closed : (pairing : Pairing) (old new : Option NearBest) (before after : List Cell) (turns_before turns_after : List (Option NearWhy)) → IsShort pairing → IsSound pairing new
-    → IsNoMore (total_of old) (total_of new) → IsUnderWay pairing old before turns_before → ClosesFor pairing (total_of new) before after turns_before turns_after
-    → IsUnderWay pairing new after turns_after
-under_way-closed pairing old new before after turns_before turns_after short sound less way closes =
+pub under_way_on : (pairing : Pairing) (old new : Option NearBest) (before after : List Cell) (turns_before turns_after : List (Option NearWhy)) → IsShort pairing → IsSound pairing new
+    → IsNoMore (total_of old) (total_of new) → IsUnderWay pairing old before turns_before
+    → Advances (IsClosedFor pairing (total_of new)) (λ cell. IsApart pairing cell → ⊥) before after turns_before turns_after → IsUnderWay pairing new after turns_after
+under_way_on pairing old new before after turns_before turns_after short sound less way (inl closed) =
     let start = whole_cell pairing ∷ [] in
-    let cell = closes.closes.cell in
-    let turn : Option NearWhy = Some closes.why in
-    let box : List (ℕ × ℕ) × NearWhy = (spans_of cell, closes.why) in
+    let cell = closed.cell in
+    let box : List (ℕ × ℕ) × NearWhy = (spans_of cell, closed.why) in
     let front = boxes_from start turns_before in
     let Q : Cell → Type 0 = λ c. Covers (whole_cell pairing) (spans_of c) in
-    let parts = All-last Q after cell (All_along Q before (after ++ cell ∷ []) closes.closes.top way.covered) in
-    let there : left_open start turns_before ≡ spans_of cell ∷ open_cells after = way.left ∙ ap open_cells closes.closes.top ∙ open_push after cell in
-    let boxes : boxes_from start turns_after ≡ front ++ box ∷ [] =
-    ap (boxes_from start) closes.closes.turn ∙ boxes_from-append start turns_before (turn ∷ []) ∙ ap (λ (l : List (List (ℕ × ℕ))). front ++ boxes_from l (turn ∷ [])) there in
+    let parts = All-last Q after cell (All_along Q before (after ++ cell ∷ []) closed.closes.top way.covered) in
+    let led = leads_closed start [] cell before after turns_before turns_after (way.left ∙ sym (append-nil (open_cells before))) closed.why closed.closes in
     record {
       sound = sound;
-      left = ap (left_open start) closes.closes.turn ∙ left_open-append start turns_before (turn ∷ []) ∙ ap others_of there;
-      boxes_are = All_along (IsBox pairing (total_of new)) (front ++ box ∷ []) (boxes_from start turns_after) (sym boxes)
-          (All-push (IsBox pairing (total_of new)) front box (longer pairing old new front less way.boxes_are) (record { closed = closes.reason; spans = cell_spans pairing cell short parts.1 }));
+      left = led.left ∙ append-nil (open_cells after);
+      boxes_are = All_along (IsBox pairing (total_of new)) (front ++ box ∷ []) (boxes_from start turns_after) (sym led.boxes)
+          (All-push (IsBox pairing (total_of new)) front box (longer pairing old new front less way.boxes_are) (record { closed = closed.reason; spans = cell_spans pairing cell short parts.1 }));
       covered = parts.0;
     }
-
-under_way-cut : (pairing : Pairing) (old new : Option NearBest) (before after : List Cell) (turns_before turns_after : List (Option NearWhy)) → IsSound pairing new
-    → IsNoMore (total_of old) (total_of new) → IsUnderWay pairing old before turns_before → Cuts before after turns_before turns_after → IsUnderWay pairing new after turns_after
-under_way-cut pairing old new before after turns_before turns_after sound less way cuts =
+under_way_on pairing old new before after turns_before turns_after short sound less way (inr open_) =
     let start = whole_cell pairing ∷ [] in
-    let turn : Option NearWhy = None in
+    let cell = spans_of open_.cell in
+    let cuts = open_.cuts in
     let front = boxes_from start turns_before in
     let Q : Cell → Type 0 = λ c. Covers (whole_cell pairing) (spans_of c) in
-    let parts = All-last Q cuts.rest cuts.cell (All_along Q before (cuts.rest ++ cuts.cell ∷ []) cuts.top way.covered) in
-    let low : Q cuts.lower = covers_through (whole_cell pairing) (spans_of cuts.cell) (spans_of cuts.lower) parts.1 (covers_lower (spans_of cuts.cell) (spans_of cuts.lower) (spans_of cuts.upper) cuts.halves) in
-    let high : Q cuts.upper = covers_through (whole_cell pairing) (spans_of cuts.cell) (spans_of cuts.upper) parts.1 (covers_upper (spans_of cuts.cell) (spans_of cuts.lower) (spans_of cuts.upper) cuts.halves) in
-    let boxes : boxes_from start turns_after ≡ front = ap (boxes_from start) cuts.turn ∙ boxes_from-append start turns_before (turn ∷ []) ∙ append-nil front in
+    let parts = All-last Q cuts.rest open_.cell (All_along Q before (cuts.rest ++ open_.cell ∷ []) cuts.top way.covered) in
+    let low : Q cuts.lower = covers_through (whole_cell pairing) cell (spans_of cuts.lower) parts.1 (covers_lower cell (spans_of cuts.lower) (spans_of cuts.upper) cuts.halves) in
+    let high : Q cuts.upper = covers_through (whole_cell pairing) cell (spans_of cuts.upper) parts.1 (covers_upper cell (spans_of cuts.lower) (spans_of cuts.upper) cuts.halves) in
+    let led = leads_cut start [] open_.cell before after turns_before turns_after (way.left ∙ sym (append-nil (open_cells before))) cuts in
     record {
       sound = sound;
-      left = ap (left_open start) cuts.turn ∙ left_open-append start turns_before (turn ∷ []) ∙ ap when_cut way.left
-          ∙ sym (cut_opened before cuts.rest after cuts.cell cuts.lower cuts.upper cuts.top cuts.halves cuts.cut);
-      boxes_are = All_along (IsBox pairing (total_of new)) front (boxes_from start turns_after) (sym boxes) (longer pairing old new front less way.boxes_are);
+      left = led.left ∙ append-nil (open_cells after);
+      boxes_are = All_along (IsBox pairing (total_of new)) front (boxes_from start turns_after) (sym (led.boxes ∙ append-nil front)) (longer pairing old new front less way.boxes_are);
       covered = All_along Q ((cuts.rest ++ cuts.upper ∷ []) ++ cuts.lower ∷ []) after (sym cuts.cut)
           (All-push Q (cuts.rest ++ cuts.upper ∷ []) cuts.lower (All-push Q cuts.rest cuts.upper parts.0 high) low);
     }
-
-pub under_way_on : (pairing : Pairing) (old new : Option NearBest) (before after : List Cell) (turns_before turns_after : List (Option NearWhy)) → IsShort pairing → IsSound pairing new
-    → IsNoMore (total_of old) (total_of new) → IsUnderWay pairing old before turns_before → Advances pairing (total_of new) before after turns_before turns_after
-    → IsUnderWay pairing new after turns_after
-under_way_on pairing old new before after turns_before turns_after short sound less way (inl closes) =
-    under_way-closed pairing old new before after turns_before turns_after short sound less way closes
-under_way_on pairing old new before after turns_before turns_after short sound less way (inr cuts) = under_way-cut pairing old new before after turns_before turns_after sound less way cuts
 
 -- a search begins with the whole cell
 pub under_way_start : (pairing : Pairing) (best : Option NearBest) (cells : List Cell) (cell : Cell) (turns : List (Option NearWhy)) → IsSound pairing best → turns ≡ [] → cells ≡ cell ∷ []

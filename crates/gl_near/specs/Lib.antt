@@ -5,3 +5,4 @@ pub mod Certificate
 pub mod Search
 pub mod Verdict
 pub mod Line
+pub mod Testing

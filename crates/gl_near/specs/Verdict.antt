@@ -1,7 +1,8 @@
 -- What a checker says of a claim: that it is a certificate, or the first thing that is wrong.
 use Rattle.std.specs.Prelude.{◌≢◌, ℕ, List, map, Option, IsSomeAnd}
-use Rattle.std.specs.List.{HoldsAt}
-use Rattle.gl_box.specs.Boxes.{IsSaid, Said, ExtraBox, StrayBox, UnclosedBox, Unfinished}
+use Rattle.gl_box.specs.declared.checking.Said.{Said}
+use Rattle.gl_box.specs.declared.checking.Said.TheVariants.{NoneWrong, ExtraBox, StrayBox, UnclosedBox, Unfinished}
+use Rattle.gl_box.specs.Passing as passing
 use Rattle.gl_near.specs.declared.claim.NearClaim.{NearClaim}
 use Rattle.gl_near.specs.declared.found.NearBest.{NearBest}
 use Rattle.gl_near.specs.declared.found.NearWhy.{NearWhy}
@@ -10,19 +11,14 @@ use Rattle.gl_near.specs.declared.answer.NearVerdict.TheVariants.{Yes, Pair, Tot
 use Rattle.gl_near.specs.Pairing.{Pairing, Fits, IsReached, whole_cell}
 use Rattle.gl_near.specs.Certificate.{IsCertificate, IsClosedFor, IsSound, box_of, total_of}
 
--- the cells of boxes
-abbrev pub cells_of : List (List (ℕ × ℕ) × NearWhy) → List (List (ℕ × ℕ))
-cells_of boxes = map (λ box. box.0) boxes
+-- a box is closed for the total by its reason
+abbrev pub IsBoxClosed : Pairing → Option NearBest → List (ℕ × ℕ) × NearWhy → Type 0
+IsBoxClosed pairing best box = IsClosedFor pairing (total_of best) box.0 box.1
 
--- the box at a place, which counts from 0, is closed for the total by its reason
-abbrev pub IsClosedAt : Pairing → Option NearBest → List (List (ℕ × ℕ) × NearWhy) → ℕ → Type 0
-IsClosedAt pairing best boxes place =
-    HoldsAt (λ box. IsClosedFor pairing (total_of best) box.0 box.1) boxes place
-
--- what is said of the boxes of a claim
+-- this is said of the boxes of a claim
 abbrev pub AreSaid : Pairing → Option NearBest → List (List (ℕ × ℕ) × NearWhy) → Said → Type 0
 AreSaid pairing best boxes said =
-    IsSaid (whole_cell pairing) (cells_of boxes) (IsClosedAt pairing best boxes) said
+    passing.AreSaid (whole_cell pairing) (IsBoxClosed pairing best) boxes said
 
 -- The first of these that holds. Pair: there is a total, and the pair isn't there or doesn't fit.
 -- Total: the pair has another distance. Then the first box that is wrong. Extra: the boxes before
@@ -43,6 +39,14 @@ IsVerdict pairing best boxes (Place number) =
 IsVerdict pairing best boxes (Cell number) =
     IsSound pairing best × AreSaid pairing best boxes (UnclosedBox number)
 IsVerdict pairing best boxes Open = IsSound pairing best × AreSaid pairing best boxes Unfinished
+
+-- the verdict where this is said of the boxes of a claim whose pair has its total
+abbrev pub verdict_said : Said → NearVerdict
+verdict_said NoneWrong = Yes
+verdict_said (ExtraBox number) = Extra number
+verdict_said (StrayBox number) = Place number
+verdict_said (UnclosedBox number) = Cell number
+verdict_said Unfinished = Open
 
 -- the boxes of a claim certify its total and its pair
 abbrev pub IsCertifiedClaim : Pairing → NearClaim → Type 0

@@ -1,79 +1,70 @@
-ghost use Rattle.std.specs.Prelude.{◌≡◌, ◌↔◌, ◌≤◌, ◌<◌, ℕ, length, map, IfOk, IsTrue, MatchOption};
-ghost use Rattle.std.specs.List.{HoldsAt};
-ghost use Rattle.gl_box.specs.Cell.{Covers, spans_of};
+ghost use Rattle.std.specs.Prelude.{◌≡◌, [], map, IfOk, ⊤};
 ghost use Rattle.gl_near.specs.Pairing.{whole_cell};
 ghost use Rattle.gl_near.specs.Pairs.{pairing_of};
-ghost use Rattle.gl_near.specs.Certificate.{IsClosedFor, IsSound, box_of, total_of};
-ghost use Rattle.gl_near.specs.Verdict.{IsClosedAt, IsVerdict};
+ghost use Rattle.gl_near.specs.Certificate.{box_of};
+ghost use Rattle.gl_near.specs.Testing.{HasTaken};
+ghost use Rattle.gl_near.specs.Verdict.{AreSaid, IsBoxClosed};
 
-use crate::answer::NearVerdict;
 use crate::found::{NearBest, NearClosed, NearWhy};
 use crate::pairs::Pairs;
-use gl_box::{WalkEnd, number_of, walk_along};
+use gl_box::{BoxCheck, BoxTest, Cell, Said};
 use std::alloc::{AllocError, Global};
 
-/// Whether a box is closed for the total by its reason.
-fn is_closed(pairs: &Pairs, best: Option<NearBest>, closed: &NearClosed) -> bool
-    requires { Covers (whole_cell (pairing_of pairs.now)) (spans_of closed.now.cell) }
-    ensures { IsTrue result
-        ↔ IsClosedFor (pairing_of pairs.now) (total_of best) (spans_of closed.now.cell)
-        closed.now.why }
-{
-    match closed.why {
-        NearWhy::Time => pairs.is_apart(&closed.cell),
-        NearWhy::Near => match best {
-            None => false,
-            Some(best) => best.total <= pairs.least(&closed.cell),
-        },
-    }
+/// The test of boxes of pairs: whether each is closed for what was found by its reason.
+#[derive(Drop)]
+pub struct PairTest<'a> {
+    pub pairs: &'a Pairs,
+    pub best: Option<NearBest>,
 }
 
-/// The place of the first of so many boxes that isn't closed for the total by its reason.
-fn first_unclosed(
-    pairs: &Pairs,
-    best: Option<NearBest>,
-    cells: &[NearClosed],
-    count: usize,
-) -> Option<usize>
-    requires within { count ≤ length cells.now }
-    requires covers { (place : ℕ) → place < count
-        → HoldsAt (λ box. Covers (whole_cell (pairing_of pairs.now)) box.0)
-        (map box_of cells.now) place }
-    ensures { MatchOption result
-        ((place : ℕ) → place < count
-        → IsClosedAt (pairing_of pairs.now) best (map box_of cells.now) place)
-        (λ place. (place < count)
-        × ((before : ℕ) → before < place
-        → IsClosedAt (pairing_of pairs.now) best (map box_of cells.now) before)
-        × ¬ IsClosedAt (pairing_of pairs.now) best (map box_of cells.now) place) }
-{
-    for place in 0..count {
-        if !is_closed(pairs, best, &cells[place]) {
-            return Some(place);
+impl<'a> BoxTest for PairTest<'a> {
+    type Why = NearWhy;
+
+    type Room = ();
+
+    ghost whole = { λ test. whole_cell (pairing_of test.pairs.now) };
+
+    ghost closes = { λ test. IsBoxClosed (pairing_of test.pairs.now) test.best };
+
+    ghost is_room = { λ test room. ⊤ };
+
+    fn is_closed(&self, _room: &mut (), cell: &Cell, why: NearWhy) -> bool {
+        match why {
+            NearWhy::Time => self.pairs.is_apart(cell),
+            NearWhy::Near => match self.best {
+                None => false,
+                Some(best) => best.total <= self.pairs.least(cell),
+            },
         }
     }
-    None
 }
 
-/// What is said of the boxes of a claim whose pair has its total. The only error is want of memory.
-pub(crate) fn check_boxes(
+/// A check of boxes of pairs, as they come, of which it has seen none yet. The only error is want of
+/// memory.
+pub fn begin_near_check(
+    alloc: Global,
+    pairs: &Pairs,
+    best: Option<NearBest>,
+) -> Result<BoxCheck<PairTest<'_>, ()>, AllocError>
+    ensures begins { IfOk result (HasTaken []) }
+    ensures test { IfOk result (λ check.
+        (check.test.pairs.now ≡ pairs.now) × (check.test.best ≡ best)) }
+{
+    BoxCheck::new(alloc, PairTest { pairs, best }, (), pairs.whole())
+}
+
+/// What is said of the boxes of a claim. The only error is want of memory.
+pub(crate) fn said_of(
     alloc: Global,
     pairs: &Pairs,
     best: Option<NearBest>,
     cells: &[NearClosed],
-) -> Result<NearVerdict, AllocError>
-    ensures { IfOk result (λ verdict. IsSound (pairing_of pairs.now) best
-        → IsVerdict (pairing_of pairs.now) best (map box_of cells.now) verdict) }
+) -> Result<Said, AllocError>
+    ensures { IfOk result (AreSaid (pairing_of pairs.now) best (map box_of cells.now)) }
 {
-    let walked = walk_along(alloc, pairs.whole(), cells)?;
-    if let Some(place) = first_unclosed(pairs, best, cells, walked.count) {
-        return Ok(NearVerdict::Cell(number_of(place)));
+    let mut check = begin_near_check(alloc, pairs, best)?;
+    for next in cells {
+        check.take(&next.cell, next.why)?;
     }
-    let number = number_of(walked.count);
-    Ok(match walked.end {
-        WalkEnd::Whole => NearVerdict::Yes,
-        WalkEnd::Extra => NearVerdict::Extra(number),
-        WalkEnd::Place => NearVerdict::Place(number),
-        WalkEnd::Open => NearVerdict::Open,
-    })
+    Ok(check.said())
 }

@@ -8,7 +8,7 @@ ghost use Rattle.gl_near.specs.declared.answer.NearVerdict.TheVariants.{Yes};
 ghost use Rattle.gl_near.specs.Verdict.{IsCertifiedClaim, IsCheckedAs, IsVerdict};
 
 use crate::answer::NearVerdict;
-use crate::boxes::check_boxes;
+use crate::boxes::said_of;
 use crate::claim::NearClaim;
 use crate::found::NearBest;
 use crate::pairs::Pairs;
@@ -37,7 +37,7 @@ fn verdict_of(alloc: Global, pairs: &Pairs, claim: &NearClaim) -> Result<NearVer
     if let Some(verdict) = fault_of(pairs, claim.best) {
         return Ok(verdict);
     }
-    check_boxes(alloc, pairs, claim.best, claim.closed.as_slice())
+    Ok(NearVerdict::from(said_of(alloc, pairs, claim.best, &claim.closed)?))
 }
 
 /// Checks a claim against its pairs: `Yes` exactly where it is a certificate, and else the first

@@ -1,7 +1,5 @@
-ghost use Rattle.gl_box.specs.Cell.{spans_of};
-
 use crate::turn::NearTurn;
-use gl_box::{Boxed, Cell, Walk};
+use gl_box::{Cell, Walk};
 
 /// The least distance that was found, in centimetres, and a pair that has it: the number of the
 /// fix of the first flight, and that of the fix of the second, or 0 for a place.
@@ -34,12 +32,4 @@ pub struct NearClosed {
 pub struct NearFound {
     pub best: Option<NearBest>,
     pub closed: Walk<NearTurn>,
-}
-
-impl Boxed for NearClosed {
-    ghost spans = { λ closed. spans_of closed.cell };
-
-    fn cell(&self) -> &Cell {
-        &self.cell
-    }
 }

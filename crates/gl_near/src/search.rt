@@ -1,9 +1,10 @@
 ghost use Rattle.std.specs.Prelude.{◌<◌, ◌↔◌, ℕ, [], All, IfOk, IsNone, OnOk, map, vec_len};
+ghost use Rattle.gl_box.specs.Along.{Advances};
 ghost use Rattle.gl_box.specs.Cell.{Covers, spans_of};
-ghost use Rattle.gl_near.specs.Pairing.{Fits, IsLeast, whole_cell};
+ghost use Rattle.gl_near.specs.Pairing.{Fits, IsApart, IsLeast, whole_cell};
 ghost use Rattle.gl_near.specs.Pairs.{pairing_of};
-ghost use Rattle.gl_near.specs.Certificate.{IsSound, total_of};
-ghost use Rattle.gl_near.specs.Code.Search.{Advances, IsNoMore, IsUnderWay};
+ghost use Rattle.gl_near.specs.Certificate.{IsClosedFor, IsSound, total_of};
+ghost use Rattle.gl_near.specs.Code.Search.{IsNoMore, IsUnderWay};
 ghost use Rattle.gl_near.specs.Line.{AreTwoSpans};
 ghost use Rattle.gl_near.specs.Search.{IsCertified, boxes_of, near_reason_of};
 
@@ -12,11 +13,8 @@ use crate::pairs::Pairs;
 use crate::turn::NearTurn;
 use crate::verdict::{Tested, test};
 use crate::warm::warm_start;
-use gl_box::{Cell, Walk, close_first, cut_first};
+use gl_box::{Cell, OPEN_ROOM, Turn, Walk, settle};
 use std::alloc::{AllocError, Global};
-
-/// Room for open cells: each cut adds one, and a cell can be cut at most 32 times on each axis.
-const OPEN_ROOM: usize = 128;
 
 /// Room for turns at the start.
 const TURNS_ROOM: usize = 8_192;
@@ -34,24 +32,26 @@ fn advance(
     requires covers { All (λ cell. Covers (whole_cell (pairing_of pairs.now)) (spans_of cell))
         cells.old.items }
     requires sound { IsSound (pairing_of pairs.now) best.old }
-    ensures step { OnOk result (Advances (pairing_of pairs.now) (total_of best.new)
-        cells.old.items cells.new.items
+    ensures step { OnOk result (Advances
+        (IsClosedFor (pairing_of pairs.now) (total_of best.new))
+        (λ cell. ¬ IsApart (pairing_of pairs.now) cell) cells.old.items cells.new.items
         (map near_reason_of turns.old.items) (map near_reason_of turns.new.items)) }
     ensures sound { OnOk result (IsSound (pairing_of pairs.now) best.new) }
     ensures falls { OnOk result (IsNoMore (total_of best.old) (total_of best.new)) }
 {
     let top = cells.len() - 1;
     match test(pairs, &cells[top], best) {
-        Tested::Closed(why) => close_first(cells, turns, why)?,
+        Tested::Closed(why) => {
+            settle(cells, turns, Some(why))?;
+        }
         Tested::Open(least) => {
-            if !cut_first(cells, turns)? {
-                let single = cells[top];
+            if let Some(single) = settle(cells, turns, None)? {
                 *best = Some(NearBest {
                     total: least,
                     first: single.spans[0].lo,
                     second: single.spans[1].lo,
                 });
-                close_first(cells, turns, NearWhy::Near)?;
+                turns.push(NearTurn::close(NearWhy::Near))?;
             }
         }
     }

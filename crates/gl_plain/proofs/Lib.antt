@@ -1,4 +1,3 @@
 pub mod GivenWay
 pub mod Places
-pub mod Roots
 pub mod Stack

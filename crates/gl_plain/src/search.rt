@@ -1,23 +1,22 @@
 ghost use Rattle.std.specs.Prelude.{◌<◌, ◌↔◌, All, IfOk, IsNone, OnOk, map, vec_len};
+ghost use Rattle.gl_box.specs.Along.{Advances};
 ghost use Rattle.gl_box.specs.Cell.{Covers, spans_of};
 ghost use Rattle.gl_box.specs.Frontier.{IsFrontier, IsNode};
 ghost use Rattle.gl_box.specs.Turns.{reason_of};
-ghost use Rattle.gl_goal.specs.Goal.{HasNoLegal, IsOptimum, whole_cell};
+ghost use Rattle.gl_goal.specs.Certificate.{IsClosedFor};
+ghost use Rattle.gl_goal.specs.Goal.{HasNoLegal, IsOpen, IsOptimum, whole_cell};
 ghost use Rattle.gl_goal.specs.Best.{IsNoLess, IsSound, total_of};
 ghost use Rattle.gl_plain.specs.Parts.{IsDoneFor, IsFinished, cell_of};
-ghost use Rattle.gl_plain.specs.Code.Steps.{Advances, IsSearched};
+ghost use Rattle.gl_plain.specs.Code.Steps.{IsSearched};
 ghost use Rattle.gl_plain.specs.Found.{AreNeeded, HoldsEachOnce, IsCertified};
 
 use crate::found::Found;
 use crate::part::Part;
 use crate::verdict::{CellVerdict, test};
 use crate::warm::warm_start;
-use gl_box::{Boxed, Cell, GoalTurn, Turn, Walk, Why, close_first, come_to, cut_first};
+use gl_box::{Boxed, Cell, GoalTurn, OPEN_ROOM, Turn, Walk, Why, come_to, settle};
 use gl_goal::{Best, Goal, Leg, better, measured_legs, whole};
 use std::alloc::{AllocError, Global};
-
-/// Room for open cells: each cut adds one, and a cell can be cut at most 32 times on each axis.
-const OPEN_ROOM: usize = 512;
 
 /// Room for turns at the start, where few cells are searched.
 const TURNS_ROOM: usize = 65_536;
@@ -37,7 +36,8 @@ fn advance<G: Goal>(
         cells.old.items }
     requires sound { IsSound (G.rule goal.now) best.old }
     requires legs { G.are_legs goal.now legs.old }
-    ensures step { OnOk result (Advances (G.rule goal.now) (total_of best.new)
+    ensures step { OnOk result (Advances
+        (IsClosedFor (G.rule goal.now) (total_of best.new)) (IsOpen (G.rule goal.now))
         cells.old.items cells.new.items
         (map reason_of turns.old.items) (map reason_of turns.new.items)) }
     ensures sound { OnOk result (IsSound (G.rule goal.now) best.new) }
@@ -46,14 +46,16 @@ fn advance<G: Goal>(
 {
     let top = cells.len() - 1;
     match test(goal, &cells[top], best, legs) {
-        CellVerdict::Closed(why) => close_first(cells, turns, why)?,
+        CellVerdict::Closed(why) => {
+            settle(cells, turns, Some(why))?;
+        }
         CellVerdict::Open(bound) => {
-            if !cut_first(cells, turns)? {
+            if let Some(single) = settle(cells, turns, None)? {
                 *best = Some(Best {
                     total: bound,
-                    tuple: cells[top].lowest(),
+                    tuple: single.lowest(),
                 });
-                close_first(cells, turns, Why::Bound)?;
+                turns.push(GoalTurn::close(Why::Bound))?;
             }
         }
     }

@@ -6,10 +6,10 @@ use Rattle.gl_box.specs.declared.cell.Cell.{Cell}
 use Rattle.gl_box.specs.declared.closed.Why.{Why}
 use Rattle.gl_box.specs.Along.{Closes, Cuts}
 use Rattle.gl_box.specs.Cell.{spans_of}
-use Rattle.gl_box.specs.Turns.{boxes_from, left_open, reason_of, when_cut}
+use Rattle.gl_box.specs.Turns.{boxes_from, left_open, reason_of}
 use Rattle.gl_box.specs.Walk.{open_cells}
-use Rattle.gl_box.proofs.Frontiers.{open_push}
-use Rattle.gl_box.proofs.Turns.{GoesTo, boxes_from-append, cut_opened, goes_to, left_open-append}
+use Rattle.gl_box.proofs.Frontiers.{open_cells-append}
+use Rattle.gl_box.proofs.Turns.{Leads, leads_closed, leads_cut}
 use Rattle.gl_order.specs.Runs.{IsPassed, boxes_by, boxes_in_runs}
 use Rattle.gl_pool.specs.declared.trail.Trail.{Trail}
 use Rattle.gl_pool.specs.Code.Trail.{IsTrail}
@@ -22,39 +22,32 @@ begun trail = open_cells trail.last.before.items
 abbrev pub turns_in : Trail → List (Option Why)
 turns_in trail = map reason_of trail.last.turns.items
 
--- the last of a worker's cells is behind all others that are open
-last_behind : (behind cells rest : List Cell) (cell : Cell) → cells ≡ rest ++ cell ∷ [] → behind ++ cells ≡ (behind ++ rest) ++ cell ∷ []
-last_behind behind cells rest cell top = ap (λ (l : List Cell). behind ++ l) top ∙ sym (append_assoc behind rest (cell ∷ []))
+-- turns are added: where they lead, and which boxes join the others
+pub record Adds (trail : Trail) (after : List (Option Why)) (cells : List Cell) (closed : List (List (ℕ × ℕ) × Why)) : Type 0 where
+  pub leads : left_open (begun trail) after ≡ open_cells (trail.last.after.items ++ cells)
+  pub boxes : boxes_in_runs trail.runs.items ++ boxes_from (begun trail) after ≡ boxes_in trail ++ closed
+
+adds : (trail : Trail) (after : List (Option Why)) (cells : List Cell) (closed : List (List (ℕ × ℕ) × Why)) → Leads (begun trail) (turns_in trail) after cells (open_cells trail.last.after.items) closed
+    → Adds trail after cells closed
+adds trail after cells closed led =
+    let runs = boxes_in_runs trail.runs.items in
+    record {
+      leads = led.left ∙ sym (open_cells-append trail.last.after.items cells);
+      boxes = ap (λ (l : List (List (ℕ × ℕ) × Why)). runs ++ l) led.boxes ∙ sym (append_assoc runs (boxes_by trail.last) closed);
+    }
 
 -- the last of a worker's cells is closed
-pub closed_on : (trail : Trail) (cells rest : List Cell) (after : List (Option Why)) (why : Why) → IsTrail trail cells → (closes : Closes cells rest (turns_in trail) after why)
-    → GoesTo (begun trail) (turns_in trail) after (spans_of closes.cell) why (open_cells (trail.last.after.items ++ rest))
-closed_on trail cells rest after why way closes =
+pub closed_on : (trail : Trail) (cell : Cell) (cells rest : List Cell) (after : List (Option Why)) (why : Why) → IsTrail trail cells → Closes cell cells rest (turns_in trail) after why
+    → Adds trail after rest ((spans_of cell, why) ∷ [])
+closed_on trail cell cells rest after why way closes =
     let behind = trail.last.after.items in
-    goes_to (begun trail) (turns_in trail) (turns_in trail) after (spans_of closes.cell) why (open_cells (behind ++ rest)) (record {
-      boxes = refl;
-      left = way.leads ∙ ap open_cells (last_behind behind cells rest closes.cell closes.top) ∙ open_push (behind ++ rest) closes.cell;
-    }) closes.turn
-
--- and its box joins the others
-pub box_more : (trail : Trail) (boxes : List (List (ℕ × ℕ) × Why)) (box : List (ℕ × ℕ) × Why) → boxes ≡ boxes_by trail.last ++ box ∷ []
-    → boxes_in_runs trail.runs.items ++ boxes ≡ boxes_in trail ++ box ∷ []
-box_more trail boxes box is =
-    let runs = boxes_in_runs trail.runs.items in
-    ap (λ (l : List (List (ℕ × ℕ) × Why)). runs ++ l) is ∙ sym (append_assoc runs (boxes_by trail.last) (box ∷ []))
+    adds trail after rest _ (leads_closed (begun trail) (open_cells behind) cell cells rest (turns_in trail) after (way.leads ∙ open_cells-append behind cells) why closes)
 
 -- the last of a worker's cells is cut
-pub cut_on : (trail : Trail) (cells halved : List Cell) (after : List (Option Why)) → IsTrail trail cells → Cuts cells halved (turns_in trail) after
-    → left_open (begun trail) after ≡ open_cells (trail.last.after.items ++ halved)
-cut_on trail cells halved after way cuts =
+pub cut_on : (trail : Trail) (cell : Cell) (cells halved : List Cell) (after : List (Option Why)) → IsTrail trail cells → Cuts cell cells halved (turns_in trail) after → Adds trail after halved []
+cut_on trail cell cells halved after way cuts =
     let behind = trail.last.after.items in
-    let two : behind ++ halved ≡ ((behind ++ cuts.rest) ++ cuts.upper ∷ []) ++ cuts.lower ∷ [] =
-    last_behind behind halved (cuts.rest ++ cuts.upper ∷ []) cuts.lower cuts.cut ∙ ap (λ (l : List Cell). l ++ cuts.lower ∷ []) (last_behind behind _ cuts.rest cuts.upper refl) in
-    ap (left_open (begun trail)) cuts.turn ∙ left_open-append (begun trail) (turns_in trail) (None ∷ []) ∙ ap when_cut way.leads
-    ∙ sym (cut_opened (behind ++ cells) (behind ++ cuts.rest) (behind ++ halved) cuts.cell cuts.lower cuts.upper (last_behind behind cells cuts.rest cuts.cell cuts.top) cuts.halves two)
-
-pub same_boxes : (trail : Trail) (after : List (Option Why)) → after ≡ turns_in trail ++ None ∷ [] → boxes_from (begun trail) after ≡ boxes_by trail.last
-same_boxes trail after turn = ap (boxes_from (begun trail)) turn ∙ boxes_from-append (begun trail) (turns_in trail) (None ∷ []) ∙ append-nil (boxes_by trail.last)
+    adds trail after halved [] (leads_cut (begun trail) (open_cells behind) cell cells halved (turns_in trail) after (way.leads ∙ open_cells-append behind cells) cuts)
 
 -- the first of a worker's cells is put behind them
 pub put_on : (trail : Trail) (cells rest opened : List Cell) (cell : Cell) → IsTrail trail cells → cells ≡ cell ∷ rest → opened ≡ trail.last.after.items ++ cell ∷ []

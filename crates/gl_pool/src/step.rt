@@ -10,7 +10,7 @@ ghost use Rattle.gl_pool.specs.Code.UnderWay.{GoesOn, IsAtWork, Steps};
 use crate::bench::Bench;
 use crate::trail::come_to;
 use gl_best::{BestWord, Seat};
-use gl_box::{Cell, Why, close_first, covers, cut_first};
+use gl_box::{Cell, GoalTurn, Turn, Why, covers, settle};
 use gl_deal::Place;
 use gl_goal::{Best, Goal, whole};
 use gl_plain::{CellVerdict, test_for};
@@ -44,24 +44,24 @@ fn step<G: Goal>(
 {
     let top = bench.cells.len() - 1;
     match test_for(goal, &bench.cells[top], bench.seen, &mut bench.legs) {
-        CellVerdict::Closed(why) => close_first(
-            &mut bench.cells,
-            &mut bench.share.closed.last.turns,
-            why,
-        )?,
+        CellVerdict::Closed(why) => {
+            settle(
+                &mut bench.cells,
+                &mut bench.share.closed.last.turns,
+                Some(why),
+            )?;
+        }
         CellVerdict::Open(bound) => {
-            if !cut_first(&mut bench.cells, &mut bench.share.closed.last.turns)? {
+            let turns = &mut bench.share.closed.last.turns;
+            if let Some(single) = settle(&mut bench.cells, turns, None)? {
                 bench.share.kept = Some(Best {
                     total: bound,
-                    tuple: bench.cells[top].lowest(),
+                    tuple: single.lowest(),
                 });
                 word.raise(seat, bound);
                 bench.seen = word.look(seat);
-                close_first(
-                    &mut bench.cells,
-                    &mut bench.share.closed.last.turns,
-                    Why::Bound,
-                )?;
+                let last = &mut bench.share.closed.last;
+                last.turns.push(GoalTurn::close(Why::Bound))?;
             }
         }
     }

@@ -12,15 +12,12 @@ use crate::step::{begin, finish};
 use crate::taking::next_cell;
 use crate::trail::boxes_of;
 use gl_best::{BestWord, Seat};
+use gl_box::OPEN_ROOM;
 use gl_deal::Place;
 use gl_goal::{Goal, measured_legs};
 use std::alloc::{AllocError, Global};
 use std::sync::Wait;
 use std::thread::Threads;
-
-/// Room for the cells that a worker has before it: each cut adds one, and a cell can be cut at most
-/// 32 times on each axis.
-const CELL_ROOM: usize = 512;
 
 /// A bench with nothing on it, for a worker that has seen a total, if any. The only error is want
 /// of memory.
@@ -34,7 +31,7 @@ fn empty_bench<G: Goal>(alloc: Global, goal: &G, seen: Option<u64>) -> Result<Be
     ensures strange { IfOk result (λ bench. bench.share.strange.items ≡ []) }
 {
     Ok(Bench {
-        cells: Vec::with_capacity(alloc, CELL_ROOM)?,
+        cells: Vec::with_capacity(alloc, OPEN_ROOM)?,
         legs: measured_legs(alloc, goal)?,
         seen,
         share: Haul::empty(alloc),

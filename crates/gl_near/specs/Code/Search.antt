@@ -1,7 +1,6 @@
 -- How a search goes on: its turns close boxes, and leave cells open, the last one first.
-use Rattle.std.specs.Prelude.{◌≡◌, ℕ, ◌≤◌, ◌<◌, ◌⊎◌, List, [], ◌∷◌, Option, None, Some, All}
+use Rattle.std.specs.Prelude.{◌≡◌, ℕ, ◌≤◌, ◌<◌, List, [], ◌∷◌, Option, None, Some, All}
 use Rattle.gl_box.specs.declared.cell.Cell.{Cell}
-use Rattle.gl_box.specs.Along.{Closes, Cuts}
 use Rattle.gl_box.specs.Cell.{Covers, spans_of}
 use Rattle.gl_box.specs.Turns.{boxes_from, left_open}
 use Rattle.gl_box.specs.Walk.{open_cells}
@@ -51,16 +50,3 @@ pub record IsUnderWay (pairing : Pairing) (best : Option NearBest) (cells : List
   pub boxes_are :
       All (IsBox pairing (total_of best)) (boxes_from (whole_cell pairing ∷ []) turns)
   pub covered : All (λ cell. Covers (whole_cell pairing) (spans_of cell)) cells
-
--- the last open cell was closed for a total by a reason, or cut
-pub record ClosesFor (pairing : Pairing) (total : Option ℕ) (before after : List Cell)
-    (turns_before turns_after : List (Option NearWhy)) : Type 0 where
-  pub why : NearWhy
-  pub closes : Closes before after turns_before turns_after why
-  pub reason : IsClosedFor pairing total (spans_of closes.cell) why
-
-abbrev pub Advances : Pairing → Option ℕ → List Cell → List Cell → List (Option NearWhy)
-    → List (Option NearWhy) → Type 0
-Advances pairing total before after turns_before turns_after =
-    ClosesFor pairing total before after turns_before turns_after
-    ⊎ Cuts before after turns_before turns_after

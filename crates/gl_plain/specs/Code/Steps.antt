@@ -1,6 +1,5 @@
 -- A search under way: what it closed, and the cells that are still open, the last one first.
 use Rattle.std.specs.Prelude.{List, All, ℕ, Option, ◌≡◌, ◌⊎◌, ◌∷◌, ◌++◌}
-use Rattle.gl_box.specs.Along.{Closes, Cuts}
 use Rattle.gl_box.specs.Cell.{Covers, spans_of}
 use Rattle.gl_box.specs.Frontier.{IsNode}
 use Rattle.gl_box.specs.Turns.{boxes_from, left_open}
@@ -8,7 +7,7 @@ use Rattle.gl_box.specs.Walk.{open_cells}
 use Rattle.gl_box.specs.declared.cell.Cell.{Cell}
 use Rattle.gl_box.specs.declared.closed.Why.{Why}
 use Rattle.gl_goal.specs.Certificate.{IsClosedFor}
-use Rattle.gl_goal.specs.Goal.{Goal, whole_cell, IsOpen}
+use Rattle.gl_goal.specs.Goal.{Goal, whole_cell}
 use Rattle.gl_goal.specs.Best.{IsSound, total_of}
 use Rattle.gl_plain.specs.Search.{IsHalfOfOpen}
 use Rattle.gl_plain.specs.declared.dive.Candidate.{Candidate}
@@ -64,22 +63,3 @@ pub record IsSearched (goal : Goal) (root : List (ℕ × ℕ)) (best : Option Be
   pub left : (others : List (List (ℕ × ℕ))) → left_open (root ∷ others) turns ≡ others
   pub closed : (others : List (List (ℕ × ℕ))) → boxes_from (root ∷ others) turns ≡ boxes
   pub boxes_are : All (IsBoxFrom goal root (total_of best)) boxes
-
--- the last open cell was closed for a total by a reason
-pub record ClosesFor (goal : Goal) (total : Option ℕ) (before after : List Cell)
-    (turns_before turns_after : List (Option Why)) : Type 0 where
-  pub why : Why
-  pub closes : Closes before after turns_before turns_after why
-  pub reason : IsClosedFor goal total (spans_of closes.cell) why
-
--- the last open cell, which is neither disordered nor shut, gave way to its halves
-pub record CutsOpen (goal : Goal) (before after : List Cell)
-    (turns_before turns_after : List (Option Why)) : Type 0 where
-  pub cuts : Cuts before after turns_before turns_after
-  pub is_open : IsOpen goal (spans_of cuts.cell)
-
-abbrev pub Advances : Goal → Option ℕ → List Cell → List Cell → List (Option Why)
-    → List (Option Why) → Type 0
-Advances goal total before after turns_before turns_after =
-    ClosesFor goal total before after turns_before turns_after
-    ⊎ CutsOpen goal before after turns_before turns_after

@@ -1,8 +1,8 @@
-use Rattle.std.proofs.Common.{refl, subst, ℕ, List}
-use Rattle.std.proofs.lemmas.Result.{IfOk-weaker}
+use Rattle.std.proofs.Common.{refl, subst, sym, ℕ, List}
 use Rattle.gl_box.specs.InLists.{boxes_in}
 use Rattle.gl_goal.specs.Certificate.{IsClaimed}
 use Rattle.gl_check.specs.Verdict.{IsVerdict}
+use Rattle.gl_check.proofs.Said.{said_verdict}
 use Rattle.gl_check.proofs.check.verdict_of.Goals as goal
 
 pub returns-in-Some : goal.returns-in-Some
@@ -17,4 +17,5 @@ returns g c =
     let claim = c.args.claim.now in
     let rule = g.G.Goal.rule c.args.goal.now in
     let claimed = subst (IsClaimed rule claim.total) c.as_slice.ensures.value (c.in_default.ensures.none refl) in
-    IfOk-weaker c.check_form.result _ _ (λ verdict said. said claim.fixes.items claimed) c.check_form.ensures
+    subst (IsVerdict rule claim.total claim.fixes.items (boxes_in claim.cells)) (sym c.from.ensures)
+    (said_verdict rule claim.total claim.fixes.items (boxes_in claim.cells) c.in_ok-said_of.field-0 claimed c.in_ok-said_of.ensures)

@@ -1,4 +1,5 @@
-use Rattle.gl_near.proofs.Stack.{pairs_short, under_way_on, work_falls}
+use Rattle.gl_box.proofs.Work.{work_falls}
+use Rattle.gl_near.proofs.Stack.{pairs_short, under_way_on}
 use Rattle.gl_near.proofs.search.run.Goals as goal
 
 pub advance-requires-clause-covers : goal.advance-requires-clause-covers

@@ -1,10 +1,10 @@
 use Rattle.std.proofs.Common.{◌≡◌, ◌∙◌, sym, ap, subst, ℕ, ◌+◌, List, [], ◌∷◌, ◌++◌, map, Option, Some}
-use Rattle.std.proofs.lemmas.List.{map-append}
 use Rattle.gl_box.specs.declared.closed.Why.{Why}
 use Rattle.gl_box.specs.declared.cell.Cell.{Cell}
 use Rattle.gl_box.specs.Frontier.{IsNode}
 use Rattle.gl_box.specs.Turns.{boxes_from, reason_of}
 use Rattle.gl_box.specs.Walk.{ComesTo, open_cells}
+use Rattle.gl_box.proofs.Turns.{turn_added}
 use Rattle.gl_goal.specs.Goal.{whole_cell}
 use Rattle.gl_goal.specs.declared.best.Best.{Best}
 use Rattle.gl_goal.proofs.Totals.{either_sound}
@@ -54,7 +54,7 @@ loop-part-preserved g c =
       | in-Done+in_ok-push-in-Done w ↦
           let after = map reason_of w.push-in-Done.new.self.items in
           let closes : after ≡ cuts ++ Some w.in-Done.done.why ∷ [] =
-          ap (map reason_of) w.in_ok-push-in-Done.ensures.items ∙ map-append reason_of c.come_to.new.turns.items (w.close.result ∷ []) ∙ ap (λ why. cuts ++ why ∷ []) w.close.ensures in
+          turn_added reason_of c.come_to.new.turns.items w.push-in-Done.new.self.items w.close.result (Some w.in-Done.done.why) w.in_ok-push-in-Done.ensures.items w.close.ensures in
           let made : P l.best after = given_done rule parts l.part-index part w.in-Done.done c.args.known l.best l.opened.items left turns cuts after there.0 c.loop-part-test.true c.part-item.is
           w.in-Done.is c.requires.done l.invariant.given come there.2 closes in
           record {

@@ -1,6 +1,7 @@
 use Rattle.std.proofs.Common.{◌∙◌, ap, List, [], ◌∷◌, ◌++◌}
 use Rattle.gl_box.specs.declared.cell.Cell.{Cell}
-use Rattle.gl_plain.proofs.Stack.{goes_covered, goes_from, goes_on, work_falls}
+use Rattle.gl_box.proofs.Work.{work_falls}
+use Rattle.gl_plain.proofs.Stack.{goes_covered, goes_from, goes_on}
 use Rattle.gl_goal.specs.Best.{total_of}
 use Rattle.gl_goal.proofs.Totals.{less_self, less_through}
 use Rattle.gl_plain.proofs.search.search_cell.Goals as goal
