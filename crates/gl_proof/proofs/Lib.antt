@@ -2,6 +2,7 @@ pub mod Appended
 pub mod Chain
 pub mod Entrants
 pub mod Lines
+pub mod LinesRead
 pub mod More
 pub mod Unique
 pub mod Codes

@@ -74,7 +74,7 @@ none_behind : {L : Type 0} (grammar : Grammar L) → IsPlain grammar → (last :
 none_behind {L} grammar plain last rest ends line more is may text =
     false≢true (sym (plain.ends line) ∙ sym (ap (λ (l : L). grammar.may_follow l line) ends) ∙ may)
 
-has_line : (front more : List ℕ) → HasLine ((front ++ 10 ∷ []) ++ more)
+pub has_line : (front more : List ℕ) → HasLine ((front ++ 10 ∷ []) ++ more)
 has_line front more =
     let regroup : (front ++ 10 ∷ []) ++ more ≡ front ++ 10 ∷ more = append_assoc front (10 ∷ []) more in
     (length front, omega (arith, ap length regroup, length-append front (10 ∷ more)), ap (λ (l : List ℕ). get_or l (length front) 10) regroup ∙ get_or_at front 10 more 10 (length front) refl)

@@ -10,3 +10,5 @@ pub mod Kept
 pub mod Misfit
 pub mod LineRefusal
 pub mod Words
+pub mod LineRules
+pub mod LineReading

@@ -12,7 +12,7 @@ pub fn later(line: u32, lines: usize) -> u32
 }
 
 /// Whether LF comes in a text.
-fn has_line(text: &[u8]) -> bool
+pub(crate) fn has_line(text: &[u8]) -> bool
     ensures { IsTrue result ↔ HasLine text.now }
 {
     text.contains(&b'\n')
