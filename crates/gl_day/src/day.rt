@@ -11,7 +11,7 @@ use gl_task::Task;
 use std::alloc::{AllocError, Global};
 
 /// What counts of the flights for the points. The only error is want of memory.
-fn performances(alloc: Global, flights: &[Flight]) -> Result<Vec<Performance>, AllocError>
+pub fn performances(alloc: Global, flights: &[Flight]) -> Result<Vec<Performance>, AllocError>
     ensures { IfOk result (λ list. list.items ≡ performances_of flights.now) }
 {
     let mut list = Vec::with_capacity(alloc, flights.len())?;
@@ -22,7 +22,7 @@ fn performances(alloc: Global, flights: &[Flight]) -> Result<Vec<Performance>, A
 }
 
 /// The row of a flight of a day.
-fn row_of(day: &Summary, flight: &Flight) -> Row
+pub fn row_of(day: &Summary, flight: &Flight) -> Row
     requires { IsPartOf day.now flight.now.performance }
     ensures { result ≡ row_of day.now flight.now }
 {

@@ -62,7 +62,7 @@ fn penalty(
 }
 
 /// The outcome of a flight that was judged.
-fn outcome_of(judged: &Judged) -> Outcome
+pub fn outcome_of(judged: &Judged) -> Outcome
     ensures { result ≡ outcome_of judged.now }
 {
     match judged {

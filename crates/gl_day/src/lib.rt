@@ -14,9 +14,9 @@ mod totals;
 
 pub use check::{check_end, check_flight, check_next};
 pub use claim::{claim_of, claim_of_found};
-pub use day::{day_rows, sheet_of};
+pub use day::{day_rows, performances, row_of, sheet_of};
 pub use fault::{Checked, Fault, NotProved};
-pub use finish::finish_flight;
+pub use finish::{finish_flight, outcome_of};
 pub use flight::{Flight, Seen, absent_flight, large_flight, read_flight};
 pub use frame::{end_line, heading_line};
 pub use search::{Alone, Search};

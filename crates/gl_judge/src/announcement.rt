@@ -40,7 +40,7 @@ fn has_event(pilot: PilotStart, events: &[i32], time: i32) -> bool
 }
 
 /// Whether a start at a time is announced by one of the events, if it has to be.
-pub(crate) fn is_announced(pilot: Option<PilotStart>, events: &[i32], time: i32) -> bool
+pub fn is_announced(pilot: Option<PilotStart>, events: &[i32], time: i32) -> bool
     ensures { IsTrue result ↔ IsAnnounced pilot events.now time }
 {
     match pilot {

@@ -9,7 +9,7 @@ use gl_task::Task;
 
 /// The point of the course with so many zones before it: the start point, the centre of a zone or
 /// the finish point.
-pub(crate) fn course_point(task: &Task, before: usize) -> Vec3
+pub fn course_point(task: &Task, before: usize) -> Vec3
     requires { before ≤ length task.now.zones + 1 }
     ensures { result ≡ course_point task.now before }
 {

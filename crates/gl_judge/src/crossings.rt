@@ -8,7 +8,7 @@ use gl_zone::{Line, crossing};
 /// The time at which a line is crossed forwards from the fix before a number to the fix of that
 /// number, both of them judged; `None` exactly where it isn't.
 #[tactic(auto, using(crate::proofs::Order::next_later))]
-pub(crate) fn crossing_at(line: &Line, rec: &Recording, judged: Stretch, i: usize) -> Option<i32>
+pub fn crossing_at(line: &Line, rec: &Recording, judged: Stretch, i: usize) -> Option<i32>
     requires { judged.to ≤ length rec.now.fixes }
     ensures some { IfSome result
         (λ time. Crosses line.now rec.now.fixes judged i time) }

@@ -19,6 +19,9 @@ mod stretch;
 mod visits;
 mod zone_lists;
 
+pub use announcement::is_announced;
+pub use course::course_point;
+pub use crossings::crossing_at;
 pub use expected::{JudgedFlight, claims, judge_flight};
 pub use gl_proof::ClaimKind;
 pub use judged_fixes::judged_range;
@@ -26,3 +29,4 @@ pub use judging::judge;
 pub use marking::mark;
 pub use outcome::{Judged, Window};
 pub use stretch::Stretch;
+pub use visits::{Visited, first_in_zone};

@@ -13,7 +13,7 @@ use gl_zone::{Zone, holds};
 /// How far a task was flown: how many of its zones were visited, and the fix in the last of them,
 /// or that of the start.
 #[derive(Clone, Copy, Debug)]
-pub(crate) struct Visited {
+pub struct Visited {
     pub count: usize,
     pub last: usize,
 }
@@ -28,7 +28,7 @@ pub(crate) fn is_in_zone(zone: &Zone, fixes: &[Fix], i: usize) -> bool
 }
 
 /// The first judged fix in a zone from the fix of a number on.
-fn first_in_zone(zone: &Zone, fixes: &[Fix], judged: Stretch, from: usize) -> Option<usize>
+pub fn first_in_zone(zone: &Zone, fixes: &[Fix], judged: Stretch, from: usize) -> Option<usize>
     requires to_in_list { judged.to ≤ length fixes.now }
     requires from_judged { judged.from ≤ from }
     ensures found { IfSome result (IsInZone fixes.now judged zone.now) }

@@ -8,8 +8,7 @@ use Rattle.std.proofs.lemmas.List.Elements.{All-nil, All-cons, All-contains, All
 use Rattle.std.proofs.lemmas.List.Sums.{length-filter}
 use Rattle.std.proofs.lemmas.List.Sorted.{sum_by-IsPermutation}
 use Rattle.gl_points.specs.declared.performance.Performance.{Performance}
-use Rattle.gl_points.specs.Fraction.{Fraction, IsAtMost, is_at_most, is_same, whole}
-use Rattle.gl_points.specs.Code.Fractions.{IsSame}
+use Rattle.gl_points.specs.Fraction.{Fraction, IsAtMost, is_at_most, is_same, whole, IsSame}
 use Rattle.gl_points.specs.Figures.{IsGreatestFigure, least_number}
 use Rattle.gl_points.proofs.Least.{fold_min_low}
 use Rattle.gl_points.proofs.Held.{all_from_filter}

@@ -10,8 +10,7 @@ use Rattle.gl_points.specs.declared.performance.Performance.{Performance}
 use Rattle.gl_points.specs.declared.summary.Summary.{Summary}
 use Rattle.gl_points.specs.Summary.{IsSummaryOf, finishers_of, launched_of, most_points_of_day, points_by_distance, points_by_time}
 use Rattle.gl_points.specs.Figures.{IsGreatestFigure, handicapped_distance, handicapped_speed, is_far, is_fast, is_fastest, least_number}
-use Rattle.gl_points.specs.Fraction.{Fraction, ◌÷◌, ◌⊗◌, ◌⊘◌, ◌⊕◌, ◌⊖◌, IsAtMost, is_at_most, lesser, rounded, whole}
-use Rattle.gl_points.specs.Code.Fractions.{IsSame}
+use Rattle.gl_points.specs.Fraction.{Fraction, ◌÷◌, ◌⊗◌, ◌⊘◌, ◌⊕◌, ◌⊖◌, IsAtMost, is_at_most, lesser, rounded, whole, IsSame}
 use Rattle.gl_points.specs.Laws.{IsSameInAnyOrder}
 use Rattle.gl_points.specs.Points.{day_factor, completion_factor, exact_points, most_for_distance, most_for_speed, points_earned, points_of_finisher, points_of_outlanding, share_of_speed}
 use Rattle.gl_points.specs.Worth.{worth}

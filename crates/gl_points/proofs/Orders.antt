@@ -2,8 +2,7 @@
 use Rattle.std.proofs.Common.{◌≡◌, ◌+◌, ◌-◌, ◌*◌, ◌/◌, ◌%◌, ◌<◌, ◌≤◌, arith}
 use Rattle.std.proofs.Math.Nat.{mul-le-mul_left, mul-le-mul, le_of_mul-le-mul_left, le-div_iff_mul-le, div-mul-le_self, mul-sub}
 use Rattle.std.proofs.lemmas.Nat.{div-add-mod', mod_below}
-use Rattle.gl_points.specs.Fraction.{Fraction, ◌⊗◌, ◌⊘◌, ◌⊕◌, ◌⊖◌, IsAtMost, IsNearest, rounded}
-use Rattle.gl_points.specs.Code.Fractions.{IsSame}
+use Rattle.gl_points.specs.Fraction.{Fraction, ◌⊗◌, ◌⊘◌, ◌⊕◌, ◌⊖◌, IsAtMost, IsNearest, rounded, IsSame}
 
 pub at_most_trans : (a b c : Fraction) → 0 < b.den → IsAtMost a b → IsAtMost b c → IsAtMost a c
 at_most_trans a b c divides first second =

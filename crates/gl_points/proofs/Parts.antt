@@ -2,8 +2,7 @@
 use Rattle.std.proofs.Common.{◌≡◌, refl, ap, ℕ, ◌+◌, ◌-◌, ◌*◌, ◌<◌, ◌≤◌, min, max, Bool, true, false, cond, arith}
 use Rattle.std.proofs.lemmas.Bool.Decides.{nat_tests}
 use Rattle.std.proofs.Math.Nat.{mul-le-mul, mul-le-mul_left}
-use Rattle.gl_points.specs.Fraction.{Fraction, ◌÷◌, ◌⊗◌, ◌⊘◌, ◌⊕◌, ◌⊖◌, is_at_most, lesser, whole}
-use Rattle.gl_points.specs.Code.Fractions.{IsSame}
+use Rattle.gl_points.specs.Fraction.{Fraction, ◌÷◌, ◌⊗◌, ◌⊘◌, ◌⊕◌, ◌⊖◌, is_at_most, lesser, whole, IsSame}
 
 -- the day's factors over one denominator
 factors_written : (launched far fast : ℕ) (one two : Bool) → is_at_most (whole 1) ((5 ÷ 4) ⊗ (far ÷ launched)) ≡ one → is_at_most (whole 1) ((6 ÷ 5) ⊗ (fast ÷ far) ⊕ (3 ÷ 5)) ≡ two

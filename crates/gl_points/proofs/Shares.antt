@@ -4,8 +4,7 @@ use Rattle.std.proofs.lemmas.Bool.Decides.{nat_tests}
 use Rattle.gl_points.specs.declared.performance.Performance.{Performance}
 use Rattle.gl_points.specs.declared.summary.Summary.{Summary}
 use Rattle.gl_points.specs.Figures.{handicapped_speed}
-use Rattle.gl_points.specs.Code.Fractions.{IsSame}
-use Rattle.gl_points.specs.Fraction.{◌÷◌, ◌⊗◌, ◌⊘◌, ◌⊖◌, whole}
+use Rattle.gl_points.specs.Fraction.{◌÷◌, ◌⊗◌, ◌⊘◌, ◌⊖◌, whole, IsSame}
 use Rattle.gl_points.specs.Points.{completion_factor, day_factor, share_of_speed}
 use Rattle.gl_points.specs.Worth.{worth}
 use Rattle.gl_points.proofs.Parts.{factors_same}

@@ -1,5 +1,5 @@
 -- Exact fractions of whole numbers.
-use Rattle.std.specs.Prelude.{ℕ, ◌+◌, ◌-◌, ◌*◌, ◌/◌, ◌<◌, ◌≤◌, Bool, ◌==◌, nat_le, if◌then◌else◌}
+use Rattle.std.specs.Prelude.{◌≡◌, ℕ, ◌+◌, ◌-◌, ◌*◌, ◌/◌, ◌<◌, ◌≤◌, Bool, ◌==◌, nat_le, if◌then◌else◌}
 
 -- what is divided, and by what
 pub record Fraction : Type 0 where
@@ -36,8 +36,12 @@ is_at_most a b = nat_le (a.num * b.den) (b.num * a.den)
 abbrev pub IsAtMost : Fraction → Fraction → Type 0
 IsAtMost a b = a.num * b.den ≤ b.num * a.den
 
+-- two fractions are one number
 abbrev pub is_same : Fraction → Fraction → Bool
 is_same a b = a.num * b.den == b.num * a.den
+
+abbrev pub IsSame : Fraction → Fraction → Type 0
+IsSame a b = a.num * b.den ≡ b.num * a.den
 
 -- the lesser of two fractions
 abbrev pub lesser : Fraction → Fraction → Fraction

@@ -37,6 +37,10 @@ share_of_speed day p =
     if day.speed.num == 0 then whole 0 else
     (handicapped_speed day.handicap p ⊖ (2 ÷ 3) ⊗ worth day.speed) ⊘ ((1 ÷ 3) ⊗ worth day.speed)
 
+-- a handicapped distance as a part of the greatest
+abbrev pub share_of_distance : Summary → Performance → Fraction
+share_of_distance day p = handicapped_distance day.handicap p ⊘ worth day.distance
+
 -- the points of a finisher, before the day's factors
 unfoldable pub points_of_finisher : Summary → Performance → Fraction
 points_of_finisher day p = most_for_speed day ⊗ share_of_speed day p ⊕ most_for_distance day

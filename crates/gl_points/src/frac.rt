@@ -21,7 +21,7 @@ impl Frac {
     pub const ZERO: Frac = Frac { num: 0, den: 1 };
 
     /// A whole number.
-    pub(crate) fn whole(number: u32) -> Frac
+    pub fn whole(number: u32) -> Frac
         ensures { worth result ≡ whole number }
     {
         Frac {
@@ -65,7 +65,7 @@ impl Frac {
     }
 
     /// The lesser of two fractions.
-    pub(crate) fn lesser(self, other: Frac) -> Frac
+    pub fn lesser(self, other: Frac) -> Frac
         requires num { self.num < 2 ^ 64 }
         requires den { self.den < 2 ^ 64 }
         requires other_num { other.num < 2 ^ 64 }

@@ -13,5 +13,5 @@ mod summary;
 pub use figures::day;
 pub use frac::Frac;
 pub use performance::Performance;
-pub use points::{net, score};
+pub use points::{exact, net, score, share};
 pub use summary::Summary;

@@ -1,10 +1,10 @@
 ghost use Rattle.std.specs.Prelude.{◌≡◌, ◌<◌, ◌≤◌, ◌+◌, ◌-◌, ◌*◌, ◌^◌, IsTrue, if◌then◌else◌};
-ghost use Rattle.gl_points.specs.Code.Fractions.{IsWithinDistance, IsWithinSpeed, IsSame, speed_product_limit};
+ghost use Rattle.gl_points.specs.Code.Fractions.{IsWithinDistance, IsWithinSpeed, speed_product_limit};
 ghost use Rattle.gl_points.specs.Figures.{handicapped_distance};
-ghost use Rattle.gl_points.specs.Fraction.{IsNearest, ◌÷◌, ◌⊗◌, ◌⊘◌, rounded};
+ghost use Rattle.gl_points.specs.Fraction.{IsNearest, IsSame, ◌÷◌, ◌⊗◌, ◌⊘◌, rounded};
 ghost use Rattle.gl_points.specs.Laws.{IsAheadOfShorter, IsAheadOfSlower, IsBelowFinishers, IsSameInAnyOrder};
 ghost use Rattle.gl_points.specs.Limits.{handicap_limit, performance_limit, point_limit};
-ghost use Rattle.gl_points.specs.Points.{IsPartOf, completion_factor, day_factor, exact_points, points_earned, points_of_finisher, points_of_outlanding, share_of_speed};
+ghost use Rattle.gl_points.specs.Points.{IsPartOf, completion_factor, day_factor, exact_points, points_earned, points_of_finisher, points_of_outlanding, share_of_distance, share_of_speed};
 ghost use Rattle.gl_points.specs.Worth.{worth};
 
 use crate::frac::Frac;
@@ -168,6 +168,37 @@ fn product(factor: &Frac, most: &Frac, part: &Frac) -> Frac
     }
 }
 
+/// What one who was launched has of the day's points, on a day on which somebody flew far: of the
+/// points for speed, if the task was finished, and else of the points for distance.
+pub fn share(day: &Summary, performance: &Performance) -> Frac
+    requires part { IsPartOf day.now performance.now }
+    requires launched { IsTrue performance.now.launched }
+    requires far { 1 ≤ day.now.far }
+    ensures { IsSame (worth result)
+        (if performance.now.finished
+        then share_of_speed day.now performance.now
+        else share_of_distance day.now performance.now) }
+{
+    if performance.finished {
+        speed_share(day, performance)
+    } else {
+        distance_share(day, performance)
+    }
+}
+
+/// The points of one who was launched, on a day on which somebody flew far, before they are
+/// rounded.
+pub fn exact(day: &Summary, performance: &Performance) -> Frac
+    requires part { IsPartOf day.now performance.now }
+    requires launched { IsTrue performance.now.launched }
+    requires far { 1 ≤ day.now.far }
+    ensures same { IsSame (worth result) (exact_points day.now performance.now) }
+    ensures at_most { result.num ≤ point_limit * result.den }
+    ensures den_room { result.den < 2 ^ 114 }
+{
+    product(&factor(day), &day.most, &part(day, performance))
+}
+
 /// The points of one who was launched, on a day on which somebody flew far.
 fn earned(day: &Summary, performance: &Performance) -> u32
     requires part { IsPartOf day.now performance.now }
@@ -176,7 +207,7 @@ fn earned(day: &Summary, performance: &Performance) -> u32
     ensures points { result ≡ rounded (exact_points day.now performance.now) }
     ensures at_most { result ≤ point_limit }
 {
-    product(&factor(day), &day.most, &part(day, performance)).rounded()
+    exact(day, performance).rounded()
 }
 
 /// The points of one performance of a day, before penalties: the exact fraction, rounded to the

@@ -1,5 +1,5 @@
 -- Fractions that the code compares, and the limits within which they lie.
-use Rattle.std.specs.Prelude.{◌≡◌, ◌*◌, if◌then◌else◌, ℕ}
+use Rattle.std.specs.Prelude.{◌*◌, if◌then◌else◌, ℕ}
 use Rattle.gl_points.specs.Figures.{handicapped_distance, handicapped_speed}
 use Rattle.gl_points.specs.Fraction.{IsAtMost, Fraction, is_at_most}
 use Rattle.gl_points.specs.Limits.{distance_limit, handicap_limit, time_limit}
@@ -15,10 +15,6 @@ IsWithinDistance day p =
 -- a handicapped speed is within the day's greatest
 abbrev pub IsWithinSpeed : Summary → Performance → Type 0
 IsWithinSpeed day p = IsAtMost (handicapped_speed day.handicap p) (worth day.speed)
-
--- two fractions are one number
-abbrev pub IsSame : Fraction → Fraction → Type 0
-IsSame a b = a.num * b.den ≡ b.num * a.den
 
 -- the greater of two fractions
 abbrev pub greater : Fraction → Fraction → Fraction

@@ -1,6 +1,5 @@
 use Rattle.std.proofs.Common.{sym, subst}
-use Rattle.gl_points.specs.Fraction.{Fraction, ◌⊗◌}
-use Rattle.gl_points.specs.Code.Fractions.{IsSame}
+use Rattle.gl_points.specs.Fraction.{Fraction, ◌⊗◌, IsSame}
 use Rattle.gl_points.specs.Worth.{worth}
 use Rattle.gl_points.specs.Points.{points_of_finisher, most_for_speed, most_for_distance, share_of_speed}
 use Rattle.gl_points.proofs.Parts.{finisher_same}

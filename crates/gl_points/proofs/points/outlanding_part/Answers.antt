@@ -1,6 +1,5 @@
 use Rattle.std.proofs.Common.{sym, subst, ◌*◌, ◌-◌}
-use Rattle.gl_points.specs.Fraction.{Fraction, ◌÷◌, ◌⊗◌}
-use Rattle.gl_points.specs.Code.Fractions.{IsSame}
+use Rattle.gl_points.specs.Fraction.{Fraction, ◌÷◌, ◌⊗◌, IsSame}
 use Rattle.gl_points.specs.Worth.{worth}
 use Rattle.gl_points.specs.Points.{points_of_outlanding, most_for_speed, most_for_distance}
 use Rattle.gl_points.proofs.Parts.{outlanding_same}
