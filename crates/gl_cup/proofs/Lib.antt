@@ -1,3 +1,1 @@
-pub mod PointLemmas
 pub mod RowLemmas
-pub mod TaskLemmas

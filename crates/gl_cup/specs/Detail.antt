@@ -2,14 +2,13 @@
 use Rattle.std.specs.Prelude.{ℕ, ◌==◌, ◌||◌, nat_le, if◌then◌else◌, codes, Bool, true, false, List, [], ◌∷◌, ◌++◌, Option, None, Some, option_map, option_and_then, unwrap_or}
 use Rattle.std.specs.List.{find, flat_map, list_any}
 use Rattle.gl_cup.specs.Choice.{begins_with, is_headed}
-use Rattle.gl_cup.specs.Options.{options_of}
 use Rattle.gl_cup.specs.Pair.{are_once, foreign_key, passed_by}
-use Rattle.gl_cup.specs.Zone.{zone_of}
+use Rattle.gl_cup.specs.Zone.{options_of, zone_of}
 use Rattle.gl_cup.specs.declared.detail.Detail as code
 use Rattle.gl_cup.specs.declared.detail.Detail.TheVariants as detail
 use Rattle.gl_cup.specs.declared.error.CupError.{CupError}
 use Rattle.gl_cup.specs.declared.error.CupError.TheVariants as cup
-use Rattle.gl_cup.specs.declared.options.Options.{Options}
+use Rattle.gl_cup.specs.declared.zone.Options.{Options}
 use Rattle.gl_cup.specs.declared.pair.Keys as code_keys
 use Rattle.gl_cup.specs.declared.pair.Keys.TheVariants as keys
 use Rattle.gl_cup.specs.declared.pair.PassedKey.{PassedKey}

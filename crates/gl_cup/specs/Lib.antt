@@ -2,11 +2,8 @@ pub mod Angle
 pub mod Choice
 pub mod Decimal
 pub mod Detail
-pub mod Options
 pub mod Pair
 pub mod Reading
-pub mod Refusal
 pub mod Row
-pub mod TaskRows
 pub mod Waypoint
 pub mod Zone

@@ -1,6 +1,6 @@
 -- Fields of the form KEY=VALUE.
 use Rattle.std.specs.Prelude.{ℕ, ◌+◌, ◌==◌, ◌&&◌, ◌||◌, not, nat_lt, if◌then◌else◌, codes, Bool, true, false}
-use Rattle.std.specs.Prelude.{List, [], ◌∷◌, length, take, drop, Option, None, Some, position, option_and_then, option_map}
+use Rattle.std.specs.Prelude.{List, [], ◌∷◌, length, take, drop, Option, None, Some, position, option_and_then, option_map, unwrap_or}
 use Rattle.std.specs.List.{find, list_any}
 use Rattle.std.specs.Str.{byte}
 use Rattle.gl_text.specs.Forms.{is_text}
@@ -28,27 +28,30 @@ abbrev pub value_of : List ℕ → List (List ℕ) → Option (List ℕ)
 value_of key fields =
     option_and_then (behind_key key) (find (λ field. is_text (key_of field) key) fields)
 
+-- the same, or what stands for it where it is left out
+abbrev pub said : List ℕ → List ℕ → List (List ℕ) → List ℕ
+said key left_out fields = unwrap_or (value_of key fields) left_out
+
 -- the keys of the line of options
-abbrev pub is_options_key : List ℕ → Bool
-is_options_key key =
-    is_text key (codes "Options") || is_text key (codes "NoStart")
-    || is_text key (codes "TaskTime") || is_text key (codes "RandomOrder")
-    || is_text key (codes "WpDis") || is_text key (codes "NearDis")
-    || is_text key (codes "NearAlt") || is_text key (codes "MinDis")
-    || is_text key (codes "MaxPts") || is_text key (codes "BeforePts")
-    || is_text key (codes "AfterPts") || is_text key (codes "Bonus")
+abbrev pub options_keys : List (List ℕ)
+options_keys =
+    codes "Options" ∷ codes "NoStart" ∷ codes "TaskTime" ∷ codes "RandomOrder" ∷ codes "WpDis"
+    ∷ codes "NearDis" ∷ codes "NearAlt" ∷ codes "MinDis" ∷ codes "MaxPts" ∷ codes "BeforePts"
+    ∷ codes "AfterPts" ∷ codes "Bonus" ∷ []
 
 -- those of a zone's line
-abbrev pub is_zone_key : List ℕ → Bool
-is_zone_key key =
-    is_text key (codes "ObsZone") || is_text key (codes "Style") || is_text key (codes "R1")
-    || is_text key (codes "A1") || is_text key (codes "R2") || is_text key (codes "A2")
-    || is_text key (codes "A12") || is_text key (codes "Line") || is_text key (codes "AAT")
-    || is_text key (codes "Move") || is_text key (codes "Reduce")
+abbrev pub zone_keys : List (List ℕ)
+zone_keys =
+    codes "ObsZone" ∷ codes "Style" ∷ codes "R1" ∷ codes "A1" ∷ codes "R2" ∷ codes "A2"
+    ∷ codes "A12" ∷ codes "Line" ∷ codes "AAT" ∷ codes "Move" ∷ codes "Reduce" ∷ []
+
+-- a key is one of some
+abbrev pub is_among : List (List ℕ) → List ℕ → Bool
+is_among known key = list_any (λ one. is_text one key) known
 
 abbrev pub is_key : code.Keys → List ℕ → Bool
-is_key keys.Options key = is_options_key key
-is_key keys.Zone key = is_zone_key key
+is_key keys.Options key = is_among options_keys key
+is_key keys.Zone key = is_among zone_keys key
 is_key keys.Any key = true
 is_key keys.None key = false
 
@@ -89,10 +92,8 @@ are_once (field ∷ fields) =
 
 -- a field of a line is passed over, and the scorer is told so
 abbrev pub is_passed : code.Keys → List ℕ → Bool
-is_passed keys.Options field = is_nothing field
-is_passed keys.Zone field = is_nothing field
 is_passed keys.Any field = true
-is_passed keys.None field = is_nothing field
+is_passed other field = is_nothing field
 
 abbrev pub passed_by : code.Keys → ℕ → List ℕ → List PassedKey
 passed_by known line field =

@@ -1,5 +1,5 @@
 -- The waypoints of rows, and the place of those with a name.
-use Rattle.std.specs.Prelude.{ℕ, ◌==◌, ◌&&◌, ◌||◌, not, if◌then◌else◌, List, Option, None, Some, option_map, position, is_none, slice_get, codes, map, Bool, false, ℤ}
+use Rattle.std.specs.Prelude.{ℕ, ◌&&◌, ◌||◌, not, if◌then◌else◌, List, Option, None, Some, position, is_none, slice_get, codes, map, Bool, false, ℤ}
 use Rattle.std.specs.Char.{to_ascii_lowercase}
 use Rattle.std.specs.List.{find, list_all}
 use Rattle.std.specs.Ordering.{int_eq}

@@ -1,11 +1,12 @@
--- The zone that the fields of an ObsZone line say.
-use Rattle.std.specs.Prelude.{ℕ, nat_le, nat_lt, ◌==◌, ◌&&◌, ◌||◌, if◌then◌else◌, codes, Bool, true, false, List, length, Option, None, Some, option_and_then, slice_index}
+-- What the fields of an Options line and of an ObsZone line say. A key that is left out counts as 0, or can't be.
+use Rattle.std.specs.Prelude.{ℕ, nat_le, nat_lt, ◌==◌, ◌||◌, ◌&&◌, if◌then◌else◌, codes, Bool, true, false, List, [], length, Option, None, Some, slice_index}
 use Rattle.std.specs.Str.{byte}
 use Rattle.gl_text.specs.Digits.{◌>>=◌, number_of}
-use Rattle.gl_cup.specs.Decimal.{radius_of, thousandths_of}
-use Rattle.gl_cup.specs.Pair.{value_of}
+use Rattle.gl_cup.specs.Decimal.{clock_of, radius_of, thousandths_of}
+use Rattle.gl_cup.specs.Pair.{said}
 use Rattle.gl_text.specs.Forms.{is_text}
 use Rattle.gl_cup.specs.declared.zone.ObsZone.{ObsZone}
+use Rattle.gl_cup.specs.declared.zone.Options.{Options}
 use Rattle.gl_cup.specs.declared.zone.Style as code
 use Rattle.gl_cup.specs.declared.zone.Style.TheVariants as style
 
@@ -25,77 +26,50 @@ style_of text =
     else (if is_text text (codes "3") then Some style.ToPrevious
     else (if is_text text (codes "4") then Some style.ToStart else None))))
 
--- the metres of a length; 0 where it is left out
-abbrev pub length_or_none : Option (List ℕ) → Option ℕ
-length_or_none None = Some 0
-length_or_none (Some value) = radius_of value
+-- the thousandths of a degree of an angle of at most a whole turn
+unfoldable pub angle_of : List ℕ → Option ℕ
+angle_of text =
+    thousandths_of text >>= λ angle. if nat_le angle 360_000 then Some angle else None
 
--- an angle of at most a whole turn
-abbrev pub within_turn : ℕ → Option ℕ
-within_turn angle = if nat_le angle 360_000 then Some angle else None
+-- a key that is set, to 1 or True, or isn't: to 0 or False
+abbrev pub flag_of : List ℕ → Option Bool
+flag_of text =
+    if is_text text (codes "0") || is_text text (codes "False") then Some false
+    else (if is_text text (codes "1") || is_text text (codes "True") then Some true else None)
 
--- the thousandths of a degree of an angle; 0 where it is left out
-abbrev pub angle_or_none : Option (List ℕ) → Option ℕ
-angle_or_none None = Some 0
-angle_or_none (Some value) = option_and_then within_turn (thousandths_of value)
-
--- a key that is set, to 1 or True, or isn't: to 0 or False, or left out
-abbrev pub flag_in : List ℕ → Option Bool
-flag_in value =
-    if is_text value (codes "0") || is_text value (codes "False") then Some false
-    else (if is_text value (codes "1") || is_text value (codes "True") then Some true else None)
-
-abbrev pub flag_of : Option (List ℕ) → Option Bool
-flag_of None = Some false
-flag_of (Some value) = flag_in value
-
--- the two radii, in metres; the first has to be there
-unfoldable pub radii_of : List (List ℕ) → Option (ℕ × ℕ)
-radii_of fields = do
-  text ← value_of (codes "R1") fields
-  first ← radius_of text
-  second ← length_or_none (value_of (codes "R2") fields)
-  Some (first, second)
-
--- the two half angles, and that of the direction
-unfoldable pub angles_of : List (List ℕ) → Option (ℕ × ℕ × ℕ)
-angles_of fields = do
-  first ← angle_or_none (value_of (codes "A1") fields)
-  second ← angle_or_none (value_of (codes "A2") fields)
-  axis ← angle_or_none (value_of (codes "A12") fields)
-  Some (first, second, axis)
-
--- whether the zone is a line, and whether it is an area
-unfoldable pub flags_of : List (List ℕ) → Option (Bool × Bool)
-flags_of fields = do
-  line ← flag_of (value_of (codes "Line") fields)
-  area ← flag_of (value_of (codes "AAT") fields)
-  Some (line, area)
-
--- the number of the point and the style
-unfoldable pub head_of : List (List ℕ) → Option (ℕ × code.Style)
-head_of fields = do
-  number ← value_of (codes "ObsZone") fields
-  point ← point_of number
-  name ← value_of (codes "Style") fields
-  way ← style_of name
-  Some (point, way)
+-- a time; midnight is none
+unfoldable pub time_of : List ℕ → Option (Option ℕ)
+time_of text =
+    clock_of text >>= λ second. Some (if second == 0 then None else Some second)
 
 -- the zone that the fields of a line say
 unfoldable pub zone_of : List (List ℕ) → Option ObsZone
 zone_of fields = do
-  head ← head_of fields
-  radii ← radii_of fields
-  angles ← angles_of fields
-  flags ← flags_of fields
+  point ← point_of (said (codes "ObsZone") [] fields)
+  style ← style_of (said (codes "Style") [] fields)
+  radius ← radius_of (said (codes "R1") [] fields)
+  angle ← angle_of (said (codes "A1") (codes "0") fields)
+  second_radius ← radius_of (said (codes "R2") (codes "0") fields)
+  second_angle ← angle_of (said (codes "A2") (codes "0") fields)
+  axis ← angle_of (said (codes "A12") (codes "0") fields)
+  is_line ← flag_of (said (codes "Line") (codes "0") fields)
+  is_area ← flag_of (said (codes "AAT") (codes "0") fields)
   Some (record {
-    point = head.0;
-    style = head.1;
-    radius = radii.0;
-    second_radius = radii.1;
-    angle = angles.0;
-    second_angle = angles.1;
-    axis = angles.2;
-    is_line = flags.0;
-    is_area = flags.1;
+    point = point;
+    style = style;
+    radius = radius;
+    angle = angle;
+    second_radius = second_radius;
+    second_angle = second_angle;
+    axis = axis;
+    is_line = is_line;
+    is_area = is_area;
   })
+
+-- the options that they say; points in any order are no task that can be said
+unfoldable pub options_of : List (List ℕ) → Option Options
+options_of fields = do
+  any_order ← flag_of (said (codes "RandomOrder") (codes "0") fields)
+  opens ← time_of (said (codes "NoStart") (codes "00:00:00") fields)
+  time ← time_of (said (codes "TaskTime") (codes "00:00:00") fields)
+  if any_order then None else Some (record { opens = opens; time = time })

@@ -7,10 +7,9 @@ ghost use Rattle.gl_cup.specs.Detail.{keys_of, options_among, options_said, pass
 use crate::choice::{begins_with, is_headed};
 use crate::error::CupError;
 use crate::field::Field;
-use crate::options::{Options, read_options};
 use crate::pair::{Keys, PassedKey, are_once, foreign_key, push_all_passed};
 use crate::row::Row;
-use crate::zone::{ObsZone, read_zone};
+use crate::zone::{ObsZone, Options, read_options, read_zone};
 use std::alloc::{AllocError, Global};
 
 /// A row below a task.

@@ -8,7 +8,6 @@ mod decimal;
 mod detail;
 mod error;
 mod field;
-mod options;
 mod pair;
 mod point;
 mod reader;

@@ -1,6 +1,6 @@
 ghost use Rattle.std.specs.Prelude.{◌≡◌, ◌==◌, ◌++◌, OnOk, option_map, position};
 ghost use Rattle.gl_cup.specs.Pair.{are_once, behind_key, foreign_key, has_key, is_foreign, is_key, is_no_altitude, is_nothing};
-ghost use Rattle.gl_cup.specs.Pair.{is_options_key, is_passed, is_zone_key, key_of, length_behind, passed_by, value_of};
+ghost use Rattle.gl_cup.specs.Pair.{is_passed, key_of, length_behind, passed_by, said, value_of};
 ghost use Rattle.gl_text.specs.Forms.{is_text};
 ghost use Rattle.std.specs.List.{find, flat_map, list_any};
 ghost use Rattle.std.specs.Str.{byte};
@@ -46,10 +46,20 @@ fn behind_key<'a>(field: &'a [u8], key: &[u8]) -> Option<&'a [u8]>
 }
 
 /// What the first field with a key says.
-pub fn value_of<'a>(fields: &'a [Field], key: &[u8]) -> Option<&'a [u8]>
+fn value_of<'a>(fields: &'a [Field], key: &[u8]) -> Option<&'a [u8]>
     ensures { option_map (λ value. value.now) result ≡ value_of key.now fields.now }
 {
     behind_key(field_with(fields, key)?.as_slice(), key)
+}
+
+/// What the first field with a key says, or what stands for it where it is left out.
+pub fn said<'a>(fields: &'a [Field], key: &[u8], left_out: &'static [u8]) -> &'a [u8]
+    ensures { result.now ≡ said key.now left_out.now fields.now }
+{
+    match value_of(fields, key) {
+        Some(value) => value,
+        None => left_out,
+    }
 }
 
 /// Which keys the fields of a line below a task may have.
@@ -72,40 +82,33 @@ pub fn is_text(one: &[u8], other: &[u8]) -> bool
     one == other
 }
 
-/// Whether a key is one of the line of options. Those from `WpDis` on, but for `RandomOrder`, are
-/// passed over: there are other rules of scoring here.
-fn is_options_key(key: &[u8]) -> bool
-    ensures { result ≡ is_options_key key.now }
-{
-    is_text(key, b"Options")
-        || is_text(key, b"NoStart")
-        || is_text(key, b"TaskTime")
-        || is_text(key, b"RandomOrder")
-        || is_text(key, b"WpDis")
-        || is_text(key, b"NearDis")
-        || is_text(key, b"NearAlt")
-        || is_text(key, b"MinDis")
-        || is_text(key, b"MaxPts")
-        || is_text(key, b"BeforePts")
-        || is_text(key, b"AfterPts")
-        || is_text(key, b"Bonus")
-}
+/// The keys of the line of options. Those from `WpDis` on are passed over: there are other rules of
+/// scoring here.
+const OPTIONS_KEYS: [&[u8]; 12] = [
+    b"Options",
+    b"NoStart",
+    b"TaskTime",
+    b"RandomOrder",
+    b"WpDis",
+    b"NearDis",
+    b"NearAlt",
+    b"MinDis",
+    b"MaxPts",
+    b"BeforePts",
+    b"AfterPts",
+    b"Bonus",
+];
 
-/// Whether a key is one of a zone's line. `Move` and `Reduce` are passed over.
-fn is_zone_key(key: &[u8]) -> bool
-    ensures { result ≡ is_zone_key key.now }
+/// The keys of a zone's line. `Move` and `Reduce` are passed over.
+const ZONE_KEYS: [&[u8]; 11] = [
+    b"ObsZone", b"Style", b"R1", b"A1", b"R2", b"A2", b"A12", b"Line", b"AAT", b"Move", b"Reduce",
+];
+
+/// Whether a key is one of some.
+fn is_among(known: &[&[u8]], key: &[u8]) -> bool
+    ensures { result ≡ list_any (λ one. is_text one.now key.now) known.now }
 {
-    is_text(key, b"ObsZone")
-        || is_text(key, b"Style")
-        || is_text(key, b"R1")
-        || is_text(key, b"A1")
-        || is_text(key, b"R2")
-        || is_text(key, b"A2")
-        || is_text(key, b"A12")
-        || is_text(key, b"Line")
-        || is_text(key, b"AAT")
-        || is_text(key, b"Move")
-        || is_text(key, b"Reduce")
+    known.iter().any(|one| is_text(one, key))
 }
 
 /// Whether a key is one of those that a line may have.
@@ -113,8 +116,8 @@ fn is_key(keys: Keys, key: &[u8]) -> bool
     ensures { result ≡ is_key keys key.now }
 {
     match keys {
-        Keys::Options => is_options_key(key),
-        Keys::Zone => is_zone_key(key),
+        Keys::Options => is_among(&OPTIONS_KEYS, key),
+        Keys::Zone => is_among(&ZONE_KEYS, key),
         Keys::Any => true,
         Keys::None => false,
     }

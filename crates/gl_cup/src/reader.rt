@@ -1,12 +1,9 @@
-ghost use Rattle.std.specs.Prelude.{◌≡◌, ◌≢◌, ◌<◌, ◌≤◌, ◌∷◌, None, Some, IfOk, IfErr, OnOk, false, is_none, length, option_map, slice_get};
-ghost use Rattle.gl_sphere.specs.PlaceText.{place_of as pair_of};
+ghost use Rattle.std.specs.Prelude.{◌≡◌, ◌≢◌, ◌<◌, ◌≤◌, ◌∷◌, [], None, Some, Ok, Err, IfOk, IfErr, OnOk, length, map, option_map, slice_get, unwrap_or};
+ghost use Rattle.std.specs.List.{find};
 ghost use Rattle.gl_cup.specs.declared.error.CupError.TheVariants.{Memory};
 ghost use Rattle.gl_cup.specs.Choice.{choice, task_rows, waypoint_rows};
-ghost use Rattle.gl_cup.specs.Detail.{options_among, passed_among, zone_at};
-ghost use Rattle.gl_cup.specs.Reading.{ArePoints, IsPoint, IsTaskBelow, IsTaskBy, IsTaskIn, IsTaskOf};
-ghost use Rattle.gl_cup.specs.Refusal.{IsRefusalOf, refusal_by, refusal_in};
-ghost use Rattle.gl_cup.specs.TaskRows.{break_of, damage_of, first_unplaced, first_zoneless, name_fault, names_in, refused_fields, refused_points, refused_task};
-ghost use Rattle.gl_cup.specs.Waypoint.{place_of};
+ghost use Rattle.gl_cup.specs.Reading.{IsRefusalOf, IsTaskOf, first_unplaced, name_fault, names_in, point_at, point_said, points_behind, points_of, task_by, task_chosen, task_in, task_said};
+ghost use Rattle.gl_cup.specs.Row.{is_broken};
 
 use crate::choice::{choose, split_at_mark};
 use crate::detail::{options_among, passed_among, test_details, zone_at};
@@ -21,9 +18,10 @@ use std::alloc::Global;
 /// The description of a task, and the names of its points: the fields behind the description and
 /// the take-off, and before the landing. There are at least three.
 fn names_of(row: &Row) -> Result<(&Field, &[Field]), CupError>
-    ensures title { IfOk result (λ read. slice_get row.now.fields 0 ≡ Some read.0.now) }
+    ensures title { IfOk result (λ read. unwrap_or (slice_get row.now.fields 0) [] ≡ read.0.now) }
     ensures names { IfOk result (λ read. read.1.now ≡ names_in row.now.fields) }
-    ensures some { IfOk result (λ read. 6 ≤ length row.now.fields) }
+    ensures some { IfOk result (λ read.
+        (6 ≤ length row.now.fields) × (3 ≤ length read.1.now)) }
     ensures refused { IfErr result (λ e.
         (length row.now.fields < 6) × (e ≡ CupError.TooFewPoints row.now.line)) }
 {
@@ -34,22 +32,13 @@ fn names_of(row: &Row) -> Result<(&Field, &[Field]), CupError>
     Ok((&fields[0], &fields[2..fields.len() - 1]))
 }
 
-/// That a waypoint has a name but no place, if one has.
-fn damage_of(columns: &Columns, points: &[Row], name: &[u8]) -> Option<CupError>
-    ensures { result ≡ damage_of columns.now points.now name.now }
-{
-    let row = first_damaged(columns, points, name)?;
-    Some(CupError::Waypoint(row.line))
-}
-
 /// What is wrong with the name of a point.
-#[tactic(auto, unfolding(crate::specs::TaskRows::name_fault))]
+#[tactic(auto, unfolding(crate::specs::Reading::name_fault))]
 fn name_fault(columns: &Columns, points: &[Row], name: &[u8], at: (u64, u64)) -> Option<CupError>
     ensures { result ≡ name_fault columns.now points.now at.0 at.1 name.now }
 {
-    let damage = damage_of(columns, points, name);
-    if damage.is_some() {
-        return damage;
+    if let Some(row) = first_damaged(columns, points, name) {
+        return Some(CupError::Waypoint(row.line));
     }
     match place_of(columns, points, name) {
         Some(_) => None,
@@ -71,7 +60,7 @@ fn test_names(columns: &Columns, points: &[Row], names: &[Field], line: u64) -> 
     Ok(())
 }
 
-/// A point of a task with its place and its zone.
+/// The point with a name, on a line and with a number.
 fn read_point(
     alloc: Global,
     columns: &Columns,
@@ -80,17 +69,16 @@ fn read_point(
     name: &Field,
     at: (u64, u64),
 ) -> Result<CupPoint, CupError>
-    requires { is_none (place_of columns.now name.now points.now) ≡ false }
-    ensures ok { IfOk result (IsPoint columns.now points.now details.now at.1 name.now) }
+    ensures ok { IfOk result (λ point.
+        point_at columns.now points.now details.now at.0 at.1 name.now ≡ Ok (point_said point)) }
     ensures refused { IfErr result (λ e. e ≢ Memory
-        → (zone_at details.now at.1 ≡ None) × (e ≡ CupError.NoZone at.0 at.1)) }
+        → point_at columns.now points.now details.now at.0 at.1 name.now ≡ Err e) }
 {
-    let (line, point) = at;
-    let (Some(place), Some((zone, line))) = (
-        place_of(columns, points, name.as_slice()),
-        zone_at(details, point),
-    ) else {
-        return Err(CupError::NoZone(line, point));
+    let Some(place) = place_of(columns, points, name.as_slice()) else {
+        return Err(CupError::Unknown(at.0, at.1));
+    };
+    let Some((zone, line)) = zone_at(details, at.1) else {
+        return Err(CupError::NoZone(at.0, at.1));
     };
     Ok(CupPoint {
         name: Field::from_slice(alloc, name.as_slice())?,
@@ -109,22 +97,26 @@ fn named_points(
     names: &[Field],
     line: u64,
 ) -> Result<Vec<CupPoint>, CupError>
-    requires { first_unplaced columns.now points.now line 0 names.now ≡ None }
     ensures ok { IfOk result (λ made.
-        ArePoints columns.now points.now details.now 0 names.now made.items) }
-    ensures zoned { IfOk result (λ made. first_zoneless details.now 0 names.now ≡ None) }
+        points_behind columns.now points.now details.now line [] names.now
+        ≡ Ok (map point_said made.items)) }
+    ensures count { IfOk result (λ made. length made.items ≡ length names.now) }
     ensures refused { IfErr result (λ e. e ≢ Memory
-        → option_map (CupError.NoZone line) (first_zoneless details.now 0 names.now) ≡ Some e) }
+        → points_behind columns.now points.now details.now line [] names.now ≡ Err e) }
 {
     let mut made = Vec::new(alloc);
-    'names: for (n, name) in names.iter().enumerate() {
-        made.push(read_point(alloc, columns, points, details, name, (line, n as u64))?)?;
+    let mut left = names;
+    'names: while let Some((name, rest)) = left.split_first() {
+        let at = (line, made.len() as u64);
+        let point = read_point(alloc, columns, points, details, name, at)?;
+        made.push(point)?;
+        left = rest;
     }
     Ok(made)
 }
 
 /// The points of a task by their names.
-#[tactic(auto, unfolding(crate::specs::TaskRows::refused_points))]
+#[tactic(auto, unfolding(crate::specs::Reading::points_of))]
 fn tested_points(
     alloc: Global,
     columns: &Columns,
@@ -134,11 +126,11 @@ fn tested_points(
     line: u64,
 ) -> Result<Vec<CupPoint>, CupError>
     ensures ok { IfOk result (λ made.
-        ArePoints columns.now points.now details.now 0 names.now made.items) }
-    ensures right { IfOk result (λ made.
-        refused_points columns.now points.now line details.now names.now ≡ None) }
+        points_of columns.now points.now line details.now names.now
+        ≡ Ok (map point_said made.items)) }
+    ensures count { IfOk result (λ made. length made.items ≡ length names.now) }
     ensures refused { IfErr result (λ e. e ≢ Memory
-        → refused_points columns.now points.now line details.now names.now ≡ Some e) }
+        → points_of columns.now points.now line details.now names.now ≡ Err e) }
 {
     test_names(columns, points, names, line)?;
     test_details(alloc, details, names.len() as u64)?;
@@ -147,8 +139,10 @@ fn tested_points(
 
 /// Tests that a task's row and those below it are whole.
 fn test_rows(row: &Row, details: &[Row]) -> Result<(), CupError>
-    ensures ok { OnOk result (break_of (row.now ∷ details.now) ≡ None) }
-    ensures refused { IfErr result (λ e. break_of (row.now ∷ details.now) ≡ Some e) }
+    ensures ok { OnOk result (find is_broken (row.now ∷ details.now) ≡ None) }
+    ensures refused { IfErr result (λ e.
+        option_map (λ broken. CupError.Row broken.line) (find is_broken (row.now ∷ details.now))
+        ≡ Some e) }
 {
     if !row.is_whole {
         return Err(CupError::Row(row.line));
@@ -159,30 +153,8 @@ fn test_rows(row: &Row, details: &[Row]) -> Result<(), CupError>
     }
 }
 
-/// The description and the points of a task.
-#[tactic(auto, unfolding(crate::specs::TaskRows::refused_fields))]
-fn read_fields<'a>(
-    alloc: Global,
-    columns: &Columns,
-    points: &[Row],
-    row: &'a Row,
-    details: &[Row],
-) -> Result<(&'a Field, Vec<CupPoint>), CupError>
-    ensures title { IfOk result (λ read. slice_get row.now.fields 0 ≡ Some read.0.now) }
-    ensures made { IfOk result (λ read. ArePoints columns.now points.now details.now 0
-        (names_in row.now.fields) read.1.items) }
-    ensures right { IfOk result (λ read.
-        refused_fields columns.now points.now row.now details.now ≡ None) }
-    ensures refused { IfErr result (λ e. e ≢ Memory
-        → refused_fields columns.now points.now row.now details.now ≡ Some e) }
-{
-    let (title, names) = names_of(row)?;
-    let made = tested_points(alloc, columns, points, details, names, row.line)?;
-    Ok((title, made))
-}
-
 /// The task of a row and those below it.
-#[tactic(auto, unfolding(crate::specs::TaskRows::refused_task))]
+#[tactic(auto, unfolding(crate::specs::Reading::task_by))]
 fn read_task(
     alloc: Global,
     columns: &Columns,
@@ -190,12 +162,15 @@ fn read_task(
     row: &Row,
     details: &[Row],
 ) -> Result<CupTask, CupError>
-    ensures ok { IfOk result (IsTaskBy columns.now points.now row.now details.now) }
+    ensures ok { IfOk result (λ task.
+        task_by columns.now points.now row.now details.now ≡ Ok (task_said task)) }
+    ensures count { IfOk result (λ task. 3 ≤ length task.points) }
     ensures refused { IfErr result (λ e. e ≢ Memory
-        → refused_task columns.now points.now row.now details.now ≡ Some e) }
+        → task_by columns.now points.now row.now details.now ≡ Err e) }
 {
     test_rows(row, details)?;
-    let (title, made) = read_fields(alloc, columns, points, row, details)?;
+    let (title, names) = names_of(row)?;
+    let made = tested_points(alloc, columns, points, details, names, row.line)?;
     let options = options_among(details);
     Ok(CupTask {
         title: Field::from_slice(alloc, title.as_slice())?,
@@ -213,10 +188,13 @@ fn task_below(
     rest: &[Row],
     which: Option<u32>,
 ) -> Result<CupTask, CupError>
-    ensures ok { IfOk result (IsTaskBelow columns.now rest.now which) }
+    ensures ok { IfOk result (λ task.
+        task_chosen columns.now (waypoint_rows rest.now) (choice which (task_rows rest.now))
+        ≡ Ok (task_said task)) }
+    ensures count { IfOk result (λ task. 3 ≤ length task.points) }
     ensures refused { IfErr result (λ e. e ≢ Memory
-        → refusal_by columns.now (waypoint_rows rest.now) (choice which (task_rows rest.now))
-        ≡ Some e) }
+        → task_chosen columns.now (waypoint_rows rest.now) (choice which (task_rows rest.now))
+        ≡ Err e) }
 {
     let (points, tasks) = split_at_mark(rest);
     let (row, details) = choose(tasks, which)?;
@@ -225,8 +203,9 @@ fn task_below(
 
 /// The task of rows, the first of which is the header.
 fn task_in(alloc: Global, rows: &[Row], which: Option<u32>) -> Result<CupTask, CupError>
-    ensures ok { IfOk result (IsTaskIn rows.now which) }
-    ensures refused { IfErr result (λ e. e ≢ Memory → refusal_in which rows.now ≡ Some e) }
+    ensures ok { IfOk result (λ task. task_in which rows.now ≡ Ok (task_said task)) }
+    ensures count { IfOk result (λ task. 3 ≤ length task.points) }
+    ensures refused { IfErr result (λ e. e ≢ Memory → task_in which rows.now ≡ Err e) }
 {
     let [header, rest @ ..] = rows else {
         return Err(CupError::Empty);
@@ -241,10 +220,11 @@ fn task_in(alloc: Global, rows: &[Row], which: Option<u32>) -> Result<CupTask, C
 }
 
 /// Reads a task of a text in the SeeYou form (docs/cup.md): the one of a number, counted from 1, or
-/// the only one.
-#[tactic(auto, unfolding(crate::specs::Refusal::refusal_of))]
+/// the only one. It has a start, at least one turn point and a finish.
+#[tactic(auto, unfolding(crate::specs::Reading::task_of))]
 pub fn read_cup(alloc: Global, text: &[u8], which: Option<u32>) -> Result<CupTask, CupError>
     ensures ok { IfOk result (IsTaskOf text.now which) }
+    ensures count { IfOk result (λ task. 3 ≤ length task.points) }
     ensures refused { IfErr result (IsRefusalOf text.now which) }
 {
     if is_wide(text) {

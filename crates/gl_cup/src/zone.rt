@@ -1,10 +1,9 @@
 ghost use Rattle.std.specs.Prelude.{◌≡◌};
-ghost use Rattle.gl_cup.specs.Pair.{value_of};
-ghost use Rattle.gl_cup.specs.Zone.{angle_or_none, angles_of, flag_in, flag_of, flags_of, head_of, length_or_none, point_of, radii_of, style_of, within_turn, zone_of};
+ghost use Rattle.gl_cup.specs.Zone.{angle_of, flag_of, options_of, point_of, style_of, time_of, zone_of};
 
-use crate::decimal::{read_radius, read_thousandths};
+use crate::decimal::{read_clock, read_radius, read_thousandths};
 use crate::field::Field;
-use crate::pair::{is_text, value_of};
+use crate::pair::{is_text, said};
 use gl_text::read_digits;
 
 /// Which way the middle of a zone points.
@@ -38,6 +37,15 @@ pub struct ObsZone {
     pub is_area: bool,
 }
 
+/// What the `Options` line of a task says.
+#[derive(Clone, Copy, Debug, PartialEq, Eq)]
+pub struct Options {
+    /// When the start opens, in seconds of the day. Midnight is as good as left out.
+    pub opens: Option<u32>,
+    /// How long the task takes, in seconds. No time is as good as left out.
+    pub time: Option<u32>,
+}
+
 /// The number of a point: one to nine digits, and no 0 before others.
 #[tactic(auto, unfolding(crate::specs::Zone::point_of))]
 fn read_point(text: &[u8]) -> Option<u64>
@@ -69,95 +77,37 @@ fn read_style(text: &[u8]) -> Option<Style>
     }
 }
 
-/// The length at a key; 0 where it is left out.
-fn length_at(fields: &[Field], key: &[u8]) -> Option<u32>
-    ensures { result ≡ length_or_none (value_of key.now fields.now) }
+/// An angle of at most a whole turn, in thousandths of a degree.
+#[tactic(auto, unfolding(crate::specs::Zone::angle_of))]
+fn read_angle(text: &[u8]) -> Option<u32>
+    ensures { result ≡ angle_of text.now }
 {
-    match value_of(fields, key) {
-        Some(value) => read_radius(value),
-        None => Some(0),
-    }
-}
-
-/// An angle of at most a whole turn.
-fn within_turn(angle: u32) -> Option<u32>
-    ensures { result ≡ within_turn angle }
-{
+    let angle = read_thousandths(text)?;
     if angle <= 360_000 { Some(angle) } else { None }
 }
 
-/// The angle at a key, at most a whole turn; 0 where it is left out.
-fn angle_at(fields: &[Field], key: &[u8]) -> Option<u32>
-    ensures { result ≡ angle_or_none (value_of key.now fields.now) }
-{
-    match value_of(fields, key) {
-        Some(value) => within_turn(read_thousandths(value)?),
-        None => Some(0),
-    }
-}
-
 /// Whether a value is set, to 1 or True; not where it is 0 or False.
-fn flag_in(value: &[u8]) -> Option<bool>
-    ensures { result ≡ flag_in value.now }
+fn read_flag(text: &[u8]) -> Option<bool>
+    ensures { result ≡ flag_of text.now }
 {
-    if is_text(value, b"0") || is_text(value, b"False") {
+    if is_text(text, b"0") || is_text(text, b"False") {
         Some(false)
-    } else if is_text(value, b"1") || is_text(value, b"True") {
+    } else if is_text(text, b"1") || is_text(text, b"True") {
         Some(true)
     } else {
         None
     }
 }
 
-/// Whether a key is set, to 1 or True; not where it is 0, False or left out.
-pub fn flag_at(fields: &[Field], key: &[u8]) -> Option<bool>
-    ensures { result ≡ flag_of (value_of key.now fields.now) }
+/// A time in seconds of the day. Midnight is none.
+#[tactic(auto, unfolding(crate::specs::Zone::time_of))]
+fn read_time(text: &[u8]) -> Option<Option<u32>>
+    ensures { result ≡ time_of text.now }
 {
-    match value_of(fields, key) {
-        Some(value) => flag_in(value),
-        None => Some(false),
+    match read_clock(text)? {
+        0 => Some(None),
+        second => Some(Some(second)),
     }
-}
-
-/// The number of the point and the style.
-#[tactic(auto, unfolding(crate::specs::Zone::head_of))]
-fn read_head(fields: &[Field]) -> Option<(u64, Style)>
-    ensures { result ≡ head_of fields.now }
-{
-    let point = read_point(value_of(fields, b"ObsZone")?)?;
-    let style = read_style(value_of(fields, b"Style")?)?;
-    Some((point, style))
-}
-
-/// The two radii, of which the first has to be there.
-#[tactic(auto, unfolding(crate::specs::Zone::radii_of))]
-fn read_radii(fields: &[Field]) -> Option<(u32, u32)>
-    ensures { result ≡ radii_of fields.now }
-{
-    let first = read_radius(value_of(fields, b"R1")?)?;
-    let second = length_at(fields, b"R2")?;
-    Some((first, second))
-}
-
-/// The two half angles, and that of the direction.
-#[tactic(auto, unfolding(crate::specs::Zone::angles_of))]
-fn read_angles(fields: &[Field]) -> Option<(u32, u32, u32)>
-    ensures { result ≡ angles_of fields.now }
-{
-    let first = angle_at(fields, b"A1")?;
-    let second = angle_at(fields, b"A2")?;
-    let axis = angle_at(fields, b"A12")?;
-    Some((first, second, axis))
-}
-
-/// Whether the zone is a line, and whether it is an area.
-#[tactic(auto, unfolding(crate::specs::Zone::flags_of))]
-fn read_flags(fields: &[Field]) -> Option<(bool, bool)>
-    ensures { result ≡ flags_of fields.now }
-{
-    let line = flag_at(fields, b"Line")?;
-    let area = flag_at(fields, b"AAT")?;
-    Some((line, area))
 }
 
 /// The zone that the fields of a line say.
@@ -165,19 +115,31 @@ fn read_flags(fields: &[Field]) -> Option<(bool, bool)>
 pub fn read_zone(fields: &[Field]) -> Option<ObsZone>
     ensures { result ≡ zone_of fields.now }
 {
-    let (point, style) = read_head(fields)?;
-    let (radius, second_radius) = read_radii(fields)?;
-    let (angle, second_angle, axis) = read_angles(fields)?;
-    let (is_line, is_area) = read_flags(fields)?;
     Some(ObsZone {
-        point,
-        style,
-        radius,
-        angle,
-        second_radius,
-        second_angle,
-        axis,
-        is_line,
-        is_area,
+        point: read_point(said(fields, b"ObsZone", b""))?,
+        style: read_style(said(fields, b"Style", b""))?,
+        radius: read_radius(said(fields, b"R1", b""))?,
+        angle: read_angle(said(fields, b"A1", b"0"))?,
+        second_radius: read_radius(said(fields, b"R2", b"0"))?,
+        second_angle: read_angle(said(fields, b"A2", b"0"))?,
+        axis: read_angle(said(fields, b"A12", b"0"))?,
+        is_line: read_flag(said(fields, b"Line", b"0"))?,
+        is_area: read_flag(said(fields, b"AAT", b"0"))?,
     })
+}
+
+/// What the fields of a line of options say. Points that may be flown in any order are no task that
+/// can be said, and don't read.
+#[tactic(auto, unfolding(crate::specs::Zone::options_of))]
+pub fn read_options(fields: &[Field]) -> Option<Options>
+    ensures { result ≡ options_of fields.now }
+{
+    let any_order = read_flag(said(fields, b"RandomOrder", b"0"))?;
+    let opens = read_time(said(fields, b"NoStart", b"00:00:00"))?;
+    let time = read_time(said(fields, b"TaskTime", b"00:00:00"))?;
+    if any_order {
+        None
+    } else {
+        Some(Options { opens, time })
+    }
 }

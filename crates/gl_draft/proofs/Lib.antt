@@ -1,9 +1,6 @@
-pub mod Answered
-pub mod Courses
 pub mod LineLemmas
 pub mod Pairs
 pub mod Quarters
 pub mod Runs
-pub mod Unmade
 pub mod Utf8
 pub mod ZoneLemmas

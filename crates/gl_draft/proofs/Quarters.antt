@@ -4,7 +4,6 @@ use Rattle.std.specs.Prelude.{int_le}
 use Rattle.std.proofs.lemmas.Int.{ints}
 use Rattle.gl_sphere.specs.Sine.{half_turn_sine, quarter_sine, radians, sine_sum, sine_term, written_cosine, written_sine}
 use Rattle.gl_zone.specs.Zones.{is_clockwise}
-use Rattle.gl_draft.specs.Code.Bearing.{IsNowhere}
 use Rattle.gl_draft.specs.Bearing.{is_too_near, radial_at, signed_angle}
 
 pub radial-north : radial_at 0 ≡ (pos 10_000_000_000_000_000, pos 0)
@@ -70,8 +69,8 @@ pub before_round : (n e : ℤ) → e <ℤ pos 0 → is_clockwise (radial_at 2_16
 before_round n e h = before 2_160_000_000 _ _ n e radial-round (omega (arith, ints, h))
 
 -- no direction is too near
-pub nowhere_is_near : (n e : ℤ) → IsNowhere (n, e) → is_too_near (n, e) ≡ true
-nowhere_is_near n e is =
+pub nowhere_is_near : (n e : ℤ) → n ≡ pos 0 → e ≡ pos 0 → is_too_near (n, e) ≡ true
+nowhere_is_near n e north east =
     let N : ℤ → Type 0 = λ (x : ℤ). is_too_near (x, e) ≡ true in
     let E : ℤ → Type 0 = λ (x : ℤ). is_too_near (pos 0, x) ≡ true in
-    subst N (sym is.north) (subst E (sym is.east) refl)
+    subst N (sym north) (subst E (sym east) refl)

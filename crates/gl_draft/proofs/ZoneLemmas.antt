@@ -1,6 +1,5 @@
 -- The zones of turn points, one by one.
-use Rattle.std.proofs.Common.{◌≡◌, ◌∙◌, ℕ, suc, ◌+◌, ◌<◌, ap, subst, sym, arith, get_or, slice_get, Some, List, [], ◌∷◌, ◌++◌, length}
-use Rattle.std.proofs.lemmas.Option.{slice_get-get_or}
+use Rattle.std.proofs.Common.{◌≡◌, ℕ, suc, ◌+◌, subst, sym, arith, List, [], ◌∷◌, ◌++◌, length}
 use Rattle.gl_cup.specs.declared.point.CupPoint.{CupPoint}
 use Rattle.gl_draft.specs.declared.draft.Zone.{Zone}
 use Rattle.gl_draft.specs.Taken.{AreZonesFrom, IsZoneAt}
@@ -21,9 +20,3 @@ pub next_zones : (points : List CupPoint) (number : ℕ) (zones now : List Zone)
 next_zones points number zones now zone count are this pushed =
     let same : number ≡ 1 + length zones = omega arith in
     subst (AreZonesFrom points 1) (sym pushed) (zones-snoc points 1 zones zone are (subst (λ (n : ℕ). IsZoneAt points n zone) same this))
-
--- a point of a list is that of an equal one
-pub in_points : (all points : List CupPoint) (n m : ℕ) (point : CupPoint) → points ≡ all → n ≡ m → m < length points → point ≡ get_or points m point → slice_get all n ≡ Some point
-in_points all points n m point same here inside is =
-    let P : List CupPoint → Type 0 = λ (xs : List CupPoint). slice_get xs n ≡ Some point in
-    subst P same (ap (slice_get points) here ∙ slice_get-get_or points m point inside ∙ ap (λ (x : CupPoint). Some x) (sym is))

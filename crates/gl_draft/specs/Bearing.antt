@@ -1,5 +1,6 @@
--- The direction from one place to another, in 1/100,000 minute clockwise from north.
-use Rattle.std.specs.Prelude.{◌≡◌, ℕ, ◌+◌, ◌<◌, nat_lt, true, false, if◌then◌else◌, ℤ, pos, ◌-ℤ◌, ◌&&◌, Bool, unsigned_abs}
+-- The direction from one place to another, and those half way between two, in 1/100,000 minute
+-- clockwise from north.
+use Rattle.std.specs.Prelude.{◌≡◌, ℕ, ◌+◌, ◌-◌, ◌/◌, ◌%◌, ◌<◌, nat_lt, true, false, if◌then◌else◌, ℤ, pos, ◌-ℤ◌, ◌&&◌, Bool, Option, None, Some, unsigned_abs}
 use Rattle.gl_sphere.specs.Place.{written_vector, written_north, written_east}
 use Rattle.gl_sphere.specs.Sine.{written_sine, written_cosine}
 use Rattle.gl_sphere.specs.Sphere.{half_turn}
@@ -50,3 +51,31 @@ pub record IsBearing (from to : Grid) (n : ℕ) : Type 0 where
 -- the other place has no direction
 abbrev pub HasNoBearing : Grid → Grid → Type 0
 HasNoBearing from to = is_too_near (direction_to from to) ≡ true
+
+-- the angle from one direction clockwise to another
+abbrev pub angle_between : ℕ → ℕ → ℕ
+angle_between a b = (b + whole_turn - a) % whole_turn
+
+-- half way from one direction clockwise to another
+abbrev pub half_way : ℕ → ℕ → ℕ
+half_way a b = (a + angle_between a b / 2) % whole_turn
+
+abbrev pub turned_about : ℕ → ℕ
+turned_about a = (a + half_turn) % whole_turn
+
+-- two directions are opposite, to less than a hundredth of a degree
+abbrev pub are_opposite : ℕ → ℕ → Bool
+are_opposite a b =
+    nat_lt ((angle_between a b - half_turn) + (half_turn - angle_between a b)) 60_000
+
+-- half way between two directions, in the greater of the two angles between them; none where they
+-- are opposite
+unfoldable pub outside_of : ℕ → ℕ → Option ℕ
+outside_of a b =
+    if are_opposite a b then None
+    else (if nat_lt half_turn (angle_between a b) then Some (half_way a b)
+    else Some (turned_about (half_way a b)))
+
+-- the whole thousandths of a degree nearest to a direction, below a whole turn
+abbrev pub thousandths_of : ℕ → ℕ
+thousandths_of n = (n + 3_000) / 6_000 % 360_000

@@ -13,20 +13,8 @@ use Rattle.gl_draft.specs.declared.refusal.Cause.TheVariants as cause
 
 -- a text that gives no task; want of memory is no such cause
 abbrev pub cause_of_cup : CupError → code.Cause
-cause_of_cup cup.Wide = cause.Cup cup.Wide
-cause_of_cup cup.Empty = cause.Cup cup.Empty
-cause_of_cup (cup.Row line) = cause.Cup (cup.Row line)
-cause_of_cup (cup.Header line) = cause.Cup (cup.Header line)
-cause_of_cup (cup.Waypoint line) = cause.Cup (cup.Waypoint line)
-cause_of_cup cup.NoTask = cause.Cup cup.NoTask
-cause_of_cup cup.Several = cause.Cup cup.Several
-cause_of_cup cup.NoSuchTask = cause.Cup cup.NoSuchTask
-cause_of_cup (cup.TooFewPoints line) = cause.Cup (cup.TooFewPoints line)
-cause_of_cup (cup.Unknown line point) = cause.Cup (cup.Unknown line point)
-cause_of_cup (cup.Key line key) = cause.Cup (cup.Key line key)
-cause_of_cup (cup.Detail line) = cause.Cup (cup.Detail line)
-cause_of_cup (cup.NoZone line point) = cause.Cup (cup.NoZone line point)
 cause_of_cup cup.Memory = cause.Stopped desk.Memory
+cause_of_cup error = cause.Cup error
 
 -- what a task file can't say, by the number of its refusal
 abbrev pub cause_of_task : TaskError → code.Cause
@@ -40,11 +28,7 @@ cause_of_task task.Memory = cause.Stopped desk.Memory
 -- what is wrong with a task file that stands in the folder
 abbrev pub cause_of_file : TaskError → code.Cause
 cause_of_file task.Toml = cause.NoToml
-cause_of_file (task.Missing key) = cause.Task 2 key
-cause_of_file (task.Value key) = cause.Task 3 key
-cause_of_file (task.Twice key) = cause.Task 4 key
-cause_of_file (task.TooMany key) = cause.Task 5 key
-cause_of_file task.Memory = cause.Stopped desk.Memory
+cause_of_file wrong = cause_of_task wrong
 
 -- a call of the desk failed, or there was no memory
 abbrev pub IsStopped : code.Cause → Type 0
@@ -53,35 +37,19 @@ IsStopped other = ⊥
 
 -- what stopped the making of a task file, if something did
 abbrev pub stop_of_cause : code.Cause → Option DeskError
-stop_of_cause cause.NotListed = None
-stop_of_cause cause.TooLarge = None
-stop_of_cause cause.NoRecording = None
-stop_of_cause (cause.Cup error) = None
-stop_of_cause (cause.Shape line point) = None
-stop_of_cause cause.NoToml = None
-stop_of_cause (cause.Task number key) = None
-stop_of_cause cause.Differs = None
 stop_of_cause (cause.Stopped stop) = Some stop
+stop_of_cause other = None
 
 -- the outside didn't fail
 abbrev pub IsNoFault : code.Cause → Type 0
-IsNoFault cause.NotListed = ⊤
-IsNoFault cause.TooLarge = ⊤
-IsNoFault cause.NoRecording = ⊤
-IsNoFault (cause.Cup error) = ⊤
-IsNoFault (cause.Shape line point) = ⊤
-IsNoFault cause.NoToml = ⊤
-IsNoFault (cause.Task number key) = ⊤
-IsNoFault cause.Differs = ⊤
 IsNoFault (cause.Stopped stop) = stop ≡ desk.Memory
+IsNoFault other = ⊤
 
 -- what stopped a run before its end, if something did
 abbrev pub stop_at : Status → Option DeskError
-stop_at status.Done = None
-stop_at status.Words = None
 stop_at status.Desk = Some desk.Failed
-stop_at status.Refused = None
 stop_at status.Memory = Some desk.Memory
+stop_at other = None
 
 abbrev pub status_of : DeskError → Status
 status_of desk.Failed = status.Desk

@@ -1,5 +1,6 @@
 -- What is taken into a task file, its lines, and what a task has of it.
 use Rattle.std.specs.Prelude.{◌≡◌, ◌≢◌, ℕ, ◌+◌, ◌-◌, ◌*◌, ◌%◌, ◌==◌, ◌&&◌, filter, if◌then◌else◌, is_none, List, [], ◌∷◌, ◌++◌, Bool, true, false, Option, None, Some}
+use Rattle.std.specs.Cmp.Lexicographic.{pointwise}
 use Rattle.std.specs.List.{flat_map}
 use Rattle.std.specs.Ordering.{int_eq}
 use Rattle.jiff_core.specs.Date.{epoch_day}
@@ -34,7 +35,7 @@ use Rattle.gl_draft.specs.declared.draft.Kind.TheVariants as taken_kind
 use Rattle.gl_draft.specs.declared.draft.Part as draft_part
 use Rattle.gl_draft.specs.declared.draft.Part.TheVariants as taken_part
 use Rattle.gl_draft.specs.declared.draft.Sector as draft_sector
-use Rattle.gl_draft.specs.declared.draft.Start.{Start}
+use Rattle.gl_draft.specs.declared.draft.Gate.{Gate}
 use Rattle.gl_draft.specs.declared.draft.Zone.{Zone}
 use Rattle.gl_draft.specs.declared.entrant.Entrant.{Entrant}
 use Rattle.gl_draft.specs.declared.line.Line.{Line}
@@ -42,7 +43,6 @@ use Rattle.gl_draft.specs.declared.line.Line.TheVariants.{Head, Said, Open, Radi
 use Rattle.gl_draft.specs.declared.refusal.Cause as code_cause
 use Rattle.gl_draft.specs.declared.refusal.Cause.TheVariants as cause
 use Rattle.gl_draft.specs.declared.value.Value.TheVariants as value
-use Rattle.gl_draft.specs.declared.word.Key as code_key
 use Rattle.gl_draft.specs.declared.word.Key.TheVariants as key
 use Rattle.gl_draft.specs.declared.word.Section.TheVariants as section
 use Rattle.gl_draft.specs.Line.{filled_text, is_spoken, marked_text}
@@ -58,22 +58,18 @@ second_radial middle half_angle = (middle + half_angle) % 360_000
 abbrev pub turned_about : ℕ → ℕ
 turned_about way = (way + 180_000) % 360_000
 
--- a number that is known, or a key that is left to fill in
-abbrev pub amount_or_open : code_key.Key → Option ℕ → List Line
-amount_or_open key None = Open key 0 ∷ []
-amount_or_open key (Some n) = Said key (value.Amount n) ∷ []
-
 abbrev pub date_lines : Option Date → List Line
 date_lines None = Open key.Date 0 ∷ []
 date_lines (Some day) = Said key.Date (value.Day day) ∷ []
 
 abbrev pub kind_lines : draft_kind.Kind → List Line
 kind_lines taken_kind.Racing = Said key.Kind value.Racing ∷ []
-kind_lines (taken_kind.Area minimum) =
-    Said key.Kind value.Area ∷ [] ++ amount_or_open key.Minimum minimum
+kind_lines (taken_kind.Area None) = Said key.Kind value.Area ∷ Open key.Minimum 0 ∷ []
+kind_lines (taken_kind.Area (Some seconds)) =
+    Said key.Kind value.Area ∷ Said key.Minimum (value.Amount seconds) ∷ []
 
 -- the start; when it opens and closes is left to fill in
-abbrev pub start_lines : Start → List Line
+abbrev pub start_lines : Gate → List Line
 start_lines start =
     Head section.Start ∷ Said key.At (value.Place start.at) ∷
     Said key.Towards (value.Place start.towards) ∷ Said key.Half (value.Amount start.half) ∷
@@ -119,9 +115,9 @@ zone_lines zone =
 abbrev pub finish_lines : draft_finish.Finish → List Line
 finish_lines (taken_finish.Ring at radius) =
     Head section.Finish ∷ Said key.At (value.Place at) ∷ Said key.Ring (value.Amount radius) ∷ []
-finish_lines (taken_finish.Gate at towards half) =
-    Head section.Finish ∷ Said key.At (value.Place at) ∷ Said key.Half (value.Amount half) ∷
-    Said key.Towards (value.Place towards) ∷ []
+finish_lines (taken_finish.Gate gate) =
+    Head section.Finish ∷ Said key.At (value.Place gate.at) ∷ Said key.Half (value.Amount gate.half) ∷
+    Said key.Towards (value.Place gate.towards) ∷ []
 
 -- the number of an entrant, the n-th, or a key that is left to fill in
 abbrev pub number_line : ℕ → Option (List ℕ) → Line
@@ -143,7 +139,7 @@ unfoldable pub day_lines : Option Date → draft_kind.Kind → List Line
 day_lines date kind = date_lines date ++ kind_lines kind ++ Open key.Closes 0 ∷ []
 
 -- the start, the zones and the finish
-unfoldable pub course_lines : Start → List Zone → draft_finish.Finish → List Line
+unfoldable pub course_lines : Gate → List Zone → draft_finish.Finish → List Line
 course_lines start zones finish =
     start_lines start ++ flat_map zone_lines zones ++ finish_lines finish
 
@@ -168,11 +164,10 @@ is_at point place =
 abbrev pub is_length : ℕ → ℕ → Bool
 is_length centimetres metres = centimetres == metres * 100
 
--- the start line has the two places and the half width
-abbrev pub has_start : Start → zone_line.Line → Bool
-has_start start made =
-    is_at made.centre start.at && is_at made.towards start.towards
-    && is_length made.half start.half
+-- a line has the two places and the half width
+abbrev pub has_line : Gate → zone_line.Line → Bool
+has_line gate made =
+    is_at made.centre gate.at && is_at made.towards gate.towards && is_length made.half gate.half
 
 -- the sector has the radials, where it is known which way it lies
 abbrev pub has_radials : draft_axis.Axis → ℕ → zone_sector.Sector → Bool
@@ -206,19 +201,11 @@ abbrev pub has_zone : Zone → task_zone.Zone → Bool
 has_zone zone made =
     is_at made.centre zone.at && has_parts zone.at zone.part zone.second made.parts
 
--- as many things as were taken, each of which has what was taken
-abbrev pub each : {A B : Type 0} → (A → B → Bool) → List A → List B → Bool
-each has [] [] = true
-each has [] (made ∷ more) = false
-each has (taken ∷ rest) [] = false
-each has (taken ∷ rest) (made ∷ more) = has taken made && each has rest more
-
--- the finish has the place and the radius, or the place, the half width and the place ahead
+-- the finish has the place and the radius, or is the line
 abbrev pub has_finish : draft_finish.Finish → task_finish.Finish → Bool
 has_finish (taken_finish.Ring at radius) (finish.Ring point length) =
     is_at point at && is_length length radius
-has_finish (taken_finish.Gate at towards half) (finish.Gate made) =
-    is_at made.centre at && is_at made.towards towards && is_length made.half half
+has_finish (taken_finish.Gate gate) (finish.Gate made) = has_line gate made
 has_finish taken made = false
 
 -- the kind, and the minimum, where it is known
@@ -236,8 +223,8 @@ has_entrant entrant made =
     && is_text made.file entrant.file
 
 -- the task has the start that was taken, which needn't be announced
-unfoldable pub has_begin : Start → task_start.Start → Bool
-has_begin start made = has_start start made.line && is_none made.pilot
+unfoldable pub has_begin : Gate → task_start.Start → Bool
+has_begin start made = has_line start made.line && is_none made.pilot
 
 -- the task has the day, the kind and the start that were taken
 abbrev pub has_head : Draft → Task → Bool
@@ -248,8 +235,8 @@ has_head draft task =
 -- the task has the zones, the finish and the entrants that were taken
 abbrev pub has_rest : Draft → Task → Bool
 has_rest draft task =
-    each has_zone draft.zones task.zones && has_finish draft.finish task.finish
-    && each has_entrant draft.entrants task.entrants
+    pointwise has_zone draft.zones task.zones && has_finish draft.finish task.finish
+    && pointwise has_entrant draft.entrants task.entrants
 
 -- the task has all that was taken
 unfoldable pub has_draft : Draft → Task → Bool
@@ -265,6 +252,12 @@ pub record IsNoTask (text : List ℕ) : Type 0 where
 abbrev pub AreLinesOf : Draft → List Line → Type 0
 AreLinesOf draft lines = filter is_spoken lines ≡ lines_of draft
 
+-- filled in with some values, lines read as a task that has all that was taken
+pub record HasTask (draft : Draft) (lines : List Line) : Type 0 where
+  pub task : Task
+  pub reads : IsReadFrom (filled_text lines) task
+  pub has : has_draft draft task ≡ true
+
 -- The text of a task file for what was taken. A mark stands in it for each value that is left to
 -- fill in, and so it gives no task. Filled in with some values it reads as a task that has all that
 -- was taken.
@@ -273,9 +266,7 @@ pub record IsDraftText (draft : Draft) (text : List ℕ) : Type 0 where
   pub says : AreLinesOf draft lines
   pub spelled : text ≡ marked_text lines
   pub refused : IsNoTask text
-  pub task : Task
-  pub reads : IsReadFrom (filled_text lines) task
-  pub has : has_draft draft task ≡ true
+  pub tried : HasTask draft lines
 
 -- Why there is no task file for what was taken: filled in with some values its text gives no task,
 -- or one that hasn't all that was taken, or it gives a task with its marks.

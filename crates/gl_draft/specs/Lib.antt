@@ -13,5 +13,3 @@ pub mod Taken
 pub mod Turn
 pub mod Words
 pub mod Bearing
-pub mod Middle
-pub mod Opposite

@@ -127,14 +127,10 @@ abbrev pub shown : ℕ → ℕ
 shown c = if is_no_control c then c else 63
 
 -- the radials that a sector has if it lies about a direction, all in thousandths of a degree
-unfoldable pub pair_text : ℕ → ℕ → List ℕ
-pair_text from to = codes ": from = " ++ decimal from ++ codes ", to = " ++ decimal to
-
-unfoldable pub about_text : ℕ → List ℕ
-about_text middle = codes "# about " ++ fixed 3 middle
-
-abbrev pub radials_text : ℕ → ℕ → ℕ → List ℕ
-radials_text middle from to = about_text middle ++ pair_text from to ++ codes "\n"
+unfoldable pub radials_text : ℕ → ℕ → ℕ → List ℕ
+radials_text middle from to =
+    codes "# about " ++ fixed 3 middle ++ codes ": from = " ++ decimal from ++ codes ", to = "
+    ++ decimal to ++ codes "\n"
 
 -- what stands for the value of a key that is left to fill in: the mark, or some value
 abbrev pub filled_in : code_filling.Filling → code_key.Key → ℕ → List ℕ

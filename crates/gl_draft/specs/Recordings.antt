@@ -1,13 +1,12 @@
 -- The recordings of a folder, and the entrants and the day that they give.
-use Rattle.std.specs.Prelude.{◌≡◌, ℕ, nat_le, ◌&&◌, if◌then◌else◌, length, List, [], ◌∷◌, ◌++◌, filter, Bool, true, false, Option, None, Some, option_and_then, unwrap_or, IsPermutation, Result, Ok, Err, ℤ, ⊤}
+use Rattle.std.specs.Prelude.{◌≡◌, ℕ, nat_le, ◌&&◌, if◌then◌else◌, length, List, [], ◌∷◌, ◌++◌, filter, Bool, true, false, Option, None, Some, is_some, option_and_then, unwrap_or, IsPermutation, Result, Ok, Err, ℤ, ⊤}
 use Rattle.std.specs.Cmp.Lexicographic.{slice_cmp}
-use Rattle.std.specs.List.{list_all, list_any}
+use Rattle.std.specs.List.{find, list_all, list_any}
 use Rattle.std.specs.List.Sorted.{IsSorted}
 use Rattle.std.specs.Option.{option_or}
 use Rattle.std.specs.Ordering.{int_eq, nat_cmp}
 use Rattle.gl_desk.specs.Desk.{FilesByName, IsSeenIn, ListsNames}
 use Rattle.gl_desk.specs.Limits.{most_bytes}
-use Rattle.gl_igc.specs.FirstOf.{first_of}
 use Rattle.gl_igc.specs.Reading.{Reading, recording_of}
 use Rattle.gl_igc.specs.declared.error.IgcError.{IgcError}
 use Rattle.gl_text.specs.Forms.{is_file_name, is_text}
@@ -67,10 +66,13 @@ abbrev pub day_of_all : List Recording → ℤ → Option ℤ
 day_of_all recordings day =
     if list_all (λ (r : Recording). is_of_day day r.day) recordings then Some day else None
 
--- the day that all recordings have whose day is known
+-- the first day that is known, and the day that all recordings have whose day is known
+abbrev pub first_day : List Recording → Option ℤ
+first_day recordings =
+    option_and_then (λ (r : Recording). r.day) (find (λ (r : Recording). is_some r.day) recordings)
+
 abbrev pub common_day : List Recording → Option ℤ
-common_day recordings =
-    option_and_then (day_of_all recordings) (first_of (λ (r : Recording). r.day) recordings)
+common_day recordings = option_and_then (day_of_all recordings) (first_day recordings)
 
 -- an entrant has a number
 abbrev pub has_number : List ℕ → Option (List ℕ) → Bool

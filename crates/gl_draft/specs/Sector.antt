@@ -1,7 +1,6 @@
 -- Which way a sector lies.
 use Rattle.std.specs.Prelude.{◌≡◌, ◌≢◌, ℕ, ◌+◌, ◌%◌, nat_lt, Bool, true, Some, None, unsigned_abs}
-use Rattle.gl_draft.specs.Bearing.{HasNoBearing, IsBearing}
-use Rattle.gl_draft.specs.Middle.{outside_of, thousandths_of}
+use Rattle.gl_draft.specs.Bearing.{HasNoBearing, IsBearing, outside_of, thousandths_of}
 use Rattle.gl_cup.specs.declared.zone.Style as code_style
 use Rattle.gl_cup.specs.declared.zone.Style.TheVariants as style
 use Rattle.gl_sphere.specs.Sphere.{quarter_turn}

@@ -1,12 +1,13 @@
 -- What is taken from a task of a SeeYou file, and why nothing is.
-use Rattle.std.specs.Prelude.{◌≡◌, ℕ, ◌<◌, ◌≤◌, ◌+◌, ◌==◌, ◌&&◌, not, nat_le, nat_lt, if◌then◌else◌, List, [], ◌∷◌, length, slice_get, true, Option, None, Some, ℤ, pos, ◌+ℤ◌, ◌≤ℤ◌, ⊤, ◌||◌, is_some, Bool, false}
+use Rattle.std.specs.Prelude.{◌≡◌, ℕ, ◌<◌, ◌≤◌, ◌+◌, ◌==◌, ◌&&◌, not, nat_le, nat_lt, if◌then◌else◌}
+use Rattle.std.specs.Prelude.{List, [], ◌∷◌, length, slice_get, true, Option, None, Some, Result, Ok, Err, ℤ, pos, neg_ℤ, ◌+ℤ◌, ◌-ℤ◌, ◌≤ℤ◌, int_lt, ⊤, ◌||◌, is_some, Bool, false}
 use Rattle.std.specs.List.{list_any}
 use Rattle.jiff_core.specs.Calendar.{IsEpochDay}
 use Rattle.jiff_core.specs.Date.{epoch_day}
 use Rattle.jiff_core.specs.declared.civil.date.Date.{Date}
-use Rattle.gl_draft.specs.Opposite.{IsOpposite}
 use Rattle.gl_sphere.specs.Distance.{squared_chord, written_distance}
 use Rattle.gl_sphere.specs.Place.{written_vector}
+use Rattle.gl_sphere.specs.Sphere.{half_turn}
 use Rattle.gl_cup.specs.declared.point.CupPoint.{CupPoint}
 use Rattle.gl_cup.specs.declared.point.CupTask.{CupTask}
 use Rattle.gl_cup.specs.declared.zone.ObsZone.{ObsZone}
@@ -14,14 +15,16 @@ use Rattle.gl_cup.specs.declared.zone.Style as code_style
 use Rattle.gl_cup.specs.declared.zone.Style.TheVariants as style
 use Rattle.gl_sphere.specs.declared.place.Grid.{Grid}
 use Rattle.gl_draft.specs.declared.draft.Finish as code_finish
-use Rattle.gl_draft.specs.declared.draft.Finish.TheVariants.{Ring, Gate}
+use Rattle.gl_draft.specs.declared.draft.Finish.TheVariants as taken_finish
 use Rattle.gl_draft.specs.declared.draft.Kind as code_kind
 use Rattle.gl_draft.specs.declared.draft.Kind.TheVariants.{Area, Racing}
 use Rattle.gl_draft.specs.declared.draft.Part as code_part
 use Rattle.gl_draft.specs.declared.draft.Part.TheVariants.{Circle, Sector}
 use Rattle.gl_draft.specs.declared.draft.Sector as code_sector
-use Rattle.gl_draft.specs.declared.draft.Start.{Start}
+use Rattle.gl_draft.specs.declared.draft.Gate.{Gate}
 use Rattle.gl_draft.specs.declared.draft.Zone.{Zone}
+use Rattle.gl_draft.specs.declared.course.Course.{Course}
+use Rattle.gl_draft.specs.declared.course.Shape.{Shape}
 use Rattle.gl_draft.specs.declared.turn.Turn.{Turn}
 use Rattle.gl_draft.specs.Sector.{HasNoAxis, IsAxisOf}
 use Rattle.gl_draft.specs.Turn.{ArePair, IsTurnAt}
@@ -33,6 +36,16 @@ IsNear a b = (a ≤ℤ (b +ℤ pos 50)) × (b ≤ℤ (a +ℤ pos 50))
 pub record IsNearPlace (from to : Grid) : Type 0 where
   pub lat : IsNear from.lat to.lat
   pub lon : IsNear from.lon to.lon
+
+-- the longitude half a turn away
+abbrev pub opposite_longitude : ℤ → ℤ
+opposite_longitude lon =
+    if int_lt (pos 0) lon then lon -ℤ pos half_turn else lon +ℤ pos half_turn
+
+-- the place on the far side of the earth: as far south as the one is north, half a turn away
+pub record IsOpposite (place other : Grid) : Type 0 where
+  pub lat : other.lat ≡ neg_ℤ place.lat
+  pub lon : other.lon ≡ opposite_longitude place.lon
 
 -- two styles, as tests
 abbrev pub is_to_next : code_style.Style → Bool
@@ -48,7 +61,7 @@ abbrev pub is_start_line : ObsZone → Bool
 is_start_line zone = zone.is_line && is_to_next zone.style && (zone.second_radius == 0)
 
 -- a start line of the half width of its zone, towards the next point
-pub record IsStartOf (start next : CupPoint) (made : Start) : Type 0 where
+pub record IsStartOf (start next : CupPoint) (made : Gate) : Type 0 where
   pub line : is_start_line start.zone ≡ true
   pub at : IsNearPlace start.place made.at
   pub towards : IsNearPlace next.place made.towards
@@ -74,18 +87,18 @@ distance_of a b = written_distance (squared_chord (written_vector a) (written_ve
 
 -- a line across the way from the point before, which is a kilometre away or more, crossed towards
 -- the place on the far side of the earth from that point, which is the way on
-pub record IsGateOf (last finish : CupPoint) (at towards : Grid) (half : ℕ) : Type 0 where
+pub record IsGateOf (last finish : CupPoint) (made : Gate) : Type 0 where
   pub line : is_gate finish.zone ≡ true
-  pub at_is : IsNearPlace finish.place at
+  pub at_is : IsNearPlace finish.place made.at
   pub before : Grid
   pub before_is : IsNearPlace last.place before
-  pub apart : 100_000 ≤ distance_of before at
-  pub towards_is : IsOpposite before towards
-  pub half_is : half ≡ finish.zone.radius
+  pub apart : 100_000 ≤ distance_of before made.at
+  pub towards_is : IsOpposite before made.towards
+  pub half_is : made.half ≡ finish.zone.radius
 
 abbrev pub IsFinishOf : CupPoint → CupPoint → code_finish.Finish → Type 0
-IsFinishOf last finish (Ring at radius) = IsRingOf finish at radius
-IsFinishOf last finish (Gate at towards half) = IsGateOf last finish at towards half
+IsFinishOf last finish (taken_finish.Ring at radius) = IsRingOf finish at radius
+IsFinishOf last finish (taken_finish.Gate made) = IsGateOf last finish made
 
 -- the point before a finish line is less than a kilometre away
 pub record IsTooNear (last finish : CupPoint) : Type 0 where
@@ -164,7 +177,6 @@ ArePartsOf turn first second =
 
 -- the zone of a turn point
 pub record IsZoneFor (turn : Turn) (zone : Zone) : Type 0 where
-  pub name : zone.name ≡ turn.here.now.name
   pub at : IsNearPlace turn.here.now.place zone.at
   pub parts : ArePartsOf turn zone.part zone.second
 
@@ -186,14 +198,14 @@ AreZonesFrom points number (zone ∷ zones) =
     IsZoneAt points number zone × AreZonesFrom points (number + 1) zones
 
 -- the start of a task
-pub record IsStartIn (points : List CupPoint) (start : Start) : Type 0 where
+pub record IsStartIn (points : List CupPoint) (start : Gate) : Type 0 where
   pub first : CupPoint
   pub next : CupPoint
   pub pair : ArePair points 0 first next
   pub start_is : IsStartOf first next start
 
 -- the start, the zones and the finish of a task's points
-pub record IsCourseOf (points : List CupPoint) (start : Start) (zones : List Zone)
+pub record IsCourseOf (points : List CupPoint) (start : Gate) (zones : List Zone)
     (finish : code_finish.Finish) : Type 0 where
   pub start_is : IsStartIn points start
   pub zones_are : AreZonesFrom points 1 zones
@@ -203,15 +215,7 @@ pub record IsCourseOf (points : List CupPoint) (start : Start) (zones : List Zon
   pub pair : ArePair points (length zones) last_turn last
   pub finish_is : IsFinishOf last_turn last finish
 
--- the start is of another shape
-pub record IsStartless (points : List CupPoint) (line number : ℕ) : Type 0 where
-  pub first : CupPoint
-  pub first_is : slice_get points 0 ≡ Some first
-  pub shape : is_start_line first.zone ≡ false
-  pub line_is : line ≡ first.line
-  pub number_is : number ≡ 0
-
--- a turn point is, the first of them that is
+-- the first turn point whose zone a task file can't say, and the line of the zone
 pub record IsZoneless (points : List CupPoint) (line number : ℕ) : Type 0 where
   pub zones : List Zone
   pub zones_are : AreZonesFrom points 1 zones
@@ -221,25 +225,23 @@ pub record IsZoneless (points : List CupPoint) (line number : ℕ) : Type 0 wher
   pub shape : HasNoZone turn
   pub line_is : line ≡ turn.here.now.line
 
--- the finish is
-pub record IsFinishless (points : List CupPoint) (line number : ℕ) : Type 0 where
-  pub zones : List Zone
-  pub zones_are : AreZonesFrom points 1 zones
-  pub count : length points ≡ length zones + 2
-  pub number_is : number ≡ length zones + 1
-  pub last_turn : CupPoint
-  pub last : CupPoint
-  pub pair : ArePair points (length zones) last_turn last
-  pub shape : HasNoFinish last_turn last
-  pub line_is : line ≡ last.line
-
 -- the first point of a task whose zone a task file can't say, and the line of the zone
 pub data IsShapeless (points : List CupPoint) (line number : ℕ) : Type 0 where
-  startless : IsStartless points line number → IsShapeless points line number
-  zoneless : (start : Start) → IsStartIn points start → IsZoneless points line number
+  startless : (first : CupPoint) → slice_get points 0 ≡ Some first
+      → is_start_line first.zone ≡ false → line ≡ first.line → number ≡ 0
       → IsShapeless points line number
-  finishless : (start : Start) → IsStartIn points start → IsFinishless points line number
+  zoneless : (start : Gate) → IsStartIn points start → IsZoneless points line number
       → IsShapeless points line number
+  finishless : (start : Gate) → IsStartIn points start → (zones : List Zone)
+      → AreZonesFrom points 1 zones → length points ≡ length zones + 2
+      → (last_turn last : CupPoint) → ArePair points (length zones) last_turn last
+      → HasNoFinish last_turn last → line ≡ last.line → number ≡ length zones + 1
+      → IsShapeless points line number
+
+-- the course of a task's points, or the first point whose zone a task file can't say
+abbrev pub IsCourseOr : List CupPoint → Result Course Shape → Type 0
+IsCourseOr points (Ok course) = IsCourseOf points course.start course.zones.items course.finish
+IsCourseOr points (Err shape) = IsShapeless points shape.line shape.number
 
 -- a task of areas has a time, or a zone that is said to be an area
 abbrev pub is_area_task : CupTask → Bool

@@ -4,6 +4,8 @@ use Rattle.std.specs.List.{starts_with}
 use Rattle.std.specs.Str.{byte}
 use Rattle.gl_text.specs.Forms.{is_file_name, is_text}
 use Rattle.gl_text.specs.Digits.{number_of}
+use Rattle.gl_draft.specs.declared.words.Asks as code
+use Rattle.gl_draft.specs.declared.words.Asks.TheVariants as asks
 
 -- the number of a task: one to six digits, the first of which isn't 0
 unfoldable pub number_in : List ℕ → Option ℕ
@@ -15,35 +17,21 @@ number_in word =
 abbrev pub is_file : List ℕ → Bool
 is_file word = is_file_name word && not (starts_with nat_eq word (codes "--"))
 
--- a file, and the number of its task, if there is one
+-- a file, and what is asked of it: a task file for its task, or the entrants that came late
 abbrev pub Asked : Type 0
-Asked = List ℕ × Option ℕ
+Asked = List ℕ × code.Asks
 
-abbrev pub file_alone : List ℕ → Option Asked
-file_alone file = if is_file file then Some (file, None) else None
+abbrev pub asked_of : code.Asks → List ℕ → Option Asked
+asked_of what file = if is_file file then Some (file, what) else None
 
 abbrev pub pair_of : List ℕ → List ℕ → Option Asked
 pair_of file number =
-    if is_file file then option_map (λ n. (file, Some n)) (number_in number) else None
+    if is_file file then option_map (λ n. (file, asks.Task (Some n))) (number_in number) else None
 
--- the word before a task file whose late recordings are asked for
-abbrev pub late_word : List ℕ
-late_word = codes "--late"
-
-abbrev pub late_file : List ℕ → List ℕ → Option (List ℕ)
-late_file word file =
-    if is_text word late_word && is_file file then Some file else None
-
--- the task file whose late recordings the words ask for, where they are of the form
-abbrev pub late_of : List (List ℕ) → Option (List ℕ)
-late_of [] = None
-late_of (word ∷ []) = None
-late_of (word ∷ file ∷ []) = late_file word file
-late_of (word ∷ file ∷ more ∷ rest) = None
-
--- the SeeYou file and the task that the words ask for, where they are of the form
+-- the words are a SeeYou file, perhaps with the number of a task, or `--late` and a task file
 abbrev pub words_of : List (List ℕ) → Option Asked
 words_of [] = None
-words_of (file ∷ []) = file_alone file
-words_of (file ∷ number ∷ []) = pair_of file number
-words_of (file ∷ number ∷ more ∷ rest) = None
+words_of (file ∷ []) = asked_of (asks.Task None) file
+words_of (word ∷ other ∷ []) =
+    if is_text word (codes "--late") then asked_of asks.Late other else pair_of word other
+words_of (word ∷ other ∷ more ∷ rest) = None

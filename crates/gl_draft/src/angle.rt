@@ -1,12 +1,13 @@
-ghost use Rattle.std.specs.Prelude.{◌≡◌, ◌+◌, ◌<◌, ◌≤◌, IfNone, IfSome, true, false};
+ghost use Rattle.std.specs.Prelude.{◌≡◌, ◌+◌, ◌<◌, ◌≤◌, IfNone, IfSome, true, false, pos};
 ghost use Rattle.gl_sphere.specs.Range.{IsWithin};
 ghost use Rattle.gl_zone.specs.Zones.{is_clockwise};
-ghost use Rattle.gl_draft.specs.Bearing.{HasNoBearing, IsAtAngle, IsBearing, is_too_near, radial_at, signed_angle, whole_turn};
-ghost use Rattle.gl_draft.specs.Code.Bearing.{IsNowhere};
+ghost use Rattle.gl_draft.specs.Bearing.{HasNoBearing, IsAtAngle, IsBearing, direction_to, is_too_near, radial_at, signed_angle, whole_turn};
 
-use crate::direction::{WHOLE_TURN, direction_to};
-use gl_sphere::{Grid, HALF_TURN, wcos, wsin};
-use gl_zone::Direction;
+use gl_sphere::{Grid, HALF_TURN, east, north, vector, wcos, wsin};
+use gl_zone::{Direction, scalar_product};
+
+/// A whole turn, in 1/100,000 minute.
+pub const WHOLE_TURN: u32 = 2_160_000_000;
 
 /// A quarter of a turn, in 1/100,000 minute.
 const QUARTER_TURN: u32 = 540_000_000;
@@ -78,7 +79,7 @@ fn quarter_of(direction: Direction) -> Option<u32>
         is_clockwise (radial_at low) (direction.north, direction.east) ≡ true) }
     ensures next { IfSome result (λ low.
         is_clockwise (radial_at (low + QUARTER_TURN)) (direction.north, direction.east) ≡ false) }
-    ensures none { IfNone result (IsNowhere (direction.north, direction.east)) }
+    ensures none { IfNone result ((direction.north ≡ pos 0) × (direction.east ≡ pos 0)) }
 {
     let Direction { north, east, .. } = direction;
     if north > 0 && east >= 0 {
@@ -115,6 +116,17 @@ fn angle_of(direction: Direction) -> Option<u32>
     }
     let low = quarter_of(direction)?;
     Some(angle_between(direction, low, low + QUARTER_TURN))
+}
+
+/// The direction from a place to another.
+fn direction_to(from: Grid, to: Grid) -> Direction
+    ensures { (result.north, result.east) ≡ direction_to from to }
+{
+    let point = vector(to);
+    Direction {
+        north: scalar_product(north(from), point),
+        east: scalar_product(east(from), point),
+    }
 }
 
 /// The direction from a place to another, in 1/100,000 minute clockwise from north; none where that

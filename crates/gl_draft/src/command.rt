@@ -1,31 +1,32 @@
-ghost use Rattle.std.specs.Prelude.{◌≡◌, ◌<◌, ◌≤◌, IfErr, IfOk, None, Some, length};
+ghost use Rattle.std.specs.Prelude.{◌≡◌, ◌<◌, ◌≤◌, ℕ, IfErr, IfOk, List, Some, length};
 ghost use Rattle.gl_cup.specs.Reading.{IsTaskOf};
 ghost use Rattle.gl_desk.specs.Answers.{OnlyReads, stop_of};
 ghost use Rattle.gl_desk.specs.Desk.{ListsNames};
+ghost use Rattle.gl_task_file.specs.Reading.{IsReadFrom};
 ghost use Rattle.gl_draft.specs.Causes.{IsNoFault, stop_of_cause};
-ghost use Rattle.gl_draft.specs.Code.Run.{Answers, IsAnswerFor, IsFileIn, IsNoCup, asked_by, stop_in};
-ghost use Rattle.gl_draft.specs.Made.{AreSources, IsDraftOf, IsMade, IsNoFileIn, IsNoTaskIn, IsRefused, IsTaskIn, IsTextOf, IsUnmade};
-ghost use Rattle.gl_draft.specs.Run.{IsRun, draft, late};
+ghost use Rattle.gl_draft.specs.Code.{Answers, asked_by, stop_in};
+ghost use Rattle.gl_draft.specs.Made.{AreSources, IsDraftOf, IsFileIn, IsMade, IsNoCup, IsNoDayText, IsNoFileIn, IsNoSourceOf, IsNoTextFor, IsRefused, IsSourceOf, IsTextFor, IsTextOf, IsUnmade};
+ghost use Rattle.gl_draft.specs.Run.{IsRun};
 ghost use Rattle.gl_draft.specs.Taken.{IsDay};
 ghost use Rattle.gl_draft.specs.Words.{words_of};
 
 use crate::answer::Status;
 use crate::course::{Course, course_of, kind_of};
 use crate::draft::Draft;
-use crate::entrant::{common_day, entrants_of};
-use crate::folder::read_recordings;
-use crate::late::make_late;
-use crate::recording::{Recording, is_left_out};
-use crate::refusal::Cause;
-use crate::refusal_line::refusal_line;
+use crate::entrant::{common_day, entrants_behind};
+use crate::late::late_text;
+use crate::recording::{Recording, is_left_out, read_recordings};
+use crate::refusal::{Cause, refusal_line};
 use crate::remarks::remarks;
 use crate::text::draft_text;
-use crate::words::{USAGE, Words, read_late, read_words};
+use crate::words::{Asks, USAGE, Words, read_words};
 use gl_cup::{CupTask, read_cup};
 use gl_desk::{Desk, DeskError, MOST_BYTES, Name, ReadError, read_all};
+use gl_task::Task;
+use gl_task_file::{TaskError, read_task};
 use gl_text::Items;
 use jiff_core::civil::Date;
-use std::alloc::{AllocError, Global};
+use std::alloc::Global;
 
 /// The bytes of a file, which has to be one of the folder's.
 pub fn read_file<D: Desk>(
@@ -51,58 +52,83 @@ pub fn read_file<D: Desk>(
     }
 }
 
-/// The task that the words ask for, of a file's bytes.
-fn task_of(alloc: Global, bytes: &[u8], words: Words<'_>) -> Result<CupTask, Cause>
-    ensures task { IfOk result (IsTaskOf bytes.now words.entry.task) }
-    ensures refused { IfErr result (IsNoCup bytes.now words.entry.task) }
+/// What a file says: a task of a SeeYou file, or the task of a task file.
+#[derive(Debug, Drop)]
+pub enum Source {
+    Cup(CupTask),
+    Day(Task),
+}
+
+/// A task of a SeeYou file's text, by its number or the only one.
+fn cup_of(alloc: Global, bytes: &[u8], number: Option<u32>) -> Result<CupTask, Cause>
+    ensures task { IfOk result (IsTaskOf bytes.now number) }
+    ensures count { IfOk result (λ task. 3 ≤ length task.points) }
+    ensures refused { IfErr result (IsNoCup bytes.now number) }
     ensures no_fault { IfErr result IsNoFault }
 {
-    let task = read_cup(alloc, bytes, words.task)?;
+    let task = read_cup(alloc, bytes, number)?;
     Ok(task)
 }
 
-/// The task that the words ask for.
-fn read_task_file<D: Desk>(
-    alloc: Global,
-    desk: &mut D,
-    names: &[Name],
-    words: Words<'_>,
-) -> Result<CupTask, Cause>
-    requires { ListsNames (D.told desk.old).folder names.now }
-    ensures task { IfOk result (IsTaskIn (D.told desk.old).folder (asked_by words.entry)) }
-    ensures refused { IfErr result (IsRefused (D.told desk.old).folder (asked_by words.entry)) }
-    ensures reads { OnlyReads (stop_in result) (D.told desk.old) (D.told desk.new) }
+/// The task of a task file's text.
+fn day_in(alloc: Global, bytes: &[u8]) -> Result<Task, Cause>
+    ensures task { IfOk result (IsReadFrom bytes.now) }
+    ensures refused { IfErr result (IsNoDayText bytes.now) }
+    ensures no_fault { IfErr result IsNoFault }
 {
-    let bytes = read_file(alloc, desk, names, words.file)?;
-    task_of(alloc, &bytes, words)
+    match read_task(alloc, bytes) {
+        Ok(task) => Ok(task),
+        Err(TaskError::Toml) => Err(Cause::NoToml),
+        Err(wrong) => Err(Cause::from(wrong)),
+    }
 }
 
-/// The task that the words ask for, the recordings, and whether some were left out, in a folder
-/// that lists these names.
+/// What the bytes of a file say, as is asked.
+fn source_of(alloc: Global, bytes: &[u8], asks: Asks) -> Result<Source, Cause>
+    ensures source { IfOk result (IsSourceOf bytes.now asks) }
+    ensures refused { IfErr result (IsNoSourceOf bytes.now asks) }
+    ensures no_fault { IfErr result IsNoFault }
+{
+    match asks {
+        Asks::Task(number) => {
+            let task = cup_of(alloc, bytes, number)?;
+            Ok(Source::Cup(task))
+        }
+        Asks::Late => {
+            let task = day_in(alloc, bytes)?;
+            Ok(Source::Day(task))
+        }
+    }
+}
+
+/// What the file says that the words name, the recordings, and whether some were left out, in a
+/// folder that lists these names.
 fn see_listed<D: Desk>(
     alloc: Global,
     desk: &mut D,
     names: Vec<Name>,
     words: Words<'_>,
-) -> Result<(CupTask, Vec<Recording>, bool), Cause>
+) -> Result<(Source, Vec<Recording>, bool), Cause>
     requires { ListsNames (D.told desk.old).folder names.items }
     ensures sources { IfOk result (λ seen.
         AreSources (D.told desk.old).folder (asked_by words.entry) seen.0 seen.1.items) }
     ensures refused { IfErr result (IsRefused (D.told desk.old).folder (asked_by words.entry)) }
     ensures reads { OnlyReads (stop_in result) (D.told desk.old) (D.told desk.new) }
 {
-    let task = read_task_file(alloc, desk, &names, words)?;
+    let bytes = read_file(alloc, desk, &names, words.file)?;
+    let source = source_of(alloc, &bytes, words.asks)?;
     let left_out = names.iter().any(|name| is_left_out(name));
     let recordings = read_recordings(alloc, desk, names)?;
-    Ok((task, recordings, left_out))
+    Ok((source, recordings, left_out))
 }
 
-/// The task that the words ask for, the recordings of the folder, and whether some were left out.
+/// What the file says that the words name, the recordings of the folder, and whether some were left
+/// out.
 fn see_folder<D: Desk>(
     alloc: Global,
     desk: &mut D,
     words: Words<'_>,
-) -> Result<(CupTask, Vec<Recording>, bool), Cause>
+) -> Result<(Source, Vec<Recording>, bool), Cause>
     ensures sources { IfOk result (λ seen.
         AreSources (D.told desk.old).folder (asked_by words.entry) seen.0 seen.1.items) }
     ensures refused { IfErr result (IsRefused (D.told desk.old).folder (asked_by words.entry)) }
@@ -136,12 +162,14 @@ fn draft_of(alloc: Global, task: &CupTask, recordings: &[Recording]) -> Result<D
         start,
         zones,
         finish,
-    } = course_of(alloc, task.points.as_slice())?;
-    let entrants = entrants_of(alloc, recordings)?;
+    } = match course_of(alloc, task.points.as_slice())? {
+        Ok(course) => course,
+        Err(shape) => return Err(Cause::Shape(shape.line, shape.number)),
+    };
+    let entrants = entrants_behind(alloc, Vec::new(alloc), recordings)?;
     Ok(Draft {
         date: day_of(common_day(recordings)),
         kind: kind_of(task),
-        opens: task.opens,
         start,
         zones: Items::from_vec(zones),
         finish,
@@ -152,7 +180,7 @@ fn draft_of(alloc: Global, task: &CupTask, recordings: &[Recording]) -> Result<D
 /// The text of the task file for a task and recordings, of which there are some.
 fn text_of(
     alloc: Global,
-    words: Words<'_>,
+    file: &Name,
     task: &CupTask,
     recordings: &[Recording],
     left_out: bool,
@@ -162,15 +190,15 @@ fn text_of(
     ensures ok { IfOk result (λ text. IsTextOf task.now recordings.now text.items) }
     ensures refused { IfErr result (IsUnmade task.now recordings.now) }
 {
-    let remarks = remarks(alloc, words, task, recordings, left_out)?;
+    let remarks = remarks(alloc, file, task, recordings, left_out)?;
     let draft = draft_of(alloc, task, recordings)?;
-    draft_text(alloc, remarks, &draft, recordings)
+    draft_text(alloc, remarks, &draft, task, recordings)
 }
 
 /// The text of the task file for a task and recordings.
-fn make_text(
+fn task_text(
     alloc: Global,
-    words: Words<'_>,
+    file: &Name,
     task: &CupTask,
     recordings: &[Recording],
     left_out: bool,
@@ -182,18 +210,39 @@ fn make_text(
     if recordings.is_empty() {
         return Err(Cause::NoRecording);
     }
-    text_of(alloc, words, task, recordings, left_out)
+    text_of(alloc, file, task, recordings, left_out)
 }
 
-/// The text of the task file that the words ask for.
+/// The text that is made of what a file says and recordings.
+fn make_text(
+    alloc: Global,
+    words: Words<'_>,
+    source: &Source,
+    recordings: Vec<Recording>,
+    left_out: bool,
+) -> Result<Vec<u8>, Cause>
+    requires { (bytes : List ℕ) × IsSourceOf bytes words.asks source.now }
+    ensures ok { IfOk result (λ text. IsTextFor source.now recordings.items text.items) }
+    ensures refused { IfErr result (IsNoTextFor source.now recordings.items) }
+{
+    match source {
+        Source::Cup(task) => task_text(alloc, words.file, task, &recordings, left_out),
+        Source::Day(task) => {
+            let text = late_text(alloc, words.file, task, recordings)?;
+            Ok(text)
+        }
+    }
+}
+
+/// The text that the words ask for.
 fn make_file<D: Desk>(alloc: Global, desk: &mut D, words: Words<'_>) -> Result<Vec<u8>, Cause>
     ensures made { IfOk result (λ text.
         IsMade (D.told desk.old).folder (asked_by words.entry) text.items) }
     ensures refused { IfErr result (IsRefused (D.told desk.old).folder (asked_by words.entry)) }
     ensures reads { OnlyReads (stop_in result) (D.told desk.old) (D.told desk.new) }
 {
-    let seen = see_folder(alloc, desk, words)?;
-    make_text(alloc, words, &seen.0, &seen.1, seen.2)
+    let (source, recordings, left_out) = see_folder(alloc, desk, words)?;
+    make_text(alloc, words, &source, recordings, left_out)
 }
 
 /// What a run ends with: the status, and the text that it says.
@@ -213,10 +262,9 @@ fn stop_of(cause: &Cause) -> Option<DeskError>
     }
 }
 
-/// The answer to words that ask for a task file.
+/// The answer to words that ask for something.
 fn answer_words<D: Desk>(alloc: Global, desk: &mut D, words: Words<'_>) -> Result<Answer, DeskError>
-    ensures is { IfOk result (IsAnswerFor (D.told desk.old).folder
-        (Some (draft (asked_by words.entry)))) }
+    ensures is { IfOk result (Answers (D.told desk.old).folder (Some (asked_by words.entry))) }
     ensures reads { OnlyReads (stop_of result) (D.told desk.old) (D.told desk.new) }
 {
     match make_file(alloc, desk, words) {
@@ -234,49 +282,17 @@ fn answer_words<D: Desk>(alloc: Global, desk: &mut D, words: Words<'_>) -> Resul
     }
 }
 
-/// The answer to words that ask for the late recordings of a task file.
-fn answer_late<D: Desk>(alloc: Global, desk: &mut D, file: &Name) -> Result<Answer, DeskError>
-    ensures is { IfOk result (IsAnswerFor (D.told desk.old).folder (Some (late file.now))) }
-    ensures reads { OnlyReads (stop_of result) (D.told desk.old) (D.told desk.new) }
-{
-    match make_late(alloc, desk, file) {
-        Ok(text) => Ok(Answer {
-            status: Status::Done,
-            text,
-        }),
-        Err(cause) => match stop_of(&cause) {
-            Some(stop) => Err(stop),
-            None => Ok(Answer {
-                status: Status::Refused,
-                text: refusal_line(alloc, file, &cause)?,
-            }),
-        },
-    }
-}
-
-/// The answer to words that ask for no task file.
-fn answer_others<D: Desk>(alloc: Global, words: &[Name], desk: &mut D) -> Result<Answer, DeskError>
-    requires { words_of words.now ≡ None }
-    ensures is { IfOk result (Answers (D.told desk.old).folder words.now) }
-    ensures reads { OnlyReads (stop_of result) (D.told desk.old) (D.told desk.new) }
-{
-    match read_late(words) {
-        Some(file) => answer_late(alloc, desk, file),
-        None => Ok(Answer {
-            status: Status::Words,
-            text: Vec::from_slice(alloc, USAGE.as_bytes())?,
-        }),
-    }
-}
-
 /// The answer to the words.
 fn answer_to<D: Desk>(alloc: Global, words: &[Name], desk: &mut D) -> Result<Answer, DeskError>
-    ensures is { IfOk result (Answers (D.told desk.old).folder words.now) }
+    ensures is { IfOk result (Answers (D.told desk.old).folder (words_of words.now)) }
     ensures reads { OnlyReads (stop_of result) (D.told desk.old) (D.told desk.new) }
 {
     match read_words(words) {
         Some(words) => answer_words(alloc, desk, words),
-        None => answer_others(alloc, words, desk),
+        None => Ok(Answer {
+            status: Status::Words,
+            text: Vec::from_slice(alloc, USAGE.as_bytes())?,
+        }),
     }
 }
 

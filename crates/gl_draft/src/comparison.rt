@@ -1,10 +1,11 @@
 ghost use Rattle.std.specs.Prelude.{◌≡◌, ◌==◌, is_none};
+ghost use Rattle.std.specs.Cmp.Lexicographic.{pointwise};
 ghost use Rattle.std.specs.Ordering.{int_eq};
 ghost use Rattle.gl_text.specs.Forms.{is_text};
 ghost use Rattle.jiff_core.specs.Date.{epoch_day};
-ghost use Rattle.gl_draft.specs.Draft.{each, has_begin, has_draft, has_entrant, has_finish, has_head, has_kind, has_part, has_parts, has_radials, has_rest, has_sector, has_start, has_zone, is_at, is_known, is_length};
+ghost use Rattle.gl_draft.specs.Draft.{has_begin, has_draft, has_entrant, has_finish, has_head, has_kind, has_line, has_part, has_parts, has_radials, has_rest, has_sector, has_zone, is_at, is_known, is_length};
 
-use crate::draft::{Axis, Draft, Finish, Kind, Part, Sector, Start, Zone};
+use crate::draft::{Axis, Draft, Finish, Gate, Kind, Part, Sector, Zone};
 use crate::entrant::Entrant;
 use crate::sector::radials;
 use gl_desk::Name;
@@ -31,20 +32,13 @@ fn is_at(point: Vec3, place: Grid) -> bool
     point.x == at.x && point.y == at.y && point.z == at.z
 }
 
-/// Whether a line is the start that was taken.
-fn has_start(start: Start, line: Line) -> bool
-    ensures { result ≡ has_start start line }
+/// Whether a line is the one that was taken.
+fn has_line(gate: Gate, line: Line) -> bool
+    ensures { result ≡ has_line gate line }
 {
-    is_at(line.centre, start.at)
-        && is_at(line.towards, start.towards)
-        && is_length(line.half, start.half)
-}
-
-/// Whether a start needn't be announced.
-fn is_unannounced(pilot: Option<PilotStart>) -> bool
-    ensures { result ≡ is_none pilot }
-{
-    pilot.is_none()
+    is_at(line.centre, gate.at)
+        && is_at(line.towards, gate.towards)
+        && is_length(line.half, gate.half)
 }
 
 /// Whether a sector has the radials, where it is known which way it lies.
@@ -74,17 +68,12 @@ fn has_sector(centre: Grid, sector: Sector, made: TaskSector) -> bool
 fn has_part(centre: Grid, part: Part, made: TaskPart) -> bool
     ensures { result ≡ has_part centre part made }
 {
-    match part {
-        Part::Circle(radius) => match made {
-            TaskPart::Cylinder(circle) => {
-                is_at(circle.centre, centre) && is_length(circle.radius, radius)
-            }
-            TaskPart::Sector(_) => false,
-        },
-        Part::Sector(sector) => match made {
-            TaskPart::Cylinder(_) => false,
-            TaskPart::Sector(made) => has_sector(centre, sector, made),
-        },
+    match (part, made) {
+        (Part::Circle(radius), TaskPart::Cylinder(circle)) => {
+            is_at(circle.centre, centre) && is_length(circle.radius, radius)
+        }
+        (Part::Sector(sector), TaskPart::Sector(made)) => has_sector(centre, sector, made),
+        _ => false,
     }
 }
 
@@ -92,15 +81,12 @@ fn has_part(centre: Grid, part: Part, made: TaskPart) -> bool
 fn has_parts(centre: Grid, first: Part, second: Option<Part>, made: &[TaskPart]) -> bool
     ensures { result ≡ has_parts centre first second made.now }
 {
-    match second {
-        None => match made {
-            [part] => has_part(centre, first, *part),
-            _ => false,
-        },
-        Some(second) => match made {
-            [part, other] => has_part(centre, first, *part) && has_part(centre, second, *other),
-            _ => false,
-        },
+    match (second, made) {
+        (None, [part]) => has_part(centre, first, *part),
+        (Some(second), [part, other]) => {
+            has_part(centre, first, *part) && has_part(centre, second, *other)
+        }
+        _ => false,
     }
 }
 
@@ -113,7 +99,7 @@ fn has_zone(zone: &Zone, made: &TaskZone) -> bool
 
 /// Whether zones are those that were taken.
 fn has_zones(zones: &[Zone], made: &[TaskZone]) -> bool
-    ensures { result ≡ each has_zone zones.now made.now }
+    ensures { result ≡ pointwise has_zone zones.now made.now }
 {
     let mut left = zones;
     let mut right = made;
@@ -134,20 +120,16 @@ fn has_zones(zones: &[Zone], made: &[TaskZone]) -> bool
 fn has_finish(finish: Finish, made: TaskFinish) -> bool
     ensures { result ≡ has_finish finish made }
 {
-    match finish {
-        Finish::Ring { at, radius } => match made {
+    match (finish, made) {
+        (
+            Finish::Ring { at, radius },
             TaskFinish::Ring {
                 at: point,
                 radius: length,
-            } => is_at(point, at) && is_length(length, radius),
-            TaskFinish::Gate(_) => false,
-        },
-        Finish::Gate { at, towards, half } => match made {
-            TaskFinish::Ring { .. } => false,
-            TaskFinish::Gate(line) => {
-                is_at(line.centre, at) && is_at(line.towards, towards) && is_length(line.half, half)
-            }
-        },
+            },
+        ) => { is_at(point, at) && is_length(length, radius) }
+        (Finish::Gate(gate), TaskFinish::Gate(line)) => has_line(gate, line),
+        _ => false,
     }
 }
 
@@ -156,15 +138,12 @@ fn has_finish(finish: Finish, made: TaskFinish) -> bool
 fn has_kind(kind: Kind, made: TaskKind) -> bool
     ensures { result ≡ has_kind kind made }
 {
-    match kind {
-        Kind::Racing => match made {
-            TaskKind::Racing => true,
-            TaskKind::Area { .. } => false,
-        },
-        Kind::Area { minimum } => match made {
-            TaskKind::Racing => false,
-            TaskKind::Area { minimum: seconds } => has_minimum(minimum, seconds),
-        },
+    match (kind, made) {
+        (Kind::Racing, TaskKind::Racing) => true,
+        (Kind::Area { minimum }, TaskKind::Area { minimum: seconds }) => {
+            has_minimum(minimum, seconds)
+        }
+        _ => false,
     }
 }
 
@@ -191,7 +170,7 @@ fn has_entrant(entrant: &Entrant, made: &gl_task::Entrant) -> bool
 
 /// Whether entrants are those that were taken.
 fn has_entrants(entrants: &[Entrant], made: &[gl_task::Entrant]) -> bool
-    ensures { result ≡ each has_entrant entrants.now made.now }
+    ensures { result ≡ pointwise has_entrant entrants.now made.now }
 {
     let mut left = entrants;
     let mut right = made;
@@ -228,12 +207,19 @@ fn has_minimum(minimum: Option<u32>, made: u32) -> bool
     }
 }
 
+/// Whether a start needn't be announced.
+fn is_unannounced(pilot: Option<PilotStart>) -> bool
+    ensures { result ≡ is_none pilot }
+{
+    pilot.is_none()
+}
+
 /// Whether a task has the start that was taken, which needn't be announced.
 #[tactic(auto, unfolding(crate::specs::Draft::has_begin))]
-fn has_begin(start: Start, made: TaskStart) -> bool
+fn has_begin(start: Gate, made: TaskStart) -> bool
     ensures { result ≡ has_begin start made }
 {
-    has_start(start, made.line) && is_unannounced(made.pilot)
+    has_line(start, made.line) && is_unannounced(made.pilot)
 }
 
 /// Whether a task has the day, the kind and the start that were taken.

@@ -1,98 +1,81 @@
-ghost use Rattle.std.specs.Prelude.{◌≡◌, ◌+◌, ◌<◌, ◌≤◌, IfErr, IfOk, length};
+ghost use Rattle.std.specs.Prelude.{◌≡◌, ◌+◌, ◌≤◌, IfErr, IfOk, length};
 ghost use Rattle.std.specs.List.{list_any};
 ghost use Rattle.gl_cup.specs.declared.point.CupPoint.{CupPoint};
-ghost use Rattle.gl_draft.specs.Causes.{IsNoFault};
-ghost use Rattle.gl_draft.specs.Code.Course.{IsNoFinishAt, IsNoStartAt, IsNoTurnAt, IsNoZoneIn, IsNoCourse};
-ghost use Rattle.gl_draft.specs.Taken.{AreZonesFrom, IsCourseOf, IsFinishOf, IsStartIn, IsZoneAt, is_area_task, kind_by};
+ghost use Rattle.gl_draft.specs.Taken.{AreZonesFrom, IsCourseOr, IsZoneless, is_area_task, kind_by};
 
-use crate::draft::{Finish, Kind, Start, Zone};
+use crate::draft::{Finish, Gate, Kind, Zone};
 use crate::place::{distance, rounded};
-use crate::refusal::Cause;
 use crate::shape::{finish_of, start_of, zone_of};
-use crate::turn::{Leg, leg_at, turn_at};
+use crate::turn::{leg_at, turn_at};
 use gl_cup::{CupPoint, CupTask};
-use std::alloc::Global;
+use std::alloc::{AllocError, Global};
 
 /// The start, the zones and the finish of a task.
 #[derive(Debug, Drop)]
 pub struct Course {
-    pub start: Start,
+    pub start: Gate,
     pub zones: Vec<Zone>,
     pub finish: Finish,
 }
 
-/// The zone of the turn point with a number, or that its zone is of another shape.
-fn turn_zone(alloc: Global, points: &[CupPoint], number: usize) -> Result<Zone, Cause>
-    requires first { 1 ≤ number }
-    requires last { number + 1 < length points.now }
-    ensures ok { IfOk result (IsZoneAt points.now number) }
-    ensures refused { IfErr result (IsNoTurnAt points.now number) }
-{
-    let turn = turn_at(points, number);
-    match zone_of(alloc, turn)? {
-        Some(zone) => Ok(zone),
-        None => Err(Cause::Shape(turn.here.line, number as u64)),
-    }
+/// A zone that a task file can't say: its line, and the number of its point.
+#[derive(Clone, Copy, Debug, PartialEq, Eq)]
+pub struct Shape {
+    pub line: u64,
+    pub number: u64,
 }
 
-/// The zones of the turn points of a task, which are all but the first and the last.
-fn zones_of(alloc: Global, points: &[CupPoint]) -> Result<Vec<Zone>, Cause>
+/// The zones of the turn points of a task, which are all but the first and the last, or the first
+/// that the task file can't say.
+fn zones_of(alloc: Global, points: &[CupPoint]) -> Result<Result<Vec<Zone>, Shape>, AllocError>
     requires { 2 ≤ length points.now }
-    ensures zones { IfOk result (λ zones. AreZonesFrom points.now 1 zones.items) }
-    ensures count { IfOk result (λ zones. length points.now ≡ length zones.items + 2) }
-    ensures refused { IfErr result (IsNoZoneIn points.now) }
+    ensures zones { IfOk result (λ made. IfOk made (λ zones.
+        AreZonesFrom points.now 1 zones.items)) }
+    ensures count { IfOk result (λ made. IfOk made (λ zones.
+        length points.now ≡ length zones.items + 2)) }
+    ensures refused { IfOk result (λ made. IfErr made (λ shape.
+        IsZoneless points.now shape.line shape.number)) }
 {
     let mut zones = Vec::new(alloc);
     'numbers: for number in 1..points.len() - 1 {
-        match turn_zone(alloc, points, number) {
-            Ok(zone) => zones.push(zone)?,
-            Err(cause) => return Err(cause),
-        }
+        let turn = turn_at(points, number);
+        let Some(zone) = zone_of(turn) else {
+            let line = turn.here.line;
+            let number = number as u64;
+            return Ok(Err(Shape { line, number }));
+        };
+        zones.push(zone)?;
     }
-    Ok(zones)
-}
-
-/// The start of a task, or that its zone is of another shape.
-fn start_in(points: &[CupPoint]) -> Result<Start, Cause>
-    requires { 2 ≤ length points.now }
-    ensures ok { IfOk result (IsStartIn points.now) }
-    ensures refused { IfErr result (IsNoStartAt points.now) }
-{
-    let leg = leg_at(points, 0);
-    match start_of(leg.from, leg.to) {
-        Some(line) => Ok(line),
-        None => Err(Cause::Shape(leg.from.line, 0)),
-    }
-}
-
-/// The finish of a task, or that its zone is of another shape.
-fn finish_at(leg: Leg<'_>, number: usize) -> Result<Finish, Cause>
-    ensures ok { IfOk result (IsFinishOf leg.entry.from.now leg.entry.to.now) }
-    ensures refused { IfErr result (IsNoFinishAt leg.entry.from.now leg.entry.to.now number) }
-{
-    match finish_of(leg.from, leg.to) {
-        Some(end) => Ok(end),
-        None => Err(Cause::Shape(leg.to.line, number as u64)),
-    }
+    Ok(Ok(zones))
 }
 
 /// The start, the zones and the finish of a task of at least three points, or the first point whose
 /// zone the task file can't say.
-pub fn course_of(alloc: Global, points: &[CupPoint]) -> Result<Course, Cause>
+pub fn course_of(alloc: Global, points: &[CupPoint]) -> Result<Result<Course, Shape>, AllocError>
     requires { 3 ≤ length points.now }
-    ensures ok { IfOk result (λ course.
-        IsCourseOf points.now course.start course.zones.items course.finish) }
-    ensures refused { IfErr result (IsNoCourse points.now) }
+    ensures { IfOk result (IsCourseOr points.now) }
 {
+    let first = leg_at(points, 0);
+    let Some(start) = start_of(first.from, first.to) else {
+        let line = first.from.line;
+        return Ok(Err(Shape { line, number: 0 }));
+    };
+    let zones = match zones_of(alloc, points)? {
+        Ok(zones) => zones,
+        Err(shape) => return Ok(Err(shape)),
+    };
     let number = points.len() - 1;
-    let start = start_in(points)?;
-    let zones = zones_of(alloc, points)?;
-    let finish = finish_at(leg_at(points, number - 1), number)?;
-    Ok(Course {
+    let last = leg_at(points, number - 1);
+    let Some(finish) = finish_of(last.from, last.to) else {
+        let line = last.to.line;
+        let number = number as u64;
+        return Ok(Err(Shape { line, number }));
+    };
+    Ok(Ok(Course {
         start,
         zones,
         finish,
-    })
+    }))
 }
 
 /// Whether one of some points has a zone that is said to be an area.

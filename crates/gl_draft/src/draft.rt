@@ -1,5 +1,4 @@
 use crate::entrant::Entrant;
-use gl_cup::Field;
 use gl_sphere::Grid;
 use gl_text::Items;
 use jiff_core::civil::Date;
@@ -11,9 +10,9 @@ pub enum Kind {
     Area { minimum: Option<u32> },
 }
 
-/// A start line: its middle, the place ahead, and its half width in metres.
+/// A line of a start or a finish: its middle, the place ahead, and its half width in metres.
 #[derive(Clone, Copy, Debug)]
-pub struct Start {
+pub struct Gate {
     pub at: Grid,
     pub towards: Grid,
     pub half: u32,
@@ -45,20 +44,18 @@ pub enum Part {
 }
 
 /// A zone about its centre: a part, and perhaps a second one.
-#[derive(Debug, Drop)]
+#[derive(Clone, Copy, Debug)]
 pub struct Zone {
-    pub name: Field,
     pub at: Grid,
     pub part: Part,
     pub second: Option<Part>,
 }
 
-/// A finish: a ring of a radius in metres, or a line of a half width, which is crossed towards a
-/// place.
+/// A finish: a ring of a radius in metres, or a line.
 #[derive(Clone, Copy, Debug)]
 pub enum Finish {
     Ring { at: Grid, radius: u32 },
-    Gate { at: Grid, towards: Grid, half: u32 },
+    Gate(Gate),
 }
 
 /// All that is taken into a task file. What is left out is for the scorer to fill in, and so are
@@ -67,9 +64,7 @@ pub enum Finish {
 pub struct Draft {
     pub date: Option<Date>,
     pub kind: Kind,
-    /// When the start opens, in seconds of the day, by a clock that isn't known.
-    pub opens: Option<u32>,
-    pub start: Start,
+    pub start: Gate,
     pub zones: Items<Zone>,
     pub finish: Finish,
     pub entrants: Items<Entrant>,

@@ -1,13 +1,11 @@
-ghost use Rattle.std.specs.Prelude.{◌≡◌, ◌≤◌, IfOk, length, None, Some, option_and_then, unwrap_or};
-ghost use Rattle.std.specs.List.{list_all, list_any};
+ghost use Rattle.std.specs.Prelude.{◌≡◌, ◌≤◌, IfOk, filter, is_some, length, option_and_then, option_map, unwrap_or};
+ghost use Rattle.std.specs.List.{find, list_all, list_any};
 ghost use Rattle.std.specs.Option.{option_or};
 ghost use Rattle.std.specs.Char.{is_ascii_alphanumeric};
-ghost use Rattle.gl_igc.specs.FirstOf.{first_of};
 ghost use Rattle.gl_draft.specs.declared.entrant.Entrant.{Entrant};
 ghost use Rattle.gl_draft.specs.declared.recording.Recording.{Recording};
-ghost use Rattle.gl_draft.specs.Heading.{last_eight, number_by_file, pilot_by_file, stem_of};
-ghost use Rattle.gl_draft.specs.Recordings.{common_day, day_of_all, entrant_behind, entrants_behind, entrants_of, has_number, is_of_day, unless_taken};
-ghost use Rattle.std.specs.Prelude.{filter};
+ghost use Rattle.gl_draft.specs.Heading.{number_by_file, pilot_by_file, stem_of};
+ghost use Rattle.gl_draft.specs.Recordings.{common_day, day_of_all, entrant_behind, entrants_behind, first_day, has_number, is_of_day, unless_taken};
 
 use crate::heading::{Said, read_kept};
 use crate::recording::Recording;
@@ -41,20 +39,13 @@ fn alphanumerics(alloc: Global, bytes: &[u8]) -> Result<Vec<u8>, AllocError>
         .collect(alloc)
 }
 
-/// The last eight of some bytes.
-fn last_eight(bytes: &[u8]) -> &[u8]
-    ensures { result.now ≡ last_eight bytes.now }
-{
-    &bytes[bytes.len().saturating_sub(8)..]
-}
-
 /// The number that the name of a recording says: the last eight of its letters and digits.
 #[tactic(auto, unfolding(crate::specs::Heading::number_by_file))]
 fn number_by_file(alloc: Global, file: &Name) -> Result<Option<Name>, AllocError>
     ensures { IfOk result (λ number. number ≡ number_by_file file.now) }
 {
     let bytes = alphanumerics(alloc, stem_of(file))?;
-    read_kept(alloc, Said::Number, last_eight(&bytes))
+    read_kept(alloc, Said::Number, &bytes[bytes.len().saturating_sub(8)..])
 }
 
 /// The pilot's name that the name of a recording says.
@@ -68,26 +59,15 @@ fn pilot_by_file(alloc: Global, file: &Name) -> Result<Name, AllocError>
     }
 }
 
-/// The name, if there is one, as one of its own.
-fn copied(alloc: Global, name: &Option<Name>) -> Result<Option<Name>, AllocError>
-    ensures { IfOk result (λ copy. copy ≡ name.now) }
-{
-    match name {
-        Some(name) => Ok(Some(Name::from_text(alloc, name.as_str())?)),
-        None => Ok(None),
-    }
-}
-
 /// The number of a recording, or else of its file's name.
 pub fn number_of(alloc: Global, recording: &Recording) -> Result<Option<Name>, AllocError>
     ensures { IfOk result (λ number.
         number ≡ option_or recording.now.number (number_by_file recording.now.file)) }
 {
-    let number = copied(alloc, &recording.number)?;
-    if number.is_some() {
-        return Ok(number);
+    match &recording.number {
+        Some(name) => Ok(Some(Name::from_text(alloc, name.as_str())?)),
+        None => number_by_file(alloc, &recording.file),
     }
-    number_by_file(alloc, &recording.file)
 }
 
 /// The name of a recording's pilot, or else of its file.
@@ -168,13 +148,6 @@ pub fn entrants_behind(
     Ok(entrants)
 }
 
-/// The entrants of recordings.
-pub fn entrants_of(alloc: Global, recordings: &[Recording]) -> Result<Vec<Entrant>, AllocError>
-    ensures { IfOk result (λ entrants. entrants.items ≡ entrants_of recordings.now) }
-{
-    entrants_behind(alloc, Vec::new(alloc), recordings)
-}
-
 /// Whether a recording is of a day, as far as its day is known.
 fn is_of_day(day: i32, other: Option<i32>) -> bool
     ensures { result ≡ is_of_day day other }
@@ -185,18 +158,19 @@ fn is_of_day(day: i32, other: Option<i32>) -> bool
     }
 }
 
+/// The first of recordings whose day is known.
+fn first_dated(recordings: &[Recording]) -> Option<&Recording>
+    ensures { option_map (λ recording. recording.now) result
+        ≡ find (λ (r : Recording). is_some r.day) recordings.now }
+{
+    recordings.iter().find(|recording| recording.day.is_some())
+}
+
 /// The first day that is known of recordings.
 fn first_day(recordings: &[Recording]) -> Option<i32>
-    ensures { result ≡ first_of (λ (r : Recording). r.day) recordings.now }
+    ensures { result ≡ first_day recordings.now }
 {
-    let mut left = recordings;
-    'recordings: while let Some((recording, rest)) = left.split_first() {
-        if recording.day.is_some() {
-            return recording.day;
-        }
-        left = rest;
-    }
-    None
+    first_dated(recordings)?.day
 }
 
 /// Whether all recordings are of a day, as far as their days are known.

@@ -84,22 +84,6 @@ fn said_in_line(alloc: Global, what: Said, line: &[u8]) -> Result<Option<Name>, 
     }
 }
 
-/// What a recording says of who flew: the first of its lines that says it in the form.
-#[tactic(auto, unfolding(crate::specs::Heading::said_in))]
-pub fn said_in(alloc: Global, what: Said, text: &[u8]) -> Result<Option<Name>, AllocError>
-    ensures { IfOk result (λ name. name ≡ said_in what text.now) }
-{
-    let mut at = 0;
-    'lines: while let Some(line) = next_line(text, at) {
-        let found = said_in_line(alloc, what, &text[line.from..line.to])?;
-        if found.is_some() {
-            return Ok(found);
-        }
-        at = line.next;
-    }
-    Ok(None)
-}
-
 /// How a text of a recording is read that isn't plain.
 #[derive(Clone, Copy, Debug, PartialEq, Eq)]
 pub struct Spelling {
@@ -117,16 +101,24 @@ fn spelling_of(bytes: &[u8]) -> Spelling {
     }
 }
 
-/// How the first line is read that says who flew in the form.
-pub fn spelling_in(alloc: Global, what: Said, text: &[u8]) -> Result<Option<Spelling>, AllocError> {
+/// What a recording says of who flew, which is the first of its lines that says it in the form, and
+/// how this line is read.
+#[tactic(auto, unfolding(crate::specs::Heading::said_in))]
+pub fn said_in(
+    alloc: Global,
+    what: Said,
+    text: &[u8],
+) -> Result<(Option<Name>, Option<Spelling>), AllocError>
+    ensures { IfOk result (λ said. said.0 ≡ said_in what text.now) }
+{
     let mut at = 0;
     'lines: while let Some(line) = next_line(text, at) {
         let bytes = &text[line.from..line.to];
         let found = said_in_line(alloc, what, bytes)?;
         if found.is_some() {
-            return Ok(Some(spelling_of(bytes)));
+            return Ok((found, Some(spelling_of(bytes))));
         }
         at = line.next;
     }
-    Ok(None)
+    Ok((None, None))
 }

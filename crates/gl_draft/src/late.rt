@@ -1,25 +1,15 @@
-ghost use Rattle.std.specs.Prelude.{◌≡◌, ◌++◌, ◌≤◌, IfErr, IfOk, OnOk, drop, filter, length, map};
+ghost use Rattle.std.specs.Prelude.{◌≡◌, ◌++◌, ◌≤◌, IfOk, OnOk, drop, filter, length, map};
 ghost use Rattle.std.specs.List.{list_any};
-ghost use Rattle.gl_desk.specs.Answers.{OnlyReads};
-ghost use Rattle.gl_desk.specs.Desk.{ListsNames};
-ghost use Rattle.gl_task_file.specs.Reading.{IsReadFrom};
-ghost use Rattle.gl_draft.specs.Causes.{IsNoFault};
-ghost use Rattle.gl_draft.specs.Code.Run.{AreLateSources, IsNoDayText, stop_in};
 ghost use Rattle.gl_draft.specs.Draft.{entrants_lines};
-ghost use Rattle.gl_draft.specs.Late.{IsDayIn, IsLate, IsLateText, IsNoDay, is_late, is_named, known_entrant};
+ghost use Rattle.gl_draft.specs.Late.{IsLateText, is_late, is_named, known_entrant};
 
-use crate::command::read_file;
 use crate::entrant::{Entrant, are_of_day, entrants_behind};
-use crate::entrant_line::say_entrants;
-use crate::folder::read_recordings;
+use crate::entrant_line::{Seen, say_entrants};
 use crate::line::{Filling, text_with};
 use crate::lines::Lines;
-use crate::notes::Seen;
 use crate::recording::Recording;
-use crate::refusal::Cause;
-use gl_desk::{Desk, Name};
+use gl_desk::Name;
 use gl_task::{Entrant as TaskEntrant, Task};
-use gl_task_file::{TaskError, read_task};
 use std::alloc::{AllocError, Global};
 
 /// An entrant of a task file.
@@ -80,27 +70,22 @@ fn late_among(
 }
 
 /// The remarks above the tables of late recordings.
-fn note_late(
-    alloc: Global,
-    lines: &mut Lines,
-    file: &Name,
-    late: &[Recording],
-) -> Result<(), AllocError>
+fn note_late(lines: &mut Lines, file: &Name, late: &[Recording]) -> Result<(), AllocError>
     ensures { OnOk result (lines.new ≡ lines.old) }
 {
+    let alloc = lines.alloc();
     let file = file.as_str();
     if late.is_empty() {
         let text = format!(in alloc; "Every recording of the folder has an entrant in {file}.")?;
-        return lines.note(text.as_str());
+        return lines.remark(text);
     }
     let text = format!(in alloc; "Copy these tables to the end of {file}.")?;
-    lines.note(text.as_str())?;
+    lines.remark(text)?;
     lines.note("Everybody here has the handicap 1000: change it if there are handicaps.")
 }
 
 /// Says the tables of late recordings, the entrants behind those of a task file.
 fn say_late(
-    alloc: Global,
     lines: &mut Lines,
     task: &Task,
     late: &[Recording],
@@ -115,7 +100,7 @@ fn say_late(
         recordings: late,
         is_of_several_days: !are_of_day(task.date, late),
     };
-    say_entrants(alloc, lines, &seen, &all[task.entrants.len()..])
+    say_entrants(lines, &seen, &all[task.entrants.len()..])
 }
 
 /// The tables of late recordings.
@@ -130,13 +115,13 @@ fn tables_of(
     let known = known_entrants(alloc, task.entrants.as_slice())?;
     let all = entrants_behind(alloc, known, late)?;
     let mut lines = Lines::new(alloc);
-    note_late(alloc, &mut lines, file, late)?;
-    say_late(alloc, &mut lines, task, late, &all)?;
+    note_late(&mut lines, file, late)?;
+    say_late(&mut lines, task, late, &all)?;
     text_with(alloc, Filling::Mark, lines.as_slice())
 }
 
 /// The tables of those recordings that no entrant of a task names.
-fn late_text(
+pub fn late_text(
     alloc: Global,
     file: &Name,
     task: &Task,
@@ -147,77 +132,4 @@ fn late_text(
 {
     let late = late_among(alloc, task.entrants.as_slice(), recordings)?;
     tables_of(alloc, file, task, &late)
-}
-
-/// The task of a task file's text.
-fn task_of_day(alloc: Global, bytes: &[u8]) -> Result<Task, Cause>
-    ensures task { IfOk result (IsReadFrom bytes.now) }
-    ensures refused { IfErr result (IsNoDayText bytes.now) }
-    ensures no_fault { IfErr result IsNoFault }
-{
-    match read_task(alloc, bytes) {
-        Ok(task) => Ok(task),
-        Err(TaskError::Toml) => Err(Cause::NoToml),
-        Err(wrong) => Err(Cause::from(wrong)),
-    }
-}
-
-/// The task of a task file of the folder.
-fn read_day<D: Desk>(
-    alloc: Global,
-    desk: &mut D,
-    names: &[Name],
-    file: &Name,
-) -> Result<Task, Cause>
-    requires { ListsNames (D.told desk.old).folder names.now }
-    ensures task { IfOk result (IsDayIn (D.told desk.old).folder file.now) }
-    ensures refused { IfErr result (IsNoDay (D.told desk.old).folder file.now) }
-    ensures reads { OnlyReads (stop_in result) (D.told desk.old) (D.told desk.new) }
-{
-    let bytes = read_file(alloc, desk, names, file)?;
-    task_of_day(alloc, &bytes)
-}
-
-/// The task of a task file and the recordings, in a folder that lists these names.
-fn see_day<D: Desk>(
-    alloc: Global,
-    desk: &mut D,
-    names: Vec<Name>,
-    file: &Name,
-) -> Result<(Task, Vec<Recording>), Cause>
-    requires { ListsNames (D.told desk.old).folder names.items }
-    ensures sources { IfOk result (λ seen.
-        AreLateSources (D.told desk.old).folder file.now seen.0 seen.1.items) }
-    ensures refused { IfErr result (IsNoDay (D.told desk.old).folder file.now) }
-    ensures reads { OnlyReads (stop_in result) (D.told desk.old) (D.told desk.new) }
-{
-    let task = read_day(alloc, desk, &names, file)?;
-    let recordings = read_recordings(alloc, desk, names)?;
-    Ok((task, recordings))
-}
-
-/// The task of a task file and the recordings of the folder.
-fn see_late<D: Desk>(
-    alloc: Global,
-    desk: &mut D,
-    file: &Name,
-) -> Result<(Task, Vec<Recording>), Cause>
-    ensures sources { IfOk result (λ seen.
-        AreLateSources (D.told desk.old).folder file.now seen.0 seen.1.items) }
-    ensures refused { IfErr result (IsNoDay (D.told desk.old).folder file.now) }
-    ensures reads { OnlyReads (stop_in result) (D.told desk.old) (D.told desk.new) }
-{
-    let names = desk.names(alloc)?;
-    see_day(alloc, desk, names, file)
-}
-
-/// The tables of those recordings of the folder that no entrant of a task file names.
-pub fn make_late<D: Desk>(alloc: Global, desk: &mut D, file: &Name) -> Result<Vec<u8>, Cause>
-    ensures made { IfOk result (λ text. IsLate (D.told desk.old).folder file.now text.items) }
-    ensures refused { IfErr result (IsNoDay (D.told desk.old).folder file.now) }
-    ensures reads { OnlyReads (stop_in result) (D.told desk.old) (D.told desk.new) }
-{
-    let (task, recordings) = see_late(alloc, desk, file)?;
-    let text = late_text(alloc, file, &task, recordings)?;
-    Ok(text)
 }

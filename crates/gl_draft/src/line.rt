@@ -1,5 +1,5 @@
 ghost use Rattle.std.specs.Prelude.{◌≡◌, ◌++◌, IfOk, OnOk, map};
-ghost use Rattle.gl_draft.specs.Line.{about_text, filled_in, line_with, pair_text, radials_text, shown, text_with, trial};
+ghost use Rattle.gl_draft.specs.Line.{filled_in, line_with, radials_text, shown, text_with, trial};
 
 use crate::value::{Value, push_value};
 use crate::word::{Key, Section};
@@ -63,32 +63,17 @@ fn push_remark(text: &mut Vec<u8>, remark: &str) -> Result<(), AllocError>
     Ok(())
 }
 
-/// Appends the direction that a sector may lie about.
-#[tactic(auto, unfolding(crate::specs::Line::about_text))]
-fn push_about(text: &mut Vec<u8>, middle: u32) -> Result<(), AllocError>
-    ensures { OnOk result (text.new.items ≡ text.old.items ++ about_text middle) }
-{
-    text.extend_from_slice(b"# about ")?;
-    push_fixed(text, u64::from(middle), 3)
-}
-
-/// Appends two radials.
-#[tactic(auto, unfolding(crate::specs::Line::pair_text))]
-fn push_pair(text: &mut Vec<u8>, from: u32, to: u32) -> Result<(), AllocError>
-    ensures { OnOk result (text.new.items ≡ text.old.items ++ pair_text from to) }
-{
-    text.extend_from_slice(b": from = ")?;
-    push_u64(text, u64::from(from))?;
-    text.extend_from_slice(b", to = ")?;
-    push_u64(text, u64::from(to))
-}
-
 /// Appends the radials that a sector has if it lies about a direction.
+#[tactic(auto, unfolding(crate::specs::Line::radials_text))]
 fn push_radials(text: &mut Vec<u8>, middle: u32, from: u32, to: u32) -> Result<(), AllocError>
     ensures { OnOk result (text.new.items ≡ text.old.items ++ radials_text middle from to) }
 {
-    push_about(text, middle)?;
-    push_pair(text, from, to)?;
+    text.extend_from_slice(b"# about ")?;
+    push_fixed(text, u64::from(middle), 3)?;
+    text.extend_from_slice(b": from = ")?;
+    push_u64(text, u64::from(from))?;
+    text.extend_from_slice(b", to = ")?;
+    push_u64(text, u64::from(to))?;
     text.extend_from_slice(b"\n")
 }
 

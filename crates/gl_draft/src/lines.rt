@@ -1,11 +1,12 @@
 ghost use Rattle.std.specs.Prelude.{◌≡◌, ◌++◌, ◌∷◌, [], List, OnOk, filter};
-ghost use Rattle.gl_draft.specs.declared.line.Line as code_line;
+ghost use Rattle.gl_draft.specs.declared.value.Value.TheVariants as value;
 ghost use Rattle.gl_draft.specs.declared.line.Line.TheVariants.{Head, Said, Open, Radials};
 ghost use Rattle.gl_draft.specs.Line.{is_spoken};
 
 use crate::line::Line;
 use crate::value::Value;
 use crate::word::{Key, Section};
+use gl_desk::Name;
 use std::alloc::{AllocError, Global};
 use std::marker::Model;
 
@@ -37,6 +38,11 @@ impl Lines {
         }
     }
 
+    /// Where the texts of its lines are allocated.
+    pub fn alloc(&self) -> Global {
+        self.alloc
+    }
+
     /// The lines, with the remarks and the empty ones.
     pub fn as_slice(&self) -> &[Line]
         ensures { filter is_spoken result.now ≡ self.now }
@@ -55,12 +61,29 @@ impl Lines {
 
     /// Appends a remark.
     #[tactic(auto, using(crate::proofs::LineLemmas::spoken_more))]
+    pub fn remark(&mut self, text: String) -> Result<(), AllocError>
+        ensures { OnOk result (self.new ≡ self.old) }
+    {
+        self.lines.push(Line::Remark(text))?;
+        Ok(())
+    }
+
+    /// Appends a remark with a text that is always the same.
     pub fn note(&mut self, text: &str) -> Result<(), AllocError>
         ensures { OnOk result (self.new ≡ self.old) }
     {
-        self.lines
-            .push(Line::Remark(String::from_str(self.alloc, text)?))?;
-        Ok(())
+        let text = String::from_str(self.alloc, text)?;
+        self.remark(text)
+    }
+
+    /// Appends a remark, if there is one.
+    pub fn note_if(&mut self, text: Option<String>) -> Result<(), AllocError>
+        ensures { OnOk result (self.new ≡ self.old) }
+    {
+        match text {
+            Some(text) => self.remark(text),
+            None => Ok(()),
+        }
     }
 
     /// Appends the line that begins a section.
@@ -79,6 +102,21 @@ impl Lines {
     {
         self.lines.push(Line::Said(key, value))?;
         Ok(())
+    }
+
+    /// Appends a key with a number.
+    pub fn amount(&mut self, key: Key, n: u32) -> Result<(), AllocError>
+        ensures { OnOk result (self.new ≡ self.old ++ Said key (value.Amount n) ∷ []) }
+    {
+        self.say(key, Value::Amount(n))
+    }
+
+    /// Appends a key with a text.
+    pub fn text(&mut self, key: Key, text: &Name) -> Result<(), AllocError>
+        ensures { OnOk result (self.new ≡ self.old ++ Said key (value.Text text.now) ∷ []) }
+    {
+        let text = Name::from_text(self.alloc, text.as_str())?;
+        self.say(key, Value::Text(text))
     }
 
     /// Appends a key that is left to fill in.

@@ -1,8 +1,7 @@
 ghost use Rattle.std.specs.Prelude.{◌≡◌, ◌+◌, ◌%◌, ◌<◌, IfSome};
-ghost use Rattle.gl_draft.specs.Bearing.{whole_turn};
-ghost use Rattle.gl_draft.specs.Middle.{angle_between, are_opposite, outside_of, thousandths_of};
+ghost use Rattle.gl_draft.specs.Bearing.{angle_between, are_opposite, outside_of, thousandths_of, whole_turn};
 
-use crate::direction::WHOLE_TURN;
+use crate::angle::WHOLE_TURN;
 
 /// Half a turn, in 1/100,000 minute.
 const HALF_TURN: u32 = 1_080_000_000;
@@ -49,7 +48,7 @@ fn are_opposite(a: u32, b: u32) -> bool
 
 /// The direction half way between two others, in the greater of the two angles between them, in
 /// 1/100,000 minute; none where the two are opposite.
-#[tactic(auto, unfolding(crate::specs::Middle::outside_of))]
+#[tactic(auto, unfolding(crate::specs::Bearing::outside_of))]
 pub(crate) fn outside(a: u32, b: u32) -> Option<u32>
     requires a { a < whole_turn }
     requires b { b < whole_turn }

@@ -1,9 +1,9 @@
-ghost use Rattle.std.specs.Prelude.{◌≡◌, ◌+◌, ◌≤◌};
+ghost use Rattle.std.specs.Prelude.{◌≡◌, ◌+◌, ◌≤◌, neg_ℤ};
 ghost use Rattle.gl_sphere.specs.Range.{IsWithin};
 ghost use Rattle.gl_sphere.specs.Sphere.{half_turn, quarter_turn};
-ghost use Rattle.gl_draft.specs.Taken.{IsNear, IsNearPlace, distance_of};
+ghost use Rattle.gl_draft.specs.Taken.{IsNear, IsNearPlace, IsOpposite, distance_of, opposite_longitude};
 
-use gl_sphere::{Grid, dist, sq, vector};
+use gl_sphere::{Grid, HALF_TURN, dist, sq, vector};
 
 /// A thousandth of a minute, in 1/100,000 minute.
 const THOUSANDTH: u32 = 100;
@@ -60,4 +60,28 @@ pub fn distance(one: Grid, other: Grid) -> u64
     ensures { result ≡ distance_of one other }
 {
     dist(sq(vector(one), vector(other)))
+}
+
+/// The longitude half a turn away.
+fn opposite_longitude(lon: i32) -> i32
+    requires { IsWithin half_turn lon }
+    ensures value { result ≡ opposite_longitude lon }
+    ensures bound { IsWithin half_turn result }
+{
+    if lon > 0 {
+        lon - HALF_TURN as i32
+    } else {
+        lon + HALF_TURN as i32
+    }
+}
+
+/// The place on the far side of the earth. Whoever flies on from a place on a straight way heads
+/// for it.
+pub fn opposite(place: Grid) -> Grid
+    ensures { IsOpposite place result }
+{
+    Grid {
+        lat: -place.lat,
+        lon: opposite_longitude(place.lon),
+    }
 }

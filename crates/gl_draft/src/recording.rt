@@ -1,13 +1,16 @@
-ghost use Rattle.std.specs.Prelude.{◌≡◌, ℕ, List, None, Some, IfOk, IfErr};
+ghost use Rattle.std.specs.Prelude.{◌≡◌, ℕ, List, None, Some, IfOk, IfErr, IsPermutation, filter};
+ghost use Rattle.std.specs.Cmp.Lexicographic.{slice_cmp};
+ghost use Rattle.std.specs.List.Sorted.{IsSorted};
+ghost use Rattle.std.specs.Ordering.{nat_cmp};
 ghost use Rattle.gl_desk.specs.Answers.{OnlyReads};
-ghost use Rattle.gl_desk.specs.Desk.{HasFile, IsSeenIn};
+ghost use Rattle.gl_desk.specs.Desk.{HasFile, HaveFiles, IsSeenIn, ListsNames};
 ghost use Rattle.gl_igc.specs.Reading.{recording_of};
 ghost use Rattle.gl_draft.specs.Causes.{IsStopped};
-ghost use Rattle.gl_draft.specs.Code.Run.{stop_in};
+ghost use Rattle.gl_draft.specs.Code.{stop_in};
 ghost use Rattle.gl_draft.specs.Heading.{is_igc, said_in};
-ghost use Rattle.gl_draft.specs.Recordings.{IsRecordingOf, day_in, is_taken, read_part};
+ghost use Rattle.gl_draft.specs.Recordings.{AreRecordingsOf, IsRecordingOf, Pairwise, day_in, is_taken, read_part};
 
-use crate::heading::{Said, Spelling, said_in, spelling_in};
+use crate::heading::{Said, Spelling, said_in};
 use crate::refusal::Cause;
 use gl_desk::{Desk, DeskError, MOST_BYTES, Name, ReadError, read_all};
 use gl_igc::{IgcError, read_igc};
@@ -40,7 +43,7 @@ fn is_igc(name: &str) -> bool
 }
 
 /// Whether a file of the folder is a recording that a task file can name.
-pub fn is_taken(name: &Name) -> bool
+fn is_taken(name: &Name) -> bool
     ensures { result ≡ is_taken name.now }
 {
     is_igc(name.as_str()) && is_file_name(name.as_str())
@@ -88,11 +91,13 @@ fn recording_of(
     ensures day { IfOk result (λ r. r.day ≡ day_in (recording_of text.now None)) }
 {
     let outcome = outcome_of(alloc, text)?;
+    let (number, _) = said_in(alloc, Said::Number, text)?;
+    let (pilot, spelling) = said_in(alloc, Said::Pilot, text)?;
     Ok(Recording {
         file: Name::from_text(alloc, file.as_str())?,
-        number: said_in(alloc, Said::Number, text)?,
-        pilot: said_in(alloc, Said::Pilot, text)?,
-        spelling: spelling_in(alloc, Said::Pilot, text)?,
+        number,
+        pilot,
+        spelling,
         day: outcome.day,
         refusal: if is_read {
             outcome.refusal
@@ -120,7 +125,7 @@ fn read_part<D: Desk>(alloc: Global, desk: &mut D, file: &Name) -> Result<(Vec<u
 }
 
 /// A recording of the folder.
-pub fn see_recording<D: Desk>(alloc: Global, desk: &mut D, file: &Name) -> Result<Recording, Cause>
+fn see_recording<D: Desk>(alloc: Global, desk: &mut D, file: &Name) -> Result<Recording, Cause>
     requires { HasFile (D.told desk.old).folder file.now }
     ensures is { IfOk result (IsRecordingOf (D.told desk.old).folder file.now) }
     ensures goes { IfErr result IsStopped }
@@ -129,4 +134,61 @@ pub fn see_recording<D: Desk>(alloc: Global, desk: &mut D, file: &Name) -> Resul
     let part = read_part(alloc, desk, file)?;
     let recording = recording_of(alloc, file, &part.0, part.1)?;
     Ok(recording)
+}
+
+/// Names in the order of their bytes.
+fn sorted(names: Vec<Name>) -> Result<Vec<Name>, AllocError>
+    ensures same { IfOk result (λ sorted. IsPermutation names.items sorted.items) }
+    ensures sorted { IfOk result (λ sorted. IsSorted (slice_cmp nat_cmp) sorted.items) }
+{
+    let mut names = names;
+    names.sort()?;
+    Ok(names)
+}
+
+/// Those of some names that are recordings which a task file can name.
+fn taken(alloc: Global, names: Vec<Name>) -> Result<Vec<Name>, AllocError>
+    ensures { IfOk result (λ taken. taken.items ≡ filter is_taken names.items) }
+{
+    names
+        .into_iter()
+        .filter(|name| is_taken(name))
+        .collect(alloc)
+}
+
+/// The recordings of some names.
+fn see_recordings<D: Desk>(
+    alloc: Global,
+    desk: &mut D,
+    names: &[Name],
+) -> Result<Vec<Recording>, Cause>
+    requires { HaveFiles (D.told desk.old).folder names.now }
+    ensures are { IfOk result (λ recordings.
+        Pairwise (IsRecordingOf (D.told desk.old).folder) names.now recordings.items) }
+    ensures goes { IfErr result IsStopped }
+    ensures reads { OnlyReads (stop_in result) (D.told desk.old) (D.told desk.new) }
+{
+    let mut recordings = Vec::new(alloc);
+    'names: for name in names {
+        recordings.push(see_recording(alloc, desk, name)?)?;
+    }
+    Ok(recordings)
+}
+
+/// The recordings of a folder that lists some names, in the order of the names.
+pub fn read_recordings<D: Desk>(
+    alloc: Global,
+    desk: &mut D,
+    names: Vec<Name>,
+) -> Result<Vec<Recording>, Cause>
+    requires { ListsNames (D.told desk.old).folder names.items }
+    ensures are { IfOk result (λ recordings.
+        AreRecordingsOf (D.told desk.old).folder recordings.items) }
+    ensures goes { IfErr result IsStopped }
+    ensures reads { OnlyReads (stop_in result) (D.told desk.old) (D.told desk.new) }
+{
+    let names = sorted(names)?;
+    let names = taken(alloc, names)?;
+    let recordings = see_recordings(alloc, desk, &names)?;
+    Ok(recordings)
 }

@@ -5,40 +5,47 @@ use crate::entrant::are_of_several_days;
 use crate::lines::Lines;
 use crate::plain::plain_text;
 use crate::recording::Recording;
-use crate::words::Words;
 use gl_cup::{CupTask, PassedKey};
+use gl_desk::Name;
 use std::alloc::{AllocError, Global};
 
-/// Appends where the file comes from.
-fn note_source(
-    alloc: Global,
-    lines: &mut Lines,
-    words: Words<'_>,
-    task: &CupTask,
-) -> Result<(), AllocError>
-    ensures { OnOk result (lines.new ≡ lines.old) }
-{
-    let file = words.file.as_str();
+/// Where the file comes from.
+fn source_remark(alloc: Global, file: &Name, task: &CupTask) -> Result<String, AllocError> {
+    let file = file.as_str();
     let title = plain_text(alloc, task.title.as_slice())?;
-    let text = if title.is_empty() {
-        format!(in alloc; "Made by new-day from {file}")?
+    if title.is_empty() {
+        format!(in alloc; "Made by new-day from {file}")
     } else {
-        format!(in alloc; "Made by new-day from {file}: {title}")?
-    };
-    lines.note(text.as_str())
+        format!(in alloc; "Made by new-day from {file}: {title}")
+    }
 }
 
-/// Appends how far places are moved when they are rounded.
-fn note_rounding(alloc: Global, lines: &mut Lines, task: &CupTask) -> Result<(), AllocError>
-    ensures { OnOk result (lines.new ≡ lines.old) }
-{
+/// How far places are moved when they are rounded.
+fn rounding_remark(alloc: Global, task: &CupTask) -> Result<String, AllocError> {
     let centimetres = greatest_rounding(task);
     let metres = centimetres / 100;
     let rest = centimetres % 100;
-    let text = format!(in alloc;
+    format!(in alloc;
         "Places are rounded to a thousandth of a minute, by at most {metres}.{rest:02} m."
-    )?;
-    lines.note(text.as_str())
+    )
+}
+
+/// A key that is passed over.
+fn passed_remark(alloc: Global, passed: &PassedKey) -> Result<String, AllocError> {
+    let line = passed.line;
+    let key = plain_text(alloc, passed.key.as_slice())?;
+    format!(in alloc; "Line {line} of the SeeYou file: {key} is passed over.")
+}
+
+/// Appends the keys that are passed over.
+fn note_passed(lines: &mut Lines, passed: &[PassedKey]) -> Result<(), AllocError>
+    ensures { OnOk result (lines.new ≡ lines.old) }
+{
+    'passed: for key in passed {
+        let remark = passed_remark(lines.alloc(), key)?;
+        lines.remark(remark)?;
+    }
+    Ok(())
 }
 
 /// Appends what is to be known of the day and its recordings.
@@ -58,30 +65,10 @@ fn note_recordings(
     lines.note("Everybody has the handicap 1000: change it if there are handicaps.")
 }
 
-/// Appends a key that is passed over.
-fn note_passed(alloc: Global, lines: &mut Lines, passed: &PassedKey) -> Result<(), AllocError>
-    ensures { OnOk result (lines.new ≡ lines.old) }
-{
-    let line = passed.line;
-    let key = plain_text(alloc, passed.key.as_slice())?;
-    let text = format!(in alloc; "Line {line} of the SeeYou file: {key} is passed over.")?;
-    lines.note(text.as_str())
-}
-
-/// Appends the keys that are passed over.
-fn note_all_passed(alloc: Global, lines: &mut Lines, passed: &[PassedKey]) -> Result<(), AllocError>
-    ensures { OnOk result (lines.new ≡ lines.old) }
-{
-    'passed: for key in passed {
-        note_passed(alloc, lines, key)?;
-    }
-    Ok(())
-}
-
 /// The remarks at the head of the file.
 pub fn remarks(
     alloc: Global,
-    words: Words<'_>,
+    file: &Name,
     task: &CupTask,
     recordings: &[Recording],
     left_out: bool,
@@ -89,10 +76,10 @@ pub fn remarks(
     ensures { IfOk result (λ lines. lines ≡ []) }
 {
     let mut lines = Lines::new(alloc);
-    note_source(alloc, &mut lines, words, task)?;
+    lines.remark(source_remark(alloc, file, task)?)?;
     lines.note("Fill in each line that says FILL IN; score refuses the file until then.")?;
-    note_rounding(alloc, &mut lines, task)?;
-    note_all_passed(alloc, &mut lines, task.passed.as_slice())?;
+    lines.remark(rounding_remark(alloc, task)?)?;
+    note_passed(&mut lines, task.passed.as_slice())?;
     note_recordings(&mut lines, recordings, left_out)?;
     Ok(lines)
 }

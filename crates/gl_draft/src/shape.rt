@@ -1,13 +1,11 @@
-ghost use Rattle.std.specs.Prelude.{◌≡◌, true, false, IfNone, IfOk, IfSome};
-ghost use Rattle.gl_draft.specs.Taken.{ArePartsOf, HasNoFinish, HasNoPart, HasNoZone, IsFinishOf, IsPartOf, IsSecondOf, IsStartOf, IsTooNear, IsZoneFor, inner_of, is_alone, is_gate, is_keyhole, is_part, is_ring, is_ring_sector, is_sayable, is_start_line, is_to_next, is_to_previous};
+ghost use Rattle.std.specs.Prelude.{◌≡◌, true, false, IfNone, IfSome};
+ghost use Rattle.gl_draft.specs.Taken.{HasNoFinish, HasNoPart, HasNoZone, IsFinishOf, IsGateOf, IsPartOf, IsSecondOf, IsStartOf, IsTooNear, IsZoneFor, inner_of, is_gate, is_keyhole, is_part, is_ring, is_ring_sector, is_sayable, is_start_line};
 
-use crate::draft::{Finish, Part, Sector, Start, Zone};
-use crate::far_side::opposite;
-use crate::place::{distance, rounded};
+use crate::draft::{Finish, Gate, Part, Sector, Zone};
+use crate::place::{distance, opposite, rounded};
 use crate::sector::axis_of;
 use crate::turn::Turn;
-use gl_cup::{CupPoint, Field, ObsZone, Style};
-use std::alloc::{AllocError, Global};
+use gl_cup::{CupPoint, ObsZone, Style};
 
 /// Half a turn, in thousandths of a degree: the half angle of a full circle.
 const HALF_TURN: u32 = 180_000;
@@ -15,31 +13,11 @@ const HALF_TURN: u32 = 180_000;
 /// A kilometre, in centimetres: a nearer point gives no direction to a line or a sector.
 const KILOMETRE: u64 = 100_000;
 
-/// Whether a zone points to the next point.
-fn is_to_next(style: Style) -> bool
-    ensures { result ≡ is_to_next style }
-{
-    match style {
-        Style::ToNext => true,
-        _ => false,
-    }
-}
-
-/// Whether a zone points to the point before.
-fn is_to_previous(style: Style) -> bool
-    ensures { result ≡ is_to_previous style }
-{
-    match style {
-        Style::ToPrevious => true,
-        _ => false,
-    }
-}
-
 /// Whether a zone is a line across the way to the next point, alone.
 fn is_start_line(zone: ObsZone) -> bool
     ensures { result ≡ is_start_line zone }
 {
-    zone.is_line && is_to_next(zone.style) && zone.second_radius == 0
+    zone.is_line && matches!(zone.style, Style::ToNext) && zone.second_radius == 0
 }
 
 /// Whether a zone is a full circle, alone.
@@ -53,7 +31,7 @@ fn is_ring(zone: ObsZone) -> bool
 fn is_gate(zone: ObsZone) -> bool
     ensures { result ≡ is_gate zone }
 {
-    zone.is_line && is_to_previous(zone.style) && zone.second_radius == 0
+    zone.is_line && matches!(zone.style, Style::ToPrevious) && zone.second_radius == 0
 }
 
 /// Whether the first part of a zone is no line, and goes some way to each side.
@@ -61,13 +39,6 @@ fn is_part(zone: ObsZone) -> bool
     ensures { result ≡ is_part zone }
 {
     !zone.is_line && zone.angle > 0 && zone.angle <= HALF_TURN
-}
-
-/// Whether a zone has one part.
-fn is_alone(zone: ObsZone) -> bool
-    ensures { result ≡ is_alone zone }
-{
-    zone.second_radius == 0
 }
 
 /// Whether a zone is a sector and a full circle.
@@ -100,14 +71,14 @@ fn inner_of(zone: ObsZone) -> u32
 
 /// A start that is a line across the way to the next point; none where its zone is of another
 /// shape.
-pub fn start_of(start: &CupPoint, next: &CupPoint) -> Option<Start>
+pub fn start_of(start: &CupPoint, next: &CupPoint) -> Option<Gate>
     ensures some { IfSome result (IsStartOf start.now next.now) }
     ensures none { IfNone result (is_start_line start.now.zone ≡ false) }
 {
     if !is_start_line(start.zone) {
         return None;
     }
-    Some(Start {
+    Some(Gate {
         at: rounded(start.place),
         towards: rounded(next.place),
         half: start.zone.radius,
@@ -116,9 +87,9 @@ pub fn start_of(start: &CupPoint, next: &CupPoint) -> Option<Start>
 
 /// A finish line across the way from the point before; none where that is less than a kilometre
 /// away.
-fn gate_of(last: &CupPoint, finish: &CupPoint) -> Option<Finish>
+fn gate_of(last: &CupPoint, finish: &CupPoint) -> Option<Gate>
     requires { is_gate finish.now.zone ≡ true }
-    ensures some { IfSome result (IsFinishOf last.now finish.now) }
+    ensures some { IfSome result (IsGateOf last.now finish.now) }
     ensures none { IfNone result (IsTooNear last.now finish.now) }
 {
     let at = rounded(finish.place);
@@ -126,7 +97,7 @@ fn gate_of(last: &CupPoint, finish: &CupPoint) -> Option<Finish>
     if distance(before, at) < KILOMETRE {
         return None;
     }
-    Some(Finish::Gate {
+    Some(Gate {
         at,
         towards: opposite(before),
         half: finish.zone.radius,
@@ -144,10 +115,11 @@ pub fn finish_of(last: &CupPoint, finish: &CupPoint) -> Option<Finish>
             radius: finish.zone.radius,
         });
     }
-    if is_gate(finish.zone) {
-        return gate_of(last, finish);
+    if !is_gate(finish.zone) {
+        return None;
     }
-    None
+    let gate = gate_of(last, finish)?;
+    Some(Finish::Gate(gate))
 }
 
 /// The first part of a turn point's zone: a full circle, or a sector.
@@ -177,7 +149,7 @@ fn second_part(zone: ObsZone) -> Option<Option<Part>>
     ensures some { IfSome result (IsSecondOf zone) }
     ensures none { IfNone result (is_sayable zone ≡ false) }
 {
-    if is_alone(zone) || is_ring_sector(zone) {
+    if zone.second_radius == 0 || is_ring_sector(zone) {
         return Some(None);
     }
     if is_keyhole(zone) {
@@ -188,27 +160,15 @@ fn second_part(zone: ObsZone) -> Option<Option<Part>>
 
 /// The zone of a turn point: its first part, and perhaps a full circle more. None where its zone is
 /// of another shape.
-fn parts_of(turn: Turn<'_>) -> Option<(Part, Option<Part>)>
-    ensures some { IfSome result (λ parts. ArePartsOf turn.entry parts.0 parts.1) }
+pub fn zone_of(turn: Turn<'_>) -> Option<Zone>
+    ensures some { IfSome result (IsZoneFor turn.entry) }
     ensures none { IfNone result (HasNoZone turn.entry) }
 {
     let second = second_part(turn.here.zone)?;
-    let first = first_part(turn)?;
-    Some((first, second))
-}
-
-/// The zone of a turn point; none where it is of another shape.
-pub fn zone_of(alloc: Global, turn: Turn<'_>) -> Result<Option<Zone>, AllocError>
-    ensures some { IfOk result (λ zone. IfSome zone (IsZoneFor turn.entry)) }
-    ensures none { IfOk result (λ zone. IfNone zone (HasNoZone turn.entry)) }
-{
-    let Some((part, second)) = parts_of(turn) else {
-        return Ok(None);
-    };
-    Ok(Some(Zone {
-        name: Field::from_slice(alloc, turn.here.name.as_slice())?,
+    let part = first_part(turn)?;
+    Some(Zone {
         at: rounded(turn.here.place),
         part,
         second,
-    }))
+    })
 }

@@ -1,32 +1,19 @@
-ghost use Rattle.std.specs.Prelude.{◌≡◌, [], IfOk, IfErr, OnOk, true, false};
+ghost use Rattle.std.specs.Prelude.{◌≡◌, [], IfOk, IfErr, OnOk};
 ghost use Rattle.gl_task_file.specs.Reading.{IsReadFrom};
-ghost use Rattle.gl_draft.specs.Code.Text.{HasTask};
-ghost use Rattle.gl_draft.specs.Draft.{AreLinesOf, IsDraftText, IsNoDraft, IsNoTask, has_draft};
+ghost use Rattle.gl_draft.specs.Draft.{AreLinesOf, HasTask, IsDraftText, IsNoDraft, IsNoTask};
 ghost use Rattle.gl_draft.specs.Line.{filled_text, marked_text};
 
 use crate::comparison::has_draft;
 use crate::draft::Draft;
+use crate::draft_lines::say_draft;
 use crate::line::{Filling, Line, text_with};
 use crate::lines::Lines;
 use crate::recording::Recording;
 use crate::refusal::Cause;
-use crate::way::say_draft;
+use gl_cup::CupTask;
 use gl_task::Task;
 use gl_task_file::{TaskError, read_task};
 use std::alloc::{AllocError, Global};
-
-/// Tests that a task has all that was taken.
-fn test_task(task: &Task, draft: &Draft) -> Result<(), Cause>
-    ensures ok { OnOk result (has_draft draft.now task.now ≡ true) }
-    ensures refused { IfErr result (λ why.
-        (has_draft draft.now task.now ≡ false) × (why ≡ Cause.Differs)) }
-{
-    if has_draft(draft, task) {
-        Ok(())
-    } else {
-        Err(Cause::Differs)
-    }
-}
 
 /// The task that lines say, filled in with some values.
 fn filled_task(alloc: Global, lines: &[Line], draft: &Draft) -> Result<Task, Cause>
@@ -48,9 +35,10 @@ fn test_filled(alloc: Global, lines: &[Line], draft: &Draft) -> Result<(), Cause
     ensures refused { IfErr result (IsNoDraft draft.now) }
 {
     let task = filled_task(alloc, lines, draft)?;
-    match test_task(&task, draft) {
-        Ok(()) => Ok(()),
-        Err(cause) => Err(cause),
+    if has_draft(draft, &task) {
+        Ok(())
+    } else {
+        Err(Cause::Differs)
     }
 }
 
@@ -79,11 +67,12 @@ fn tested_text(alloc: Global, lines: &[Line], draft: &Draft) -> Result<Vec<u8>, 
     marked(alloc, lines, draft)
 }
 
-/// The text of a task file for what was taken of recordings and a task, behind some remarks.
+/// The text of a task file for what was taken of a task and recordings, behind some remarks.
 pub fn draft_text(
     alloc: Global,
     remarks: Lines,
     draft: &Draft,
+    task: &CupTask,
     recordings: &[Recording],
 ) -> Result<Vec<u8>, Cause>
     requires { remarks ≡ [] }
@@ -91,6 +80,6 @@ pub fn draft_text(
     ensures refused { IfErr result (IsNoDraft draft.now) }
 {
     let mut lines = remarks;
-    say_draft(alloc, &mut lines, draft, recordings)?;
+    say_draft(&mut lines, draft, task, recordings)?;
     tested_text(alloc, lines.as_slice(), draft)
 }

@@ -1,5 +1,5 @@
 use Rattle.std.proofs.Common.{◌≡◌, drop}
-use Rattle.gl_cup.specs.TaskRows.{first_unplaced}
+use Rattle.gl_cup.specs.Reading.{first_unplaced}
 use Rattle.gl_cup.proofs.reader.test_names.Given as goal
 
 -- the rest decide

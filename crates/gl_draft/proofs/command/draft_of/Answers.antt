@@ -1,12 +1,10 @@
-use Rattle.std.proofs.Common.{rules}
-use Rattle.std.specs.Prelude.{IfErr}
-use Rattle.std.proofs.lemmas.Result.{IfErr-weaker}
-use Rattle.gl_draft.specs.Made.{IsUnmade}
-use Rattle.gl_draft.proofs.Unmade.{no_course}
+use Rattle.std.proofs.Common.{List, refl, subst}
+use Rattle.gl_cup.specs.declared.point.CupPoint.{CupPoint}
+use Rattle.gl_draft.specs.Made.{shapeless}
+use Rattle.gl_draft.specs.Taken.{IsShapeless}
 use Rattle.gl_draft.proofs.command.draft_of.Goals as goal
 
-pub returns-in_err-start-clause-refused : goal.returns-in_err-start-clause-refused
-returns-in_err-start-clause-refused c =
-    let no : IfErr c.course_of.result (IsUnmade c.args.task.now c.args.recordings.now) =
-    IfErr-weaker _ _ _ (no_course c.args.task.now c.args.recordings.now _ c.as_slice.ensures c.requires.some) c.course_of.ensures.refused in
-    search rules
+pub returns-in-Err-clause-refused : goal.returns-in-Err-clause-refused
+returns-in-Err-clause-refused c =
+    let first : IsShapeless c.as_slice.result.now c.in-Err.shape.line c.in-Err.shape.number = rw c.in-Err.is at c.in_ok-course.ensures in
+    shapeless c.in-Err.shape.line c.in-Err.shape.number c.requires.some (subst (λ (all : List CupPoint). IsShapeless all c.in-Err.shape.line c.in-Err.shape.number) c.as_slice.ensures first) refl

@@ -2,7 +2,7 @@ use Rattle.std.proofs.Common.{rules, filter}
 use Rattle.gl_desk.specs.Desk.{HaveFiles}
 use Rattle.gl_draft.specs.Recordings.{is_taken}
 use Rattle.gl_draft.proofs.Runs.{kept_files}
-use Rattle.gl_draft.proofs.folder.read_recordings.Goals as goal
+use Rattle.gl_draft.proofs.recording.read_recordings.Goals as goal
 
 pub see_recordings-requires : goal.see_recordings-requires
 see_recordings-requires g c =

@@ -2,7 +2,7 @@ use Rattle.std.proofs.Common.{rules, subst, Option}
 use Rattle.gl_desk.specs.Desk.{FilesByName}
 use Rattle.gl_draft.specs.Recordings.{IsRecordingOf}
 use Rattle.gl_draft.proofs.Pairs.{next_pairs}
-use Rattle.gl_draft.proofs.folder.see_recordings.Goals as goal
+use Rattle.gl_draft.proofs.recording.see_recordings.Goals as goal
 
 pub names-preserved : goal.names-preserved
 names-preserved g c =

@@ -1,7 +1,7 @@
 use Rattle.std.proofs.Common.{None, take}
 use Rattle.gl_desk.specs.Answers.{OnlyReads}
 use Rattle.gl_draft.specs.Recordings.{IsRecordingOf, Pairwise}
-use Rattle.gl_draft.proofs.folder.see_recordings.Given as goal
+use Rattle.gl_draft.proofs.recording.see_recordings.Given as goal
 
 -- the recordings of the names so far; the desk was only read
 abbrev pub invariant-names : goal.invariant-names
