@@ -1,14 +1,8 @@
-// The expected values were computed by hand.
-mod declarations;
-mod files;
-mod lines;
-mod pieces;
-mod seconds;
+//! What is read of a recording, by what of it is told.
 
+use anyhow::{Context, Result, bail};
 use gl_igc::{Fix, IgcError, Recording, read_igc};
 use std::alloc::{AllocError, Global};
-use std::process::Abort;
-use std::test::Fail;
 
 /// The lines that begin a recording of 2024-07-01, day 19,905.
 const HEAD: &str = "AXXXABC\nHFDTE010724\n";
@@ -22,37 +16,25 @@ const HEADING: &str = "C010724090000010724000101";
 /// A place of a declaration, on the equator at longitude 0.
 const PLACE: &str = "C0000000N00000000E";
 
-/// The text with some words in the place of a letter.
-fn replaced(alloc: Global, text: String, letter: &str, words: &str) -> Result<String, AllocError> {
-    text.as_str().replace(alloc, letter, words)
+/// The bytes that letters mean: `#` is `HEAD`, `~` is `COLUMNS`, `$` is `HEADING`, `*` is `PLACE`, `^`
+/// is CR, `|` is LF, and any other letter is the byte of its number.
+fn text_of(alloc: Global, letters: &str) -> Result<Vec<u8>> {
+    let mut text = Vec::new(alloc);
+    for letter in letters.chars() {
+        match letter {
+            '#' => text.extend_from_slice(HEAD.as_bytes())?,
+            '~' => text.extend_from_slice(COLUMNS.as_bytes())?,
+            '$' => text.extend_from_slice(HEADING.as_bytes())?,
+            '*' => text.extend_from_slice(PLACE.as_bytes())?,
+            '^' => text.push(b'\r')?,
+            '|' => text.push(b'\n')?,
+            _ => text.push(u8::try_from(u32::from(letter))?)?,
+        }
+    }
+    Ok(text)
 }
 
-/// The text that letters of a table mean: `#` for `HEAD`, `~` for `COLUMNS`, `$` for `HEADING`,
-/// `*` for `PLACE`, `^` for CR and `|` for LF.
-fn text_of(alloc: Global, letters: &str) -> Result<String, AllocError> {
-    let text = letters.replace(alloc, "#", HEAD)?;
-    let text = replaced(alloc, text, "~", COLUMNS)?;
-    let text = replaced(alloc, text, "$", HEADING)?;
-    let text = replaced(alloc, text, "*", PLACE)?;
-    let text = replaced(alloc, text, "^", "\r")?;
-    replaced(alloc, text, "|", "\n")
-}
-
-/// What is told of a recording.
-#[derive(Clone, Copy)]
-enum View {
-    /// The day, the seconds of the fixes and of the events, and how many B lines gave no fix.
-    Seconds,
-    /// Each fix, and how many B lines gave none.
-    Fixes,
-    /// How many fixes there are, and how many B lines gave none.
-    Counts,
-    /// The declared places.
-    Places,
-    /// The seconds, the fixes and the places.
-    All,
-}
-
+/// `seconds`: the day, the seconds of the fixes and of the events, and how many B lines gave no fix.
 fn push_seconds(text: &mut String, recording: &Recording) -> Result<(), AllocError> {
     write!(text, "{}", recording.date)?;
     for fix in recording.fixes.as_slice() {
@@ -64,7 +46,7 @@ fn push_seconds(text: &mut String, recording: &Recording) -> Result<(), AllocErr
     write!(text, ", {} skipped", recording.skipped)
 }
 
-/// A fix in words: second, latitude, longitude, altitude, and the noise where there is one.
+/// A fix: second, latitude, longitude, altitude, and the noise where there is one.
 fn push_fix(text: &mut String, fix: &Fix) -> Result<(), AllocError> {
     write!(text, "{} {} ", fix.second, fix.grid.lat)?;
     write!(text, "{} {}", fix.grid.lon, fix.alt)?;
@@ -74,6 +56,7 @@ fn push_fix(text: &mut String, fix: &Fix) -> Result<(), AllocError> {
     }
 }
 
+/// `fixes`: each fix, and how many B lines gave none.
 fn push_fixes(text: &mut String, recording: &Recording) -> Result<(), AllocError> {
     for fix in recording.fixes.as_slice() {
         push_fix(text, fix)?;
@@ -81,7 +64,13 @@ fn push_fixes(text: &mut String, recording: &Recording) -> Result<(), AllocError
     write!(text, "{} skipped", recording.skipped)
 }
 
-/// The places as latitude and longitude, if the declaration is whole.
+/// `counts`: how many fixes there are, and how many B lines gave none.
+fn push_counts(text: &mut String, recording: &Recording) -> Result<(), AllocError> {
+    let (fixes, skipped) = (recording.fixes.len(), recording.skipped);
+    write!(text, "{fixes} fixes, {skipped} skipped")
+}
+
+/// `places`: the declared places as latitude and longitude, if the declaration is whole.
 fn push_places(text: &mut String, recording: &Recording) -> Result<(), AllocError> {
     let Some(declared) = &recording.declared else {
         return text.push_str("no declaration");
@@ -93,31 +82,7 @@ fn push_places(text: &mut String, recording: &Recording) -> Result<(), AllocErro
     Ok(())
 }
 
-fn push_all(text: &mut String, recording: &Recording) -> Result<(), AllocError> {
-    push_seconds(text, recording)?;
-    text.push_str("; ")?;
-    push_fixes(text, recording)?;
-    text.push_str("; ")?;
-    push_places(text, recording)
-}
-
-/// A recording in words.
-fn push_view(text: &mut String, view: View, recording: &Recording) -> Result<(), AllocError> {
-    match view {
-        View::Seconds => push_seconds(text, recording),
-        View::Fixes => push_fixes(text, recording),
-        View::Counts => write!(
-            text,
-            "{} fixes, {} skipped",
-            recording.fixes.len(),
-            recording.skipped
-        ),
-        View::Places => push_places(text, recording),
-        View::All => push_all(text, recording),
-    }
-}
-
-/// A refusal in words; want of memory is none.
+/// Why a recording was refused.
 fn push_refusal(text: &mut String, e: &IgcError) -> Result<(), AllocError> {
     match e {
         IgcError::NotIgc => text.push_str("not IGC"),
@@ -129,77 +94,62 @@ fn push_refusal(text: &mut String, e: &IgcError) -> Result<(), AllocError> {
     }
 }
 
-/// What was read, or why it was refused, in words.
-fn told(
-    alloc: Global,
-    view: View,
-    read: &Result<Recording, IgcError>,
-) -> Result<String, AllocError> {
+/// What a verb tells of the recording of these letters, on a day of a task if there is one.
+fn told(alloc: Global, verb: &str, task_day: Option<i32>, letters: &str) -> Result<String> {
     let mut text = String::new(alloc);
-    match read {
-        Ok(recording) => push_view(&mut text, view, recording)?,
-        Err(e) => push_refusal(&mut text, e)?,
+    match read_igc(alloc, &text_of(alloc, letters)?, task_day) {
+        Ok(recording) => match verb {
+            "seconds" => push_seconds(&mut text, &recording)?,
+            "fixes" => push_fixes(&mut text, &recording)?,
+            "counts" => push_counts(&mut text, &recording)?,
+            _ => push_places(&mut text, &recording)?,
+        },
+        Err(e) => push_refusal(&mut text, &e)?,
     }
     Ok(text)
 }
 
-/// What is read of a text, in words.
-fn answer(
-    alloc: Global,
-    view: View,
-    task_day: Option<i32>,
-    text: &[u8],
-) -> Result<String, AllocError> {
-    let read = read_igc(alloc, text, task_day);
-    told(alloc, view, &read)
-}
-
-/// Compares what is read of each text of a table, whose rows are `ANSWER: LINES`. The lines stand
-/// in the place of `%` in the frame.
-fn compare_on(
-    rt: &impl Abort,
-    alloc: Global,
-    view: View,
-    task_day: Option<i32>,
-    frame: &str,
-    table: &str,
-) -> Result<(), Fail> {
-    for row in table.lines() {
-        let (expected, lines) = row.split_once(": ").ok_or("no lines")?;
-        let letters = frame.replace(alloc, "%", lines)?;
-        let text = text_of(alloc, letters.as_str())?;
-        let answer = answer(alloc, view, task_day, text.as_bytes())?;
-        assert_eq!(rt; answer.as_str(), expected, "at {row}");
+/// The text with an `x` in the place of the letter with this number.
+fn with_x(alloc: Global, text: &str, number: usize) -> Result<String, AllocError> {
+    let mut changed = String::new(alloc);
+    for (at, letter) in text.chars().enumerate() {
+        changed.push(if at == number { 'x' } else { letter })?;
     }
-    Ok(())
+    Ok(changed)
 }
 
-/// The same without a task day.
-fn compare(
-    rt: &impl Abort,
-    alloc: Global,
-    view: View,
-    frame: &str,
-    table: &str,
-) -> Result<(), Fail> {
-    compare_on(rt, alloc, view, None, frame, table)
-}
-
-/// The line with an `x` in a column.
-fn with_x(alloc: Global, line: &str, column: usize) -> Result<String, AllocError> {
-    let mut text = String::new(alloc);
-    for (at, letter) in line.chars().enumerate() {
-        text.push(if at == column { 'x' } else { letter })?;
+/// What a verb tells where a part of the letters has an `x` in each of its columns but the first, in
+/// turn: the one answer, or the first other one and its column.
+fn told_each(alloc: Global, verb: &str, before: &str, part: &str, behind: &str) -> Result<String> {
+    if part.len() < 2 {
+        bail!("a part of one column");
     }
-    Ok(text)
+    let mut answer = String::new(alloc);
+    for column in 1..part.len() {
+        let part = with_x(alloc, part, column)?;
+        let letters = format!(in alloc; "{before}{part}{behind}")?;
+        let told = told(alloc, verb, None, letters.as_str())?;
+        if column > 1 && told.as_str() != answer.as_str() {
+            return Ok(format!(in alloc; "{told} in column {column}")?);
+        }
+        answer = told;
+    }
+    Ok(answer)
 }
 
-/// A table of the same answer to a line with an `x` in each of its columns but the first.
-fn with_each_x(alloc: Global, expected: &str, line: &str) -> Result<String, AllocError> {
-    let mut table = String::new(alloc);
-    for column in 1..line.len() {
-        let damaged = with_x(alloc, line, column)?;
-        write!(table, "{expected}: {damaged}\n")?;
+/// The answer to a row of recordings. The letters may begin with `on DAY`, the day of the task from
+/// 1970-01-01, and may have a part in `<` and `>`, which is damaged in each column in turn.
+pub fn answer(alloc: Global, verb: &str, input: &str) -> Result<String> {
+    if !matches!(verb, "seconds" | "fixes" | "counts" | "places") {
+        bail!("no verb of recordings");
     }
-    Ok(table)
+    if let Some(rest) = input.strip_prefix("on ") {
+        let (day, letters) = rest.split_once(' ').context("no letters")?;
+        return told(alloc, verb, Some(day.parse::<i32>()?), letters);
+    }
+    let Some((before, rest)) = input.split_once('<') else {
+        return told(alloc, verb, None, input);
+    };
+    let (part, behind) = rest.split_once('>').context("no end of a part")?;
+    told_each(alloc, verb, before, part, behind)
 }

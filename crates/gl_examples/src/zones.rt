@@ -1,271 +1,144 @@
-// The expected values were computed by a program of exact whole numbers in another language,
-// written from the formulas alone.
-ghost use Rattle.std.specs.Prelude.{◌≡◌, ◌<◌, ◌≤◌};
-ghost use Rattle.gl_sphere.specs.Range.{IsWithin};
-ghost use Rattle.gl_zone.specs.Limits.{greatest_length, most_parts, whole_turn};
+//! Lines, crossings and zones. Places are in 1/100,000 minute, lengths in centimetres, radials in
+//! thousandths of a degree.
 
+use crate::numbers::{at_most, fix, grid, numbers};
+use anyhow::{Context, Result, bail};
 use gl_igc::Fix;
 use gl_sphere::{Grid, east, north, vector};
 use gl_text::Items;
-use gl_zone::{Cylinder, Line, MOST_PARTS, Part, Sector, WHOLE_TURN, Zone, crossing, holds, side};
-use std::alloc::{AllocError, Global};
-use std::process::Abort;
-use std::test::Fail;
+use gl_zone::{Cylinder, Line, MOST_PARTS, Part, Sector, Zone, crossing, holds, side};
+use std::alloc::Global;
 
-/// The origin of the places: latitude 0 and longitude 0.
-const ORIGIN: Grid = Grid { lat: 0, lon: 0 };
-
-/// One degree north of it.
-const NORTH: Grid = Grid {
-    lat: 6_000_000,
-    lon: 0,
-};
-
-/// One degree east of it.
-const EAST: Grid = Grid {
-    lat: 0,
-    lon: 6_000_000,
-};
-
-/// A place on the first hundred degrees round the origin.
-fn place(lat: i32, lon: i32) -> Grid
-    requires lat_in_range { IsWithin 540_000_000 lat }
-    requires lon_in_range { IsWithin 540_000_000 lon }
-{
-    Grid { lat, lon }
-}
-
-/// A fix at this place.
-fn fix_at(second: i32, grid: Grid) -> Fix
-    ensures { result.second ≡ second }
-{
-    Fix {
-        second,
-        grid,
-        at: vector(grid),
-        alt: 1_000,
-        enl: None,
+/// The line of its centre, of the place that it is crossed towards, and of half its length.
+fn line_of(alloc: Global, text: &str) -> Result<Line> {
+    let values = numbers(alloc, text)?;
+    match values.as_slice() {
+        &[lat, lon, to_lat, to_lon, half] => Ok(Line {
+            centre: vector(grid(lat, lon)),
+            towards: vector(grid(to_lat, to_lon)),
+            half: at_most(half, 50_000_000),
+        }),
+        _ => bail!("a line has five numbers"),
     }
 }
 
-/// The constants are the numbers of the definitions.
-fn constants()
-    ensures most_parts { MOST_PARTS ≡ most_parts }
-    ensures whole_turn { WHOLE_TURN ≡ whole_turn }
-{}
-
-/// Takes what threads may share.
-fn share<T: Send + Sync>(_value: &T) {}
-
-/// The line with its centre at a place, crossed towards another.
-fn line_at(centre: Grid, towards: Grid, half: u64) -> Line
-    requires { half ≤ greatest_length }
-{
-    Line {
-        centre: vector(centre),
-        towards: vector(towards),
-        half,
+/// The fix of a second and a place.
+fn timed(alloc: Global, text: &str) -> Result<Fix> {
+    let values = numbers(alloc, text)?;
+    match values.as_slice() {
+        &[second, lat, lon] => Ok(fix(second, grid(lat, lon), 1_000)),
+        _ => bail!("a fix has three numbers"),
     }
 }
 
-#[test]
-fn crossings(rt: HostRuntime) {
-    let level = line_at(ORIGIN, NORTH, 100_000);
-    let short = line_at(ORIGIN, NORTH, 26);
-    let least = line_at(ORIGIN, NORTH, 27);
-    let wide = line_at(ORIGIN, NORTH, 50_000_000);
-    let oblique = line_at(
-        place(300_000_000, 60_000_000),
-        place(301_000_000, 62_000_000),
-        50_000_000,
-    );
-    share(&level);
-    let south = fix_at(100, place(-100_000, 0));
-    let over = fix_at(110, place(100_000, 0));
-    let cases: [(Line, Fix, Fix, Option<i32>); 12] = [
-        (level, south, fix_at(110, ORIGIN), Some(110)),
-        (level, south, over, Some(105)),
-        (short, south, over, None),
-        (least, south, over, Some(105)),
-        (
-            level,
-            fix_at(100, ORIGIN),
-            fix_at(110, place(-100_000, 0)),
-            None,
-        ),
-        (level, fix_at(100, ORIGIN), over, None),
-        (wide, south, fix_at(110, place(200_000, 0)), Some(103)),
-        (
-            wide,
-            fix_at(-7, place(-200_000, -100_000)),
-            fix_at(13, place(100_000, 300_000)),
-            Some(6),
-        ),
-        (
-            wide,
-            fix_at(-7, place(-100_000, 300_000)),
-            fix_at(13, place(250_000, -100_000)),
-            Some(-2),
-        ),
-        (
-            oblique,
-            fix_at(1_000, place(299_990_000, 59_900_000)),
-            fix_at(1_007, place(300_020_000, 60_100_000)),
-            Some(1_003),
-        ),
-        (
-            oblique,
-            fix_at(1_000, place(299_990_000, 60_100_000)),
-            fix_at(1_007, place(300_020_000, 59_900_000)),
-            None,
-        ),
-        (
-            oblique,
-            fix_at(-10, place(299_900_000, 60_000_000)),
-            fix_at(3, place(300_010_000, 60_007_000)),
-            Some(1),
-        ),
-    ];
-    for (line, x, y, time) in &cases {
-        assert!(rt; x.second < y.second);
-        assert_eq!(rt; crossing(line, x, y), *time, "at {}", y.second);
+/// `crossing LINE; FIX; FIX`: the second in which the way between the fixes crosses the line.
+fn crossed(alloc: Global, input: &str) -> Result<String> {
+    let (line, fixes) = input.split_once("; ").context("no fixes")?;
+    let (before, behind) = fixes.split_once("; ").context("no second fix")?;
+    let line = line_of(alloc, line)?;
+    let before = timed(alloc, before)?;
+    let behind = timed(alloc, behind)?;
+    if before.second >= behind.second {
+        bail!("the second fix isn't later");
+    }
+    match crossing(&line, &before, &behind) {
+        Some(second) => Ok(format!(in alloc; "{second}")?),
+        None => Ok(String::from_str(alloc, "none")?),
     }
 }
 
-#[test]
-fn sides(rt: HostRuntime) {
-    let level = line_at(ORIGIN, NORTH, 100_000);
-    let south = vector(place(-100_000, 0));
-    assert_eq!(rt;
-        side(&level, south),
-        -836_396_365_487_399_556_000_000_000_000
-    );
-    assert_eq!(rt; side(&level, vector(EAST)), 0);
+/// `side LINE; FIX`: on which side of the line a fix is, and how far.
+fn side_of(alloc: Global, input: &str) -> Result<String> {
+    let (line, fix) = input.split_once("; ").context("no fix")?;
+    let line = line_of(alloc, line)?;
+    Ok(format!(in alloc; "{}", side(&line, timed(alloc, fix)?.at))?)
 }
 
-/// The sector at a place between two distances and two radials.
-fn sector_at(grid: Grid, inner: u64, outer: u64, from: u32, to: u32) -> Part
-    requires ordered { inner ≤ outer }
-    requires outer_at_least { 100 ≤ outer }
-    requires outer_at_most { outer ≤ greatest_length }
-    requires from_in_turn { from < whole_turn }
-    requires to_in_turn { to < whole_turn }
-{
-    Part::Sector(Sector {
-        centre: vector(grid),
-        north: north(grid),
-        east: east(grid),
-        inner,
-        outer,
-        from,
-        to,
+/// `INNER OUTER FROM TO`, a sector about a place, or `RADIUS`, a cylinder.
+fn part_of(alloc: Global, place: Grid, text: &str) -> Result<Part> {
+    let values = numbers(alloc, text)?;
+    match values.as_slice() {
+        &[radius] => Ok(Part::Cylinder(Cylinder {
+            centre: vector(place),
+            radius: at_most(radius, 50_000_000).max(100),
+        })),
+        &[inner, outer, from, to] => {
+            let outer = at_most(outer, 50_000_000).max(100);
+            Ok(Part::Sector(Sector {
+                centre: vector(place),
+                north: north(place),
+                east: east(place),
+                inner: at_most(inner, outer),
+                outer,
+                from: at_most(from, 359_999) as u32,
+                to: at_most(to, 359_999) as u32,
+            }))
+        }
+        _ => bail!("a part has one number or four"),
+    }
+}
+
+/// The zone of these parts about a place.
+fn zone_of(alloc: Global, place: Grid, text: &str) -> Result<Zone> {
+    let mut parts = Vec::new(alloc);
+    for part in text.split(", ") {
+        parts.push(part_of(alloc, place, part)?)?;
+    }
+    if parts.is_empty() || parts.len() > MOST_PARTS {
+        bail!("a zone has one part to four");
+    }
+    Ok(Zone {
+        centre: vector(place),
+        parts: Items::from_vec(parts),
     })
 }
 
-/// Asserts which of some places a zone holds: those for which a byte is Y.
-fn expect_inside(rt: &impl Abort, zone: &Zone, around: &[Grid], inside: &[u8]) {
-    for (grid, held) in around.iter().zip(inside) {
-        let is_held = *held == b'Y';
-        assert_eq!(rt;
-            holds(zone, vector(*grid)),
-            is_held,
-            "{grid:?}, of {inside:?}"
+/// How many steps to the north and to the east: the north, the north-east and so on round to the
+/// north-west, and the centre.
+const AROUND: [(i64, i64); 9] = [
+    (1, 0),
+    (1, 1),
+    (0, 1),
+    (-1, 1),
+    (-1, 0),
+    (-1, -1),
+    (0, -1),
+    (1, -1),
+    (0, 0),
+];
+
+/// Whether a zone holds the places a step from another, and that one: `Y` or `n` for each.
+fn held_around(alloc: Global, zone: &Zone, lat: i64, lon: i64, step: i64) -> Result<String> {
+    let mut told = String::new(alloc);
+    for (to_north, to_east) in AROUND {
+        let place = grid(
+            lat.saturating_add(step.saturating_mul(to_north)),
+            lon.saturating_add(step.saturating_mul(to_east)),
         );
+        told.push(if holds(zone, vector(place)) { 'Y' } else { 'n' })?;
+    }
+    Ok(told)
+}
+
+/// `held LATITUDE LONGITUDE STEP; PART, PART`: which of the nine places the zone holds.
+fn held(alloc: Global, input: &str) -> Result<String> {
+    let (place, parts) = input.split_once("; ").context("no parts")?;
+    let values = numbers(alloc, place)?;
+    match values.as_slice() {
+        &[lat, lon, step] => {
+            let zone = zone_of(alloc, grid(lat, lon), parts)?;
+            held_around(alloc, &zone, lat, lon, step)
+        }
+        _ => bail!("a zone has a place and a step"),
     }
 }
 
-#[test]
-fn sectors(rt: HostRuntime) -> Result<(), Fail> {
-    // One degree from the origin to the north, the north-east and so on round to the north-west,
-    // and the origin.
-    let around = [
-        NORTH,
-        place(6_000_000, 6_000_000),
-        EAST,
-        place(-6_000_000, 6_000_000),
-        place(-6_000_000, 0),
-        place(-6_000_000, -6_000_000),
-        place(0, -6_000_000),
-        place(6_000_000, -6_000_000),
-        ORIGIN,
-    ];
-    let cases: [(Part, [u8; 9]); 7] = [
-        (sector_at(ORIGIN, 0, 20_000_000, 0, 90_000), *b"YYYnnnnnY"),
-        (sector_at(ORIGIN, 0, 20_000_000, 90_000, 0), *b"YnYYYYYYY"),
-        (
-            sector_at(ORIGIN, 0, 20_000_000, 270_000, 45_000),
-            *b"YYnnnnYYY",
-        ),
-        (
-            sector_at(ORIGIN, 0, 20_000_000, 45_000, 225_000),
-            *b"nnYYYYnnY",
-        ),
-        (
-            sector_at(ORIGIN, 0, 20_000_000, 225_000, 45_000),
-            *b"YYnnnnYYY",
-        ),
-        (
-            sector_at(ORIGIN, 11_000_000, 11_119_492, 123_000, 123_000),
-            *b"YnYnYnYnn",
-        ),
-        (
-            sector_at(ORIGIN, 11_119_493, 20_000_000, 0, 90_000),
-            *b"nYnnnnnnn",
-        ),
-    ];
-    for (part, inside) in &cases {
-        let zone = Zone {
-            centre: vector(ORIGIN),
-            parts: Items::from_vec(vec![in rt.alloc(); *part]?),
-        };
-        expect_inside(&rt, &zone, &around, inside);
+/// The answer to a row of zones.
+pub fn answer(alloc: Global, verb: &str, input: &str) -> Result<String> {
+    match verb {
+        "crossing" => crossed(alloc, input),
+        "side" => side_of(alloc, input),
+        "held" => held(alloc, input),
+        _ => bail!("no verb of zones"),
     }
-    Ok(())
-}
-
-/// A ring about the place to the east, from 1,000 to 2,000 metres.
-fn ring(alloc: Global) -> Result<Zone, AllocError> {
-    Ok(Zone {
-        centre: vector(EAST),
-        parts: Items::from_vec(vec![in alloc; sector_at(EAST, 100_000, 200_000, 0, 0)]?),
-    })
-}
-
-/// The same with a cylinder in its middle.
-fn filled_ring(alloc: Global) -> Result<Zone, AllocError> {
-    let middle = Cylinder {
-        centre: vector(EAST),
-        radius: 99_999,
-    };
-    Ok(Zone {
-        centre: vector(EAST),
-        parts: Items::from_vec(vec![in alloc;
-            sector_at(EAST, 100_000, 200_000, 0, 0),
-            Part::Cylinder(middle),
-        ]?),
-    })
-}
-
-/// Asserts which of some places a zone holds.
-fn expect_held(rt: &impl Abort, zone: &Zone, cases: &[(Grid, bool)]) {
-    for (grid, held) in cases {
-        assert_eq!(rt; holds(zone, vector(*grid)), *held, "{grid:?}");
-    }
-}
-
-#[test]
-fn zones(rt: HostRuntime) -> Result<(), Fail> {
-    let on_the_ring = [
-        (EAST, false),
-        (place(100_000, 6_000_000), true),
-        (place(-100_000, 6_000_000), true),
-        (place(0, 6_100_000), true),
-        (place(0, 5_900_000), true),
-    ];
-    let ring = ring(rt.alloc())?;
-    share(&ring);
-    expect_held(&rt, &ring, &on_the_ring);
-    let in_the_filled = [(EAST, true), (place(0, 6_100_000), true), (ORIGIN, false)];
-    expect_held(&rt, &filled_ring(rt.alloc())?, &in_the_filled);
-    Ok(())
 }

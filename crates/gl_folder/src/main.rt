@@ -1,8 +1,12 @@
 //! A run of the desk of the real system in a real folder, as a test. It says the name, the length
 //! and the SHA-1 digest of each file that the folder has, then what can't be read or appended to,
-//! then what it appended, all files again, and how many more are listed after a thousand are made.
+//! then what it appended, all files again, how many more are listed after a thousand are made, and
+//! what the desk does over systems that fail in places.
 //! The gate runs it in a copy of `data/` and compares what it says with `stdout`.
 #![tactic(auto)]
+
+mod faults;
+mod odd;
 
 use gl_desk::{Desk, DeskError, HostDesk, Name, ReadError, read_all};
 use sha1::Sha1;
@@ -150,5 +154,6 @@ fn main(rt: HostRuntime) -> Result<(), DeskError> {
     copy_longest(alloc, &mut desk, &longest)?;
     append_to_moved(&rt, alloc, &mut desk)?;
     show_all(alloc, &mut desk)?;
-    make_a_thousand(alloc, &mut desk)
+    make_a_thousand(alloc, &mut desk)?;
+    faults::show_all(&rt)
 }

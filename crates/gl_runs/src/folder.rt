@@ -74,12 +74,9 @@ pub fn copy(rt: &HostRuntime, desk: &mut MemDesk, rest: &str) -> Result<()> {
     append(rt.alloc(), desk, name, text.as_str())
 }
 
-/// `change NAME FILE OLD -> NEW` appends what a file of `data/` has, with its first part that is
-/// `OLD` replaced.
-pub fn change(rt: &HostRuntime, desk: &mut MemDesk, rest: &str) -> Result<()> {
-    let (name, rest) = rest.split_once(' ').context("a name")?;
-    let (file, rest) = rest.split_once(' ').context("a file")?;
-    let (old, new) = rest.split_once(" -> ").context("two texts")?;
+/// What a file of `data/` has, with its first part that is `OLD` replaced: `OLD -> NEW`.
+pub fn changed(rt: &HostRuntime, file: &str, change: &str) -> Result<String> {
+    let (old, new) = change.split_once(" -> ").context("two texts")?;
     let old = unescaped(rt.alloc(), old)?;
     let new = unescaped(rt.alloc(), new)?;
     let text = fs::read_to_string(rt, file)?;
@@ -87,8 +84,15 @@ pub fn change(rt: &HostRuntime, desk: &mut MemDesk, rest: &str) -> Result<()> {
         .as_str()
         .split_once(old.as_str())
         .context("no such part")?;
-    let changed = format!(in rt.alloc(); "{before}{new}{after}")?;
-    append(rt.alloc(), desk, name, changed.as_str())
+    Ok(format!(in rt.alloc(); "{before}{new}{after}")?)
+}
+
+/// `change NAME FILE OLD -> NEW` appends what a file of `data/` has, changed so.
+pub fn change(rt: &HostRuntime, desk: &mut MemDesk, rest: &str) -> Result<()> {
+    let (name, rest) = rest.split_once(' ').context("a name")?;
+    let (file, rest) = rest.split_once(' ').context("a file")?;
+    let text = changed(rt, file, rest)?;
+    append(rt.alloc(), desk, name, text.as_str())
 }
 
 /// `times COUNT NAME TEXT` appends the text so many times by one call.
@@ -117,23 +121,19 @@ pub fn seconds(rt: &HostRuntime, desk: &mut MemDesk, rest: &str) -> Result<()> {
     append(rt.alloc(), desk, name, all.as_str())
 }
 
-/// `behind NAME TEXT` says what the file has from the first place on where the text stands.
-pub fn behind(rt: &HostRuntime, desk: &MemDesk, rest: &str) -> Result<()> {
+/// `behind NAME TEXT`: what the file has behind the first place where the text stands.
+pub fn behind(alloc: Global, desk: &MemDesk, rest: &str) -> Result<String> {
     let (name, part) = rest.split_once(' ').context("a name and a text")?;
-    let bytes = desk
-        .file(&Name::from_text(rt.alloc(), name)?)
-        .unwrap_or(b"");
+    let bytes = desk.file(&Name::from_text(alloc, name)?).unwrap_or(b"");
     let text = str::from_utf8(bytes)?;
     let (_, after) = text.split_once(part).context("no such part")?;
-    println!(rt; "{name} from {part}: {after:?}")?;
-    Ok(())
+    Ok(String::from_str(alloc, after)?)
 }
 
-/// `show NAME` says what the file has, if it is there.
-pub fn show(rt: &HostRuntime, desk: &MemDesk, name: &str) -> Result<()> {
-    match desk.file(&Name::from_text(rt.alloc(), name)?) {
-        Some(bytes) => println!(rt; "{name}: {:?}", str::from_utf8(bytes)?)?,
-        None => println!(rt; "{name}: none")?,
+/// `show NAME`: what the file has, or `none`.
+pub fn show(alloc: Global, desk: &MemDesk, name: &str) -> Result<String> {
+    match desk.file(&Name::from_text(alloc, name)?) {
+        Some(bytes) => Ok(String::from_str(alloc, str::from_utf8(bytes)?)?),
+        None => Ok(String::from_str(alloc, "none")?),
     }
-    Ok(())
 }

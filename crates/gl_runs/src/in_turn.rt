@@ -92,7 +92,7 @@ fn failures<Rt: Threads + Wait + Sync>(
         }
     }
     let (status, calls) = (whole.status, whole.calls);
-    Ok(format!(in alloc; "{words}: {status:?}, and each of {calls} calls can fail")?)
+    Ok(format!(in alloc; "{status:?}, and each of {calls} calls can fail")?)
 }
 
 /// How a run ended, and the result and the metres of the entrant with this number.
@@ -142,7 +142,7 @@ fn prefixes<Rt: Threads + Wait + Sync>(
     let (number, words) = rest.split_once(' ').context("a number")?;
     let name = Name::from_text(alloc, name)?;
     let text = text_of(alloc, desk, &name)?;
-    let mut told = String::from_str(alloc, words)?;
+    let mut told = String::new(alloc);
     let mut last = String::new(alloc);
     for length in 0..=text.len() {
         let Some(part) = text.as_str().get(..length) else {
@@ -150,7 +150,7 @@ fn prefixes<Rt: Threads + Wait + Sync>(
         };
         let found = outcome_with(rt, alloc, desk, (&name, part), number, words)?;
         if found.as_str() != last.as_str() {
-            let change = format!(in alloc; "\nfrom {length} bytes on {}", found.as_str())?;
+            let change = format!(in alloc; "from {length} bytes on {}\n", found.as_str())?;
             told.push_str(change.as_str())?;
         }
         last = found;

@@ -134,31 +134,28 @@ fn among(alloc: Global, said: &str, lines: &str) -> Result<String> {
     let rest = format!(in alloc; "\n{fixes}")?;
     let is_line = !fixes.is_empty() && fixes.ends_with('\n');
     let is_right = is_line && lines.as_str().contains(rest.as_str());
-    Ok(format!(in alloc; "{total:?}, right fixes: {is_right}")?)
+    Ok(format!(in alloc; "{total}\nright fixes: {is_right}")?)
 }
 
 /// What a line wants to know of a run.
 fn told(alloc: Global, line: Line<'_>, ended: &Ended) -> Result<String> {
-    let words = line.words();
     let status = ended.status;
     let said = ended.said.as_str();
     let told = match line {
-        Line::Run(_) => format!(in alloc; "{words}: {status:?} {said:?}")?,
+        Line::Run(_) | Line::Bare(_) | Line::Severe(_) => {
+            format!(in alloc; "{status:?}\n{said}")?
+        }
         Line::Count(_) => {
             let calls = ended.calls;
-            format!(in alloc; "{words}: {status:?} {said:?} by {calls} calls")?
-        }
-        Line::Bare(_) => format!(in alloc; "{words} without stewards: {status:?} {said:?}")?,
-        Line::Severe(_) => {
-            format!(in alloc; "{words} with a severe steward: {status:?} {said:?}")?
+            format!(in alloc; "{status:?} by {calls} calls\n{said}")?
         }
         Line::First(_) => {
             let first = said.lines().next().unwrap_or("");
-            format!(in alloc; "{words}: {status:?} {first:?} first")?
+            format!(in alloc; "{status:?}\n{first}")?
         }
         Line::Among(_, lines) => {
             let among = among(alloc, said, lines)?;
-            format!(in alloc; "{words}: {status:?} {among}")?
+            format!(in alloc; "{status:?}\n{among}")?
         }
     };
     Ok(told)

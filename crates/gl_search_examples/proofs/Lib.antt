@@ -1,2 +1,0 @@
-pub mod FreeExamples
-pub mod NearExamples
