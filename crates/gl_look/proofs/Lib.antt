@@ -1,4 +1,5 @@
 pub mod Answered
+pub mod ClosingLemmas
 pub mod CrossingLemmas
 pub mod KeyLemmas
 pub mod Listing

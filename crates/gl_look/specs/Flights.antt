@@ -16,6 +16,7 @@ use Rattle.gl_igc.specs.declared.recording.Recording.{Recording}
 use Rattle.gl_task.specs.declared.task.Entrant.{Entrant}
 use Rattle.gl_task.specs.declared.task.Task.{Task}
 use Rattle.gl_zone.specs.declared.line.Line.{Line}
+use Rattle.gl_look.specs.Closings.{IsLate}
 use Rattle.gl_look.specs.Crossings.{AreCrossed, slip_of_start}
 use Rattle.gl_look.specs.Keys.{told_if}
 use Rattle.gl_look.specs.Sights.{IsSightIn}
@@ -39,14 +40,26 @@ abbrev pub AreCrossedIn : Line → Result Recording IgcError → List (Option �
 AreCrossedIn line (Ok recording) crossed = AreCrossed line recording.fixes crossed
 AreCrossedIn line (Err error) crossed = crossed ≡ []
 
--- what is wrong with a recording, as it was read: it doesn't read, no fix is in the hours, or the
--- start line is crossed, and never in its times
-abbrev pub slip_of_read : Task → Result Recording IgcError → List (Option ℤ)
+-- when a recording, as it was read, comes within the finish too late
+abbrev pub IsLateIn : Task → Result Recording IgcError → Option ℤ → Type 0
+IsLateIn task (Ok recording) late = IsLate task recording late
+IsLateIn task (Err error) late = late ≡ None
+
+-- what is wrong, or else that the task closes before the flight comes within the finish
+abbrev pub or_closed : Option code_slip.Slip → Option ℤ → Option code_slip.Slip
+or_closed (Some other) late = Some other
+or_closed None None = None
+or_closed None (Some time) = Some slip.Closed
+
+-- what is wrong with a recording, as it was read: it doesn't read, no fix is in the hours, the
+-- start line is crossed, and never in its times, or the task closes before the flight comes within
+-- the finish
+abbrev pub slip_of_read : Task → Result Recording IgcError → List (Option ℤ) → Option ℤ
     → Option code_slip.Slip
-slip_of_read task (Ok recording) crossed =
-    if list_any (is_in_hours task.closes) recording.fixes then slip_of_start task.start crossed
-    else Some slip.OutOfHours
-slip_of_read task (Err error) crossed = Some slip.NotRead
+slip_of_read task (Ok recording) crossed late =
+    if list_any (is_in_hours task.closes) recording.fixes
+    then or_closed (slip_of_start task.start crossed) late else Some slip.OutOfHours
+slip_of_read task (Err error) crossed late = Some slip.NotRead
 
 -- a text with a byte-order mark is told as such, whatever else is wrong
 abbrev pub unless_marked : List ℕ → Option code_slip.Slip → Option code_slip.Slip
@@ -59,7 +72,9 @@ pub record IsTextSlip (task : Task) (text : List ℕ) (what : Option code_slip.S
   pub read_is : IsReadAs text (Some task.date) read
   pub crossed : List (Option ℤ)
   pub crossed_are : AreCrossedIn task.start.line read crossed
-  pub is : what ≡ unless_marked text (slip_of_read task read crossed)
+  pub late : Option ℤ
+  pub late_is : IsLateIn task read late
+  pub is : what ≡ unless_marked text (slip_of_read task read crossed late)
 
 -- what is wrong with a recording of which this is seen
 abbrev pub IsSlipOf : Task → code.Sight → Option code_slip.Slip → Type 0

@@ -1,3 +1,4 @@
+pub mod Closings
 pub mod Code
 pub mod Crossings
 pub mod Flights

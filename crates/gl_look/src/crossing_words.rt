@@ -2,7 +2,7 @@ use gl_task::Task;
 use std::alloc::{AllocError, Global};
 
 /// A time of day, as `10:00:05`.
-fn clock(alloc: Global, second: i32) -> Result<String, AllocError> {
+pub fn clock(alloc: Global, second: i32) -> Result<String, AllocError> {
     let second = second.unsigned_abs();
     let hours = second / 3600;
     let minutes = second / 60 % 60;

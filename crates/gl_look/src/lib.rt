@@ -7,6 +7,8 @@
 
 mod airspace;
 mod answer;
+mod closing;
+mod closing_words;
 mod command;
 mod crossing;
 mod crossing_words;

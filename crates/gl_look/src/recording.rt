@@ -3,13 +3,15 @@ ghost use Rattle.std.specs.List.{list_any};
 ghost use Rattle.gl_desk.specs.Answers.{OnlyReads, stop_of};
 ghost use Rattle.gl_desk.specs.Desk.{ListsNames};
 ghost use Rattle.gl_look.specs.Code.Readings.{IsKnown};
-ghost use Rattle.gl_look.specs.Flights.{AddsTold, AreCrossedIn, AreTold, IsFileTold, IsSlipOf, IsTextSlip, has_mark, is_in_hours, slip_of_read, unless_marked};
+ghost use Rattle.gl_look.specs.Flights.{AddsTold, AreCrossedIn, AreTold, IsFileTold, IsLateIn, IsSlipOf, IsTextSlip, has_mark, is_in_hours, or_closed, slip_of_read, unless_marked};
 ghost use Rattle.gl_look.specs.Keys.{told_if};
 ghost use Rattle.gl_look.specs.declared.told.Subject.TheVariants as subject;
 
+use crate::closing::late_finish;
+use crate::closing_words::line_of_closes;
 use crate::crossing::{crossed_in, slip_of_start};
 use crate::folder::about;
-use crate::recording_words::{Found, words_of_recording};
+use crate::recording_words::{Flown, Found, words_of_recording};
 use crate::remarks::Remarks;
 use crate::scan::Scan;
 use crate::sight::{Sight, see};
@@ -41,18 +43,30 @@ fn has_hours(closes: i32, fixes: &[Fix]) -> bool
     fixes.iter().any(|fix| is_in_hours(closes, fix))
 }
 
+/// What is wrong, or else that the task closes before the flight comes within the finish.
+fn or_closed(other: Option<Slip>, late: Option<i32>) -> Option<Slip>
+    ensures { result ≡ or_closed other late }
+{
+    match (other, late) {
+        (Some(slip), _) => Some(slip),
+        (None, Some(_)) => Some(Slip::Closed),
+        (None, None) => None,
+    }
+}
+
 /// What is wrong with a recording, as it was read.
 fn slip_of_read(
     task: &Task,
     read: &Result<Recording, IgcError>,
     crossed: &[Option<i32>],
+    late: Option<i32>,
 ) -> Option<Slip>
-    ensures { result ≡ slip_of_read task.now read.now crossed.now }
+    ensures { result ≡ slip_of_read task.now read.now crossed.now late }
 {
     match read {
         Ok(recording) => {
             if has_hours(task.closes, recording.fixes.as_slice()) {
-                slip_of_start(&task.start, crossed)
+                or_closed(slip_of_start(&task.start, crossed), late)
             } else {
                 Some(Slip::OutOfHours)
             }
@@ -101,9 +115,20 @@ fn crossed_of(
     }
 }
 
+/// When a recording, as it was read, comes within the finish too late.
+fn late_of(alloc: Global, task: &Task, read: &Result<Recording, IgcError>) -> Option<i32>
+    ensures { IsLateIn task.now read.now result }
+{
+    match read {
+        Ok(recording) => late_finish(alloc, task, recording),
+        Err(_) => None,
+    }
+}
+
 /// What is wrong with the bytes of a recording, and the words for it.
 fn look_at_bytes(
     alloc: Global,
+    scan: Scan<'_>,
     task: &Task,
     entrant: &Entrant,
     text: &[u8],
@@ -112,8 +137,14 @@ fn look_at_bytes(
 {
     let read = read_text(alloc, task, text)?;
     let crossed = crossed_of(alloc, task, &read)?;
-    let slip = unless_marked(text, slip_of_read(task, &read, &crossed));
-    let found = Found::Read(&read, &crossed);
+    let late = late_of(alloc, task, &read);
+    let slip = unless_marked(text, slip_of_read(task, &read, &crossed, late));
+    let found = Found::Read(Flown {
+        read: &read,
+        crossed: &crossed,
+        late,
+        line: line_of_closes(scan),
+    });
     let words = words_of_recording(alloc, task, entrant, slip, found)?;
     Ok((slip, words))
 }
@@ -121,6 +152,7 @@ fn look_at_bytes(
 /// What is wrong with a recording of which this is seen, and the words for it.
 fn look_at_sight(
     alloc: Global,
+    scan: Scan<'_>,
     task: &Task,
     names: &[Name],
     entrant: &Entrant,
@@ -139,7 +171,7 @@ fn look_at_sight(
             let words = words_of_recording(alloc, task, entrant, slip, Found::Names(names))?;
             Ok((slip, words))
         }
-        Sight::Bytes(text) => look_at_bytes(alloc, task, entrant, text),
+        Sight::Bytes(text) => look_at_bytes(alloc, scan, task, entrant, text),
     }
 }
 
@@ -181,7 +213,7 @@ fn look_at_recording<D: Desk>(
     ensures reads { OnlyReads (stop_of result) (D.told desk.old) (D.told desk.new) }
 {
     let sight = see(alloc, desk, names, &entrant.file)?;
-    let (slip, words) = look_at_sight(alloc, task, names, entrant, &sight)?;
+    let (slip, words) = look_at_sight(alloc, scan, task, names, entrant, &sight)?;
     push_found(alloc, remarks, scan, entrant, slip, words)?;
     Ok(())
 }

@@ -1,3 +1,4 @@
+use crate::closing_words::words_of_closed;
 use crate::crossing_words::words_of_crossed;
 use crate::folder_words::words_of_missing;
 use crate::told::Slip;
@@ -7,13 +8,23 @@ use gl_task::{Entrant, Task};
 use jiff_core::civil::Date;
 use std::alloc::{AllocError, Global};
 
+/// What was read of a recording, when it crosses the start line, when it comes within the finish too
+/// late, and the line of the task file that says when the task closes.
+#[derive(Clone, Copy, Debug)]
+pub struct Flown<'a> {
+    pub read: &'a Result<Recording, IgcError>,
+    pub crossed: &'a [Option<i32>],
+    pub late: Option<i32>,
+    pub line: Option<usize>,
+}
+
 /// What is known of a recording for the words.
 #[derive(Clone, Copy, Debug)]
 pub enum Found<'a> {
     /// The names of the folder.
     Names(&'a [Name]),
-    /// What was read of it, and when it crosses the start line.
-    Read(&'a Result<Recording, IgcError>, &'a [Option<i32>]),
+    /// What was read of it.
+    Read(Flown<'a>),
 }
 
 /// A day, as `2024-07-01`.
@@ -104,8 +115,13 @@ pub fn words_of_recording(
         (Some(Slip::Mark), _) => format!(in alloc;
             ": his recording {file} begins with a byte-order mark, which none can have. Save it without one, or ask him for the recorder's own file"
         ),
-        (Some(Slip::NoStart), Found::Read(_, crossed)) => words_of_crossed(alloc, task, crossed),
-        (_, Found::Read(read, _)) => words_of_read(alloc, task, file, read),
+        (Some(Slip::NoStart), Found::Read(flown)) => {
+            words_of_crossed(alloc, task, flown.crossed)
+        }
+        (Some(Slip::Closed), Found::Read(flown)) => {
+            words_of_closed(alloc, task, flown.late, flown.line)
+        }
+        (_, Found::Read(flown)) => words_of_read(alloc, task, file, flown.read),
         _ => format!(in alloc;
             ": his recording {file} is refused (REFUSED 7): it has more than 16777216 bytes. Ask him for a recording of this flight alone"
         ),

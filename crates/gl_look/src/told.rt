@@ -64,6 +64,8 @@ pub enum Slip {
     OutOfHours,
     /// The flight crosses the start line, and never in its times.
     NoStart,
+    /// The flight had been to all zones, and comes within the finish soon after the task closes.
+    Closed,
 }
 
 /// What is remarked: what it is about, and what is wrong with it.

@@ -1,9 +1,10 @@
 //! The program: hands the words, the current folder and the standard output to the command that
-//! looks over the folder of a day, and ends with the status of the run as a number.
+//! looks over the folder of a day, or to the one that says why a day is scored as it is, and ends
+//! with the status of the run as a number.
 #![tactic(auto)]
 
 use gl_desk::{HostDesk, Name};
-use gl_look::{Status, run};
+use gl_look::Status;
 use std::alloc::{AllocError, Global};
 use std::env;
 use std::env::Args;
@@ -23,6 +24,14 @@ fn names(alloc: Global, words: Args) -> Result<Vec<Name>, AllocError> {
     Ok(names)
 }
 
+/// Whether the words ask for the reasons of a score.
+fn asks_why(words: &[Name]) -> bool {
+    match words {
+        [word, ..] => word.as_str() == "why",
+        [] => false,
+    }
+}
+
 /// Carries out the words that the system gives.
 fn run_words<Rt: Files + Print + Env + AllocGlobal + Drop>(rt: Rt) -> u8 {
     let alloc = rt.alloc();
@@ -35,7 +44,11 @@ fn run_words<Rt: Files + Print + Env + AllocGlobal + Drop>(rt: Rt) -> u8 {
         return Status::Memory.number();
     };
     let mut desk = HostDesk::new(&rt);
-    run(alloc, &names, &mut desk).number()
+    if asks_why(&names) {
+        gl_why::run(alloc, &names, &mut desk).number()
+    } else {
+        gl_look::run(alloc, &names, &mut desk).number()
+    }
 }
 
 fn main(rt: HostRuntime) -> ExitCode {

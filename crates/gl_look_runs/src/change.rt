@@ -86,8 +86,8 @@ fn folder_with(rt: &HostRuntime, change: &Change<'_>) -> Result<MemDesk> {
 fn is_expected(rt: &HostRuntime, row: &StringRecord) -> Result<bool> {
     let change = Change::of_row(row).context("a row without nine fields")?;
     let mut desk = folder_with(rt, &change)?;
-    let (status, said) = answer(rt.alloc(), &mut desk, change.words)?;
-    let number = format!(in rt.alloc(); "{}", status.number())?;
+    let (number, said) = answer(rt.alloc(), &mut desk, change.words)?;
+    let number = format!(in rt.alloc(); "{number}")?;
     if number.as_str() == change.status && said.as_str() == change.expected {
         return Ok(true);
     }
@@ -106,6 +106,6 @@ pub fn try_all(rt: &HostRuntime) -> Result<()> {
             count = count.saturating_add(1);
         }
     }
-    println!(rt; "{count} days are remarked as expected")?;
+    println!(rt; "{count} days are answered as expected")?;
     Ok(())
 }

@@ -1,7 +1,6 @@
 use anyhow::Result;
 use gl_demo::generated_day;
 use gl_desk::{Desk, MemDesk, Name};
-use gl_look::{Status, run};
 use std::alloc::{AllocError, Global};
 use std::{fs, str};
 
@@ -45,12 +44,28 @@ fn words_of(alloc: Global, text: &str) -> Result<Vec<Name>, AllocError> {
     Ok(words)
 }
 
-/// What the words are answered in a folder: the status, and what is said.
-pub fn answer(alloc: Global, desk: &mut MemDesk, words: &str) -> Result<(Status, String)> {
-    let status = run(alloc, &words_of(alloc, words)?, desk);
-    let said = str::from_utf8(desk.printed())?;
-    Ok((status, String::from_str(alloc, said)?))
+/// The number of the status with which a run ends.
+fn number_of(alloc: Global, desk: &mut MemDesk, words: &str) -> Result<u8> {
+    let names = words_of(alloc, words)?;
+    if words.starts_with("why") {
+        Ok(gl_why::run(alloc, &names, desk).number())
+    } else {
+        Ok(gl_look::run(alloc, &names, desk).number())
+    }
 }
+
+/// What the words are answered in a folder: the number of the status, and what is said.
+pub fn answer(alloc: Global, desk: &mut MemDesk, words: &str) -> Result<(u8, String)> {
+    let number = number_of(alloc, desk, words)?;
+    let said = str::from_utf8(desk.printed())?;
+    Ok((number, String::from_str(alloc, said)?))
+}
+
+/// The number of a run that the desk failed.
+const FAILED: u8 = 3;
+
+/// The number of a run with nothing to remark.
+const CLEAR: u8 = 0;
 
 /// Says how runs over the racing day end in which one call fails, and how many of them said
 /// nothing. The folder is made by four calls, and a run makes one to list it, two for each file that
@@ -58,14 +73,14 @@ pub fn answer(alloc: Global, desk: &mut MemDesk, words: &str) -> Result<(Status,
 pub fn try_failing(rt: &HostRuntime) -> Result<()> {
     let mut failed: u64 = 0;
     let mut silent: u64 = 0;
-    for number in 5u64..LAST {
-        let mut desk = empty(rt.alloc(), number)?;
+    for call in 5u64..LAST {
+        let mut desk = empty(rt.alloc(), call)?;
         for file in files_of("racing-day").split_whitespace() {
             let text = text_of(rt, "racing-day", file)?;
             put(rt.alloc(), &mut desk, file, text.as_str())?;
         }
-        let (status, said) = answer(rt.alloc(), &mut desk, "look-over DAY.TOML")?;
-        if status == Status::Desk {
+        let (number, said) = answer(rt.alloc(), &mut desk, "look-over DAY.TOML")?;
+        if number == FAILED {
             failed = failed.saturating_add(1);
         }
         if said.is_empty() {
@@ -83,14 +98,14 @@ const LAST: u64 = 15;
 /// Says how many of the first generated days have no remark.
 pub fn try_generated(rt: &HostRuntime) -> Result<()> {
     let mut clear: u64 = 0;
-    for number in 1u32..6 {
-        let files = generated_day(rt.alloc(), number)?;
+    for day in 1u32..6 {
+        let files = generated_day(rt.alloc(), day)?;
         let mut desk = MemDesk::new(rt.alloc(), files, Vec::new(rt.alloc()))?;
-        let (status, said) = answer(rt.alloc(), &mut desk, "look-over DAY.TOML")?;
-        if status == Status::Clear && said.is_empty() {
+        let (number, said) = answer(rt.alloc(), &mut desk, "look-over DAY.TOML")?;
+        if number == CLEAR && said.is_empty() {
             clear = clear.saturating_add(1);
         } else {
-            println!(rt; "day {number}: {said}")?;
+            println!(rt; "day {day}: {said}")?;
         }
     }
     println!(rt; "{clear} of 5 generated days have no remark")?;

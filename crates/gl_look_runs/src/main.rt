@@ -1,6 +1,7 @@
-//! Worked examples of `look-over`, as a program: it says which changes of the days in `data/` are
-//! remarked otherwise than `stdin` expects, and then how many runs fail and what the generated days
-//! give. The gate compares what it says with `stdout`. The expected remarks were written by hand.
+//! Worked examples of `look-over` and `why`, as a program: it says which changes of the days in
+//! `data/` are answered otherwise than `stdin` expects, and then how many runs fail and what the
+//! generated days give. The gate compares what it says with `stdout`. The expected answers were
+//! written by hand.
 #![tactic(auto)]
 
 mod change;

@@ -1,0 +1,14 @@
+pub mod Answered
+pub mod CutLemmas
+pub mod EntrantLemmas
+pub mod FineLemmas
+pub mod FlightLemmas
+pub mod FoundLemmas
+pub mod Listing
+pub mod NearestLemmas
+pub mod ProvenLemmas
+pub mod ResultLemmas
+pub mod Numerals
+pub mod StewardLemmas
+pub mod TextLemmas
+pub mod WindowLemmas

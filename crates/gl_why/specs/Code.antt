@@ -1,0 +1,9 @@
+pub mod Days
+pub mod Entrants
+pub mod Fines
+pub mod Lines
+pub mod Nearest
+pub mod Questions
+pub mod Readings
+pub mod Run
+pub mod Scoring
