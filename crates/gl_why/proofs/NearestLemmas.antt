@@ -31,6 +31,7 @@ next_nearest fixes from i to best other after nearest at less =
             | inl lt ↦ (let far : best.distance ≤ distance fix.at to = nearest.least j fix low lt is in omega arith)
             | inr ge ↦ (let far : other.distance ≡ distance fix.at to = far_at fixes i j to other fix at (omega arith) is in omega arith)
           ];
+      first = λ j fix low lt is. (let far : best.distance ≤ distance fix.at to = nearest.least j fix low (omega arith) is in omega arith);
     }
 
 -- it isn't nearer
@@ -48,4 +49,5 @@ still_nearest fixes from i to best other nearest at no_less =
             | inl lt ↦ nearest.least j fix low lt is
             | inr ge ↦ (let far : other.distance ≡ distance fix.at to = far_at fixes i j to other fix at (omega arith) is in omega arith)
           ];
+      first = nearest.first;
     }

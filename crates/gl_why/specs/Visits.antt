@@ -1,5 +1,5 @@
 -- What is told of the visits of the zones, and of the first point of the course that isn't reached.
-use Rattle.std.specs.Prelude.{◌≡◌, ℕ, ◌≤◌, List, [], ◌∷◌, take, slice_get, Some}
+use Rattle.std.specs.Prelude.{◌≡◌, ℕ, ◌≤◌, ◌<◌, List, [], ◌∷◌, take, slice_get, Some}
 use Rattle.gl_goal.specs.Free.{numbers_from}
 use Rattle.gl_igc.specs.declared.fix.Fix.{Fix}
 use Rattle.gl_judge.specs.Choices.{course_point}
@@ -48,6 +48,8 @@ pub record IsNearest (fixes : List Fix) (judged : Stretch) (from : ℕ) (point :
   pub distance_is : miss.distance ≡ distance miss.at.fix.at point
   pub least : (i : ℕ) (fix : Fix) → from ≤ i → IsInRange judged i → slice_get fixes i ≡ Some fix
       → miss.distance ≤ distance fix.at point
+  pub first : (i : ℕ) (fix : Fix) → from ≤ i → i < miss.at.number → slice_get fixes i ≡ Some fix
+      → miss.distance < distance fix.at point
 
 -- a point of the course isn't reached, and this is told of it
 pub record IsMissTold (task : Task) (fixes : List Fix) (judged : Stretch) (from number : ℕ)

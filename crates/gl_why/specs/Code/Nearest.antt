@@ -12,7 +12,7 @@ pub record IsMissAt (fixes : List Fix) (i : ℕ) (point : Vec3) (miss : Miss) : 
   pub spot : IsSpot fixes miss.at
   pub distance_is : miss.distance ≡ distance miss.at.fix.at point
 
--- of the fixes from one on and before another this is the nearest to a point
+-- of the fixes from one on and before another this is the first one that is the nearest to a point
 pub record IsNearestBefore (fixes : List Fix) (from behind : ℕ) (point : Vec3) (miss : Miss)
     : Type 0 where
   pub spot : IsSpot fixes miss.at
@@ -21,3 +21,5 @@ pub record IsNearestBefore (fixes : List Fix) (from behind : ℕ) (point : Vec3)
   pub distance_is : miss.distance ≡ distance miss.at.fix.at point
   pub least : (i : ℕ) (fix : Fix) → from ≤ i → i < behind → slice_get fixes i ≡ Some fix
       → miss.distance ≤ distance fix.at point
+  pub first : (i : ℕ) (fix : Fix) → from ≤ i → i < miss.at.number → slice_get fixes i ≡ Some fix
+      → miss.distance < distance fix.at point
