@@ -5,7 +5,7 @@ use Rattle.std.specs.Fmt.{decimal}
 use Rattle.std.specs.Int.{IsInRange}
 use Rattle.std.specs.Str.Parse.{AllDigits, digits_value}
 use Rattle.std.proofs.lemmas.Fmt.{digits_decimal, digits_value-decimal, decimal_digit, decimal_step, decimal_nonempty, first_decimal, decimal-digits_value, length-decimal-le}
-use Rattle.std.proofs.lemmas.List.{drop-set, length_push, replicate_more, take_rest, take_at, drop_at}
+use Rattle.std.proofs.lemmas.List.{drop-set, length-set, length_push, replicate_more, take_rest, take_at, drop_at}
 use Rattle.std.proofs.lemmas.Str.Parse.{IsNumeralModel, numerals_by_value, tells_digits, digit_at, digits_value-take-le}
 use Rattle.std.proofs.lemmas.Str.{digit_value_digit}
 use Rattle.std.proofs.lemmas.Bool.{cases_lt}
@@ -72,12 +72,40 @@ put_digit n at buffer long small some within =
     let inside : at - 1 < length buffer = omega arith in
     rw (drop-set, back, decimal_step n long small, append_assoc)
 
+-- the last two digits, put so
+pub put_two_digits : (n at : ℕ) (buffer : List ℕ) → 100 ≤ n → n < 2 ^ 64 → 2 ≤ at → at ≤ length buffer
+    → decimal (n / 100) ++ drop (at - 2) (set (set buffer (at - 1) (48 + n % 100 % 10)) (at - 2) (48 + n % 100 / 10)) ≡ decimal n ++ drop at buffer
+put_two_digits n at buffer long small some within =
+    let one = set buffer (at - 1) (48 + n % 10) in
+    let back : at - 2 ≡ at - 1 - 1 = omega arith in
+    let whole : n / 100 ≡ n / 10 / 10 = omega arith in
+    let ones : n % 100 % 10 ≡ n % 10 = omega arith in
+    let tens : n % 100 / 10 ≡ n / 10 % 10 = omega arith in
+    rw (back, whole, ones, tens)
+    (put_digit (n / 10) (at - 1) one (omega arith) (omega arith) (omega arith) (omega (arith, length-set buffer (at - 1) (48 + n % 10))) ∙ put_digit n at buffer (omega arith) small (omega arith) within)
+
+pub two_longer : (n : ℕ) → 100 ≤ n → n < 2 ^ 64 → length (decimal n) ≡ length (decimal (n / 100)) + 2
+two_longer n long small =
+    let whole : n / 100 ≡ n / 10 / 10 = omega arith in
+    omega (arith, decimal_longer n (omega arith) small, decimal_longer (n / 10) (omega arith) (omega arith), ap (λ (k : ℕ). length (decimal k)) whole)
+
 -- the first digit, put likewise
 pub put_first_digit : (n at : ℕ) (buffer : List ℕ) → n < 10 → 1 ≤ at → at ≤ length buffer → drop (at - 1) (set buffer (at - 1) (48 + n)) ≡ decimal n ++ drop at buffer
 put_first_digit n at buffer short some within =
     let back : at - 1 + 1 ≡ at = omega arith in
     let inside : at - 1 < length buffer = omega arith in
     rw (drop-set, back, decimal_digit n short)
+
+-- both digits of a number that has two
+pub put_both_digits : (n at : ℕ) (buffer : List ℕ) → 10 ≤ n → n < 100 → 2 ≤ at → at ≤ length buffer
+    → drop (at - 2) (set (set buffer (at - 1) (48 + n % 10)) (at - 2) (48 + n / 10)) ≡ decimal n ++ drop at buffer
+put_both_digits n at buffer long short some within =
+    let one = set buffer (at - 1) (48 + n % 10) in
+    let back : at - 2 ≡ at - 1 - 1 = omega arith in
+    rw (back) (put_first_digit (n / 10) (at - 1) one (omega arith) (omega arith) (omega (arith, length-set buffer (at - 1) (48 + n % 10))) ∙ put_digit n at buffer long (omega arith) (omega arith) within)
+
+pub length_two : (n : ℕ) → 10 ≤ n → n < 100 → length (decimal n) ≡ 2
+length_two n long short = omega (arith, decimal_longer n long (omega arith), length_one (n / 10) (omega arith))
 
 -- a number of 64 bits has 20 digits at most
 pub length_decimal : (n : ℕ) → n < 2 ^ 64 → length (decimal n) ≤ 20

@@ -42,6 +42,25 @@ pub fn read_u64(text: &[u8]) -> Option<u64>
     Some(number)
 }
 
+/// Writes the one or two digits of a number below 100 so that they end before the place `end`, and
+/// answers where they begin.
+#[inline]
+fn write_first_digits(buffer: &mut [u8], end: usize, n: u64) -> usize
+    requires small { n < 100 }
+    requires room { length (decimal n) ≤ end }
+    requires within { end ≤ length buffer.old }
+    ensures start { result + length (decimal n) ≡ end }
+    ensures written { drop result buffer.new ≡ decimal n ++ drop end buffer.old }
+{
+    if n < 10 {
+        buffer[end - 1] = b'0' + n as u8;
+        return end - 1;
+    }
+    buffer[end - 1] = b'0' + (n % 10) as u8;
+    buffer[end - 2] = b'0' + (n / 10) as u8;
+    end - 2
+}
+
 /// Writes the digits of `n` so that they end before the place `end`, and answers where they begin.
 #[inline]
 pub fn write_digits(buffer: &mut [u8], end: usize, n: u64) -> usize
@@ -52,14 +71,14 @@ pub fn write_digits(buffer: &mut [u8], end: usize, n: u64) -> usize
 {
     let mut at = end;
     let mut rest = n;
-    while rest >= 10 {
-        at -= 1;
-        buffer[at] = b'0' + (rest % 10) as u8;
-        rest /= 10;
+    while rest >= 100 {
+        let two = (rest % 100) as u8;
+        buffer[at - 1] = b'0' + two % 10;
+        buffer[at - 2] = b'0' + two / 10;
+        at -= 2;
+        rest /= 100;
     }
-    at -= 1;
-    buffer[at] = b'0' + rest as u8;
-    at
+    write_first_digits(buffer, at, rest)
 }
 
 /// Writes the last `count` digits of `n` at the end of the buffer, zeros where it has fewer, and

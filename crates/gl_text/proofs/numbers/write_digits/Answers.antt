@@ -1,36 +1,32 @@
-use Rattle.std.proofs.Common.{◌∙◌, arith}
-use Rattle.std.proofs.lemmas.Fmt.{decimal_nonempty}
-use Rattle.gl_text.proofs.NumberLemmas.{decimal_longer, length_one, put_digit, put_first_digit}
+use Rattle.std.proofs.Common.{◌%◌, ◌-◌, ◌+◌, ◌∙◌, arith}
+use Rattle.std.proofs.lemmas.List.{length-set}
+use Rattle.gl_text.proofs.NumberLemmas.{put_two_digits, two_longer}
 use Rattle.gl_text.proofs.numbers.write_digits.Goals as goal
 
-pub overflow_sub-at : goal.overflow_sub-at
-overflow_sub-at c = omega (arith, decimal_nonempty c.loop-rest.rest (omega arith))
+pub overflow_sub-buffer : goal.overflow_sub-buffer
+overflow_sub-buffer c = omega (arith, two_longer c.loop-rest.rest c.loop-rest-test.true (omega arith))
 
 pub bounds-buffer-at : goal.bounds-buffer-at
-bounds-buffer-at c = omega (arith, decimal_nonempty c.loop-rest.rest (omega arith))
+bounds-buffer-at c = omega (arith, two_longer c.loop-rest.rest c.loop-rest-test.true (omega arith))
+
+pub overflow_sub-buffer-in-loop-rest : goal.overflow_sub-buffer-in-loop-rest
+overflow_sub-buffer-in-loop-rest c = omega (arith, two_longer c.loop-rest.rest c.loop-rest-test.true (omega arith))
+
+pub bounds-buffer-at-in-loop-rest : goal.bounds-buffer-at-in-loop-rest
+bounds-buffer-at-in-loop-rest c =
+    let l = c.loop-rest in
+    omega (arith, two_longer l.rest c.loop-rest-test.true (omega arith), length-set l.buffer (l.at - 1) (48 + l.rest % 100 % 10))
+
+pub overflow_sub-at : goal.overflow_sub-at
+overflow_sub-at c = omega (arith, two_longer c.loop-rest.rest c.loop-rest-test.true (omega arith))
 
 pub loop-rest-preserved : goal.loop-rest-preserved
 loop-rest-preserved c =
     let l = c.loop-rest in
-    let longer = decimal_longer l.rest c.loop-rest-test.true (omega arith) in
+    let longer = two_longer l.rest c.loop-rest-test.true (omega arith) in
     record {
       room = omega arith;
       within = omega arith;
       placed = omega arith;
-      written = put_digit l.rest l.at l.buffer c.loop-rest-test.true (omega arith) (omega arith) (omega arith) ∙ l.invariant.written;
+      written = put_two_digits l.rest l.at l.buffer c.loop-rest-test.true (omega arith) (omega arith) (omega arith) ∙ l.invariant.written;
     }
-
-pub overflow_sub-at-2 : goal.overflow_sub-at-2
-overflow_sub-at-2 c = omega (arith, decimal_nonempty c.loop-rest.rest (omega arith))
-
-pub bounds-buffer-at-2 : goal.bounds-buffer-at-2
-bounds-buffer-at-2 c = omega (arith, decimal_nonempty c.loop-rest.rest (omega arith))
-
-pub returns-clause-start : goal.returns-clause-start
-returns-clause-start c = omega (arith, length_one c.loop-rest.rest (omega arith))
-
-pub returns-clause-written : goal.returns-clause-written
-returns-clause-written c =
-    let l = c.loop-rest in
-    let one = length_one l.rest (omega arith) in
-    put_first_digit l.rest l.at l.buffer (omega arith) (omega arith) (omega arith) ∙ l.invariant.written
