@@ -2,7 +2,7 @@
 use Rattle.std.proofs.Common.{◌≡◌, ◌∙◌, sym, ap, refl, subst, ℕ, ◌+◌, ◌/◌, ◌<◌, ◌≤◌, ◌⊎◌, inl, inr, List, [], ◌∷◌, ◌++◌, length, get_or, take, drop, map, reverse, slice_set, append_assoc, arith}
 use Rattle.std.specs.Prelude.{◌↔◌}
 use Rattle.std.proofs.lemmas.Bool.{cases_order}
-use Rattle.std.proofs.lemmas.List.{append-nil, get_or_at, length-append, length-drop, length-map, length-reverse, map-append, reverse-append, take-append-drop}
+use Rattle.std.proofs.lemmas.List.{append-nil, get_or_at, length-append, length-drop, map-append, reverse-append, take-append-drop}
 use Rattle.gl_box.specs.declared.cell.Cell.{Cell}
 use Rattle.gl_box.specs.Cell.{Covers, spans_of}
 use Rattle.gl_box.specs.Halves.{AreHalves, IsWidest, span_at}
@@ -261,6 +261,3 @@ covers_begun whole cell passed begins =
     let read : get_or cells (length passed) [] ≡ cell = ap (λ (l : List (List (ℕ × ℕ))). get_or l (length passed) []) regroup ∙ get_or_at passed cell begins.0 [] (length passed) refl in
     let inside : length passed < length cells = omega (arith, ap length regroup, length-append passed (cell ∷ begins.0)) in
     covers_node whole cell (subst (IsNode whole) read (member_node whole cells (length passed) begins.1 inside))
-
-pub length-open_cells : (cells : List Cell) → length (open_cells cells) ≡ length cells
-length-open_cells cells = length-reverse (map spans_of cells) ∙ length-map cells spans_of

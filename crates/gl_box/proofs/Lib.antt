@@ -9,3 +9,4 @@ pub mod Exact
 pub mod Frontiers
 pub mod Passed
 pub mod Turns
+pub mod Ways

@@ -1,26 +1,27 @@
 -- What is known of boxes that come one after the other.
 use Rattle.std.proofs.Common.{◌≡◌, ◌∙◌, sym, ap, refl, subst, ℕ, ◌+◌, ◌<◌, List, [], ◌∷◌, ◌++◌, length, get_or, map, take, arith, below_more}
-use Rattle.std.specs.Prelude.{◌↔◌, IsTrue, MatchOption, Option, None, Some, false, is_some, min}
+use Rattle.std.specs.Prelude.{◌↔◌, IsTrue, Bool, MatchOption, Option, None, Some, true, false, is_some, min}
 use Rattle.std.specs.List.{HoldsAt}
 use Rattle.std.proofs.lemmas.Bool.{false≢true}
 use Rattle.std.proofs.Math.ListN.{get_or-append}
 use Rattle.std.proofs.Math.Seq.{get_or-append_seam, take-append-add, take-append_seam}
-use Rattle.std.proofs.lemmas.List.{append-nil, append_assoc, get_or-map, length-append, length-map, map-append, nil_from_length, take-append-le, take_all, take_more}
-use Rattle.gl_box.specs.declared.cell.Cell.{Cell}
-use Rattle.gl_box.specs.Cell.{Covers}
+use Rattle.std.proofs.lemmas.List.{append-nil, append_assoc, get_or-map, length-append, length-map, map-append, take-append-le, take_all, take_more}
+use Rattle.gl_box.specs.declared.way.OpenCells.{OpenCells}
+use Rattle.gl_box.specs.Cell.{Covers, spans_of}
+use Rattle.gl_box.specs.Way.{before_if, open_of, open_on}
 use Rattle.gl_box.specs.Boxes.{AreRight, AreWhole, BeginWhole, Begins, IsFirst, IsPlaced, IsRight, NumbersBox}
 use Rattle.gl_box.specs.Frontier.{IsFrontier}
 use Rattle.gl_box.specs.declared.checking.Said.{Said}
 use Rattle.gl_box.specs.declared.checking.Said.TheVariants.{NoneWrong, ExtraBox, StrayBox, UnclosedBox, Unfinished}
 use Rattle.gl_box.specs.Passing.{ArePassed, AreSaid, HasSaid, IsCovered, IsPassing, cells_of}
 use Rattle.gl_box.specs.Walk.{AreFrontiers, IsWalked, open_cells}
-use Rattle.gl_box.proofs.Frontiers.{covers_begun, length-open_cells, walked_begins, walked_on, walked_open, walked_out, walked_start, walked_whole}
+use Rattle.gl_box.proofs.Frontiers.{covers_begun, walked_begins, walked_on, walked_open, walked_out, walked_start, walked_whole}
 
-pub no_cell : (cells : List Cell) → length cells ≡ 0 → open_cells cells ≡ []
-no_cell cells none = ap open_cells (nil_from_length cells none)
-
-pub some_cell : (cells : List Cell) → (length cells ≡ 0 → ⊥) → open_cells cells ≡ [] → ⊥
-some_cell cells some none = some (sym (length-open_cells cells) ∙ ap length none)
+-- a cell is open where the first one is
+pub some_open : (cells : OpenCells) → cells.is_open ≡ true → open_of cells ≡ [] → ⊥
+some_open cells is_open none =
+    let rest = open_on (spans_of cells.first) cells.way.items ++ open_cells cells.others.items in
+    omega (arith, ap length (sym (ap (λ (b : Bool). before_if b (spans_of cells.first) rest) is_open) ∙ none))
 
 -- a cell that stands where it must stands there whatever follows
 placed_more : (whole : List (ℕ × ℕ)) (cells more : List (List (ℕ × ℕ))) (place : ℕ) → place < length cells → IsPlaced whole cells place → IsPlaced whole (cells ++ more) place

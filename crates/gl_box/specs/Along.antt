@@ -7,6 +7,7 @@ use Rattle.gl_box.specs.Cell.{spans_of}
 use Rattle.gl_box.specs.Halves.{AreHalves, IsSingle}
 use Rattle.gl_box.specs.Turns.{boxes_from}
 use Rattle.gl_box.specs.Walk.{open_cells}
+use Rattle.gl_box.specs.Way.{open_of}
 
 -- the boxes of a walk
 abbrev pub boxes_along : {T W : Type 0} → (T → Option W) → Walk T → List (List (ℕ × ℕ) × W)
@@ -16,7 +17,7 @@ boxes_along reason walk =
 -- the boxes of a walk that are still to come
 abbrev pub boxes_left : {T W : Type 0} → (T → Option W) → WalkBoxes T → List (List (ℕ × ℕ) × W)
 boxes_left reason boxes =
-    boxes_from (open_cells boxes.opened.items) (map reason boxes.turns.now)
+    boxes_from (open_of boxes.opened) (map reason boxes.turns.now)
 
 -- the last open cell was closed by a reason
 pub record Closes {W : Type 0} (cell : Cell) (before after : List Cell)
@@ -24,7 +25,14 @@ pub record Closes {W : Type 0} (cell : Cell) (before after : List Cell)
   pub top : before ≡ after ++ cell ∷ []
   pub turn : turns_after ≡ turns_before ++ Some why ∷ []
 
--- it gave way to its halves, the lower one last
+-- a cell behind others gave way to its halves, the lower one last
+pub record IsCut (cell : Cell) (rest after : List Cell) : Type 0 where
+  pub lower : Cell
+  pub upper : Cell
+  pub cut : after ≡ (rest ++ upper ∷ []) ++ lower ∷ []
+  pub halves : AreHalves (spans_of cell) (spans_of lower) (spans_of upper)
+
+-- so did the last open cell
 pub record Cuts {W : Type 0} (cell : Cell) (before after : List Cell)
     (turns_before turns_after : List (Option W)) : Type 0 where
   pub rest : List Cell

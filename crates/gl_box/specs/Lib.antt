@@ -7,5 +7,6 @@ pub mod Boxes
 pub mod InLists
 pub mod Walk
 pub mod Turns
+pub mod Way
 pub mod Along
 pub mod Passing

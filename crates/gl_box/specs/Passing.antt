@@ -1,8 +1,9 @@
 -- What is known of boxes of which more may come.
-use Rattle.std.specs.Prelude.{ℕ, List, [], ◌∷◌, ◌++◌, length, map, Option, None, Some}
+use Rattle.std.specs.Prelude.{◌≡◌, ℕ, List, [], ◌∷◌, ◌++◌, length, map, Option, None, Some}
 use Rattle.std.specs.List.{HoldsAt}
 use Rattle.gl_box.specs.Boxes.{AreRight, IsSaid, NumbersBox}
-use Rattle.gl_box.specs.Walk.{IsWalked, open_cells}
+use Rattle.gl_box.specs.Walk.{IsWalked}
+use Rattle.gl_box.specs.Way.{HasCome, open_of}
 use Rattle.gl_box.specs.declared.checking.BoxCheck.{BoxCheck}
 use Rattle.gl_box.specs.declared.checking.Said.{Said}
 
@@ -48,5 +49,6 @@ pub record IsChecking {T R W : Type 0} (whole_of : T → List (ℕ × ℕ))
     (Closes : T → List (ℕ × ℕ) × W → Type 0) (IsRoom : T → R → Type 0)
     (boxes : List (List (ℕ × ℕ) × W)) (check : BoxCheck T R) : Type 0 where
   pub passing : IsPassing (whole_of check.test) (Closes check.test) boxes
-      (open_cells check.opened.items) check.number check.wrong
+      (open_of check.opened) check.number check.wrong
+  pub come : check.wrong ≡ None → HasCome check.opened
   pub is_room : IsRoom check.test check.room

@@ -29,7 +29,8 @@ impl Walk<GoalTurn> {
     {
         let mut list = Vec::new(alloc);
         let mut boxes = self.boxes(alloc)?;
-        'boxes: while let Some((cell, why)) = boxes.next()? {
+        'boxes: while let Some(why) = boxes.next()? {
+            let cell = boxes.opened.first;
             list.push(Closed { cell, why })?;
         }
         Ok(list)
@@ -93,7 +94,10 @@ impl<'a> BoxesLeft<'a> {
     {
         match self {
             BoxesLeft::Walked(boxes) => match boxes.next()? {
-                Some((cell, why)) => Ok(Some(Closed { cell, why })),
+                Some(why) => Ok(Some(Closed {
+                    cell: boxes.opened.first,
+                    why,
+                })),
                 None => Ok(None),
             },
             BoxesLeft::Listed(list) => match list.split_first() {

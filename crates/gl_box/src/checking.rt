@@ -1,10 +1,10 @@
-ghost use Rattle.std.specs.Prelude.{◌≡◌, ◌∷◌, ◌++◌, ◌↔◌, ℕ, List, [], IfOk, IsTrue, MatchOption, OnOk};
+ghost use Rattle.std.specs.Prelude.{◌≡◌, ◌∷◌, ◌++◌, ◌↔◌, ℕ, List, [], IfOk, IsTrue, MatchOption, None, OnOk};
 ghost use Rattle.gl_box.specs.Cell.{Covers, spans_of};
 ghost use Rattle.gl_box.specs.Passing.{ArePassed, AreSaid, HasSaid, IsChecking, IsCovered};
-ghost use Rattle.gl_box.specs.Walk.{open_cells};
+ghost use Rattle.gl_box.specs.Way.{HasCome, open_of};
 
 use crate::cell::Cell;
-use crate::walk::{OPEN_ROOM, go_down};
+use crate::way::OpenCells;
 use std::alloc::{AllocError, Global};
 
 /// A test of boxes: whether each is closed by its reason.
@@ -54,8 +54,8 @@ pub enum Said {
 pub struct BoxCheck<T, R> {
     pub test: T,
     pub room: R,
-    /// The cells that are still open, the first one last.
-    pub opened: Vec<Cell>,
+    /// The cells that are still open.
+    pub opened: OpenCells,
     /// The number of the next box.
     pub number: u32,
     /// The first thing that is wrong.
@@ -75,12 +75,10 @@ impl<T: BoxTest + Drop> BoxCheck<T, T::Room> {
         ensures begins { IfOk result (IsChecking T.whole T.closes T.is_room []) }
         ensures test { IfOk result (λ check. check.test ≡ test) }
     {
-        let mut opened = Vec::with_capacity(alloc, OPEN_ROOM)?;
-        opened.push(whole)?;
         Ok(BoxCheck {
             test,
             room,
-            opened,
+            opened: OpenCells::of(alloc, whole)?,
             number: 1,
             wrong: None,
         })
@@ -91,25 +89,27 @@ impl<T: BoxTest + Drop> BoxCheck<T, T::Room> {
     fn fault_of(&mut self, cell: &Cell, why: T::Why) -> Result<Option<Said>, AllocError>
         requires passed { (boxes : List (List (ℕ × ℕ) × T.Why))
             × ArePassed (T.whole self.old.test) (T.closes self.old.test) boxes
-            (open_cells self.old.opened.items) self.old.number }
+            (open_of self.old.opened) self.old.number }
         requires room { T.is_room self.old.test self.old.room }
+        requires come { HasCome self.old.opened }
         ensures fault { IfOk result (λ fault. (boxes : List (List (ℕ × ℕ) × T.Why))
             → ArePassed (T.whole self.old.test) (T.closes self.old.test) boxes
-            (open_cells self.old.opened.items) self.old.number
+            (open_of self.old.opened) self.old.number
             → MatchOption fault
             (IsCovered (T.whole self.old.test) (T.closes self.old.test) boxes
-            (spans_of cell.now, why) (open_cells self.new.opened.items))
+            (spans_of cell.now, why) (open_of self.new.opened))
             (HasSaid (T.whole self.old.test) (T.closes self.old.test)
             (boxes ++ (spans_of cell.now, why) ∷ []))) }
         ensures room { OnOk result (T.is_room self.new.test self.new.room) }
+        ensures come { IfOk result (λ fault. fault ≡ None → HasCome self.new.opened) }
         ensures test { self.new.test ≡ self.old.test }
         ensures number { self.new.number ≡ self.old.number }
         ensures wrong { self.new.wrong ≡ self.old.wrong }
     {
-        if self.opened.is_empty() {
+        if !self.opened.is_open {
             return Ok(Some(Said::ExtraBox(self.number)));
         }
-        if !go_down(&mut self.opened, cell)? {
+        if !self.opened.take(cell)? {
             return Ok(Some(Said::StrayBox(self.number)));
         }
         if !self.test.is_closed(&mut self.room, cell, why) {
@@ -147,10 +147,10 @@ impl<T: BoxTest + Drop> BoxCheck<T, T::Room> {
         if let Some(said) = self.wrong {
             return said;
         }
-        if self.opened.is_empty() {
-            Said::NoneWrong
-        } else {
+        if self.opened.is_open {
             Said::Unfinished
+        } else {
+            Said::NoneWrong
         }
     }
 }

@@ -1,14 +1,37 @@
-ghost use Rattle.std.specs.Prelude.{◌≡◌, [], ◌∷◌, ◌++◌, ℕ, List, None, false, map, replicate, IfOk, IsTrue};
+ghost use Rattle.std.specs.Prelude.{◌≡◌, ◌<◌, [], ◌∷◌, ◌++◌, ℕ, List, None, false, map, replicate, vec_len, IfOk, IsTrue, MatchBool};
 ghost use Rattle.gl_box.specs.declared.cell.Cell.{Cell};
 ghost use Rattle.gl_box.specs.Cell.{spans_of};
-ghost use Rattle.gl_box.specs.Along.{Settles};
+ghost use Rattle.gl_box.specs.Along.{IsCut, Settles};
+ghost use Rattle.gl_box.specs.Halves.{IsSingle};
 ghost use Rattle.gl_box.specs.Walk.{AreFrontiers, ComesTo, open_cells};
 
 use crate::cell::Cell;
-use crate::halves::halve;
+use crate::room::append;
 use crate::turn::Turn;
 use crate::walk::cuts_to;
+use crate::way::{lower, put};
 use std::alloc::AllocError;
+
+/// Cuts the last cell of a list: it gives way to its halves, the lower one last. Answers whether it
+/// could be cut: a single tuple stays as it is. The only error is want of memory.
+#[inline]
+fn cut_last(cells: &mut Vec<Cell>) -> Result<bool, AllocError>
+    requires { 0 < vec_len cells.old }
+    ensures { IfOk result (λ cut. (rest : List Cell) (cell : Cell)
+        → cells.old.items ≡ rest ++ cell ∷ []
+        → MatchBool cut (IsCut cell rest cells.new.items)
+        (IsSingle (spans_of cell) × (cells.new.items ≡ cells.old.items))) }
+{
+    let top = cells.len() - 1;
+    let cell = cells[top];
+    append(cells, cell)?;
+    let Some(fork) = lower(&mut cells[top + 1]) else {
+        cells.pop();
+        return Ok(false);
+    };
+    put(&mut cells[top], fork.axis, fork.upper());
+    Ok(true)
+}
 
 /// Settles the first open cell, the last of the list. By a reason, if there is one, it is closed.
 /// Otherwise it gives way to its halves, the lower one last; a single tuple can't be cut, and is
@@ -24,19 +47,18 @@ pub fn settle<T: Turn>(
         → Settles cell opened.old.items opened.new.items
         (map T.reason turns.old.items) (map T.reason turns.new.items) why single) }
 {
-    let Some(mut first) = opened.pop() else {
-        return Ok(None);
-    };
-    if let Some(why) = why {
-        turns.push(T::close(why))?;
+    if opened.is_empty() {
         return Ok(None);
     }
-    let Some(lower) = halve(&mut first) else {
-        return Ok(Some(first));
-    };
-    opened.push(first)?;
-    opened.push(lower)?;
-    turns.push(T::cut())?;
+    if let Some(why) = why {
+        opened.pop();
+        append(turns, T::close(why))?;
+        return Ok(None);
+    }
+    if !cut_last(opened)? {
+        return Ok(opened.pop());
+    }
+    append(turns, T::cut())?;
     Ok(None)
 }
 

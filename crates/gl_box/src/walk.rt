@@ -6,6 +6,7 @@ ghost use Rattle.gl_box.specs.Walk.{AreFrontiers, ComesTo, open_cells};
 use crate::cell::Cell;
 use crate::cut::halve_at;
 use crate::halves::widest;
+use crate::room::append;
 use std::alloc::AllocError;
 
 /// Room for open cells: each cut adds one, and a cell can be cut at most 32 times on each axis.
@@ -26,7 +27,7 @@ fn is_same_at(cell: &Cell, other: &Cell, axis: usize) -> bool
 
 /// Whether two cells have the same axes and spans.
 #[inline]
-fn is_same(cell: &Cell, other: &Cell) -> bool
+pub(crate) fn is_same(cell: &Cell, other: &Cell) -> bool
     ensures { IsTrue result ↔ (spans_of cell.now ≡ spans_of other.now) }
 {
     if cell.axes != other.axes {
@@ -66,7 +67,7 @@ pub fn cuts_to(opened: &mut Vec<Cell>, cell: &Cell) -> Result<Option<usize>, All
         if cell.spans[axis].hi > first.spans[axis].hi {
             return Ok(None);
         }
-        opened.push(upper)?;
+        append(opened, upper)?;
     }
     Ok(Some(opened.len() - others))
 }

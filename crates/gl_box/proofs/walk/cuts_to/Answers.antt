@@ -1,29 +1,15 @@
-use Rattle.std.proofs.Common.{◌≡◌, ◌∙◌, sym, ap, subst, ℕ, suc, ◌-◌, ◌<◌, List, [], ◌∷◌, length, get_or, arith}
+use Rattle.std.proofs.Common.{◌≡◌, ◌∙◌, sym, ap, subst, ℕ, suc, ◌-◌, ◌<◌, List, [], ◌∷◌, length, arith}
 use Rattle.std.specs.Prelude.{◌↔◌}
 use Rattle.std.proofs.lemmas.Bool.{false≢true}
 use Rattle.std.proofs.lemmas.List.{length-append, length-set}
-use Rattle.gl_box.specs.declared.cell.Cell.{Cell}
-use Rattle.gl_box.specs.declared.span.Span.{Span}
-use Rattle.gl_box.specs.Cell.{Covers, spans_of}
+use Rattle.gl_box.specs.Cell.{spans_of}
 use Rattle.gl_box.proofs.Nodes.{spread-lower}
-use Rattle.gl_box.proofs.Held.{covers_at, length-covers}
-use Rattle.gl_box.proofs.Spans.{length-spans_of, span_at-spans_of}
+use Rattle.gl_box.proofs.Ways.{beyond}
 use Rattle.gl_box.specs.Turns.{when_cut}
 use Rattle.gl_box.specs.Walk.{AreFrontiers, cuts_of, open_cells}
 use Rattle.gl_box.proofs.Turns.{cut_open}
 use Rattle.gl_box.proofs.Frontiers.{first_covered, halved_on, open_push, passed_on, through}
 use Rattle.gl_box.proofs.walk.cuts_to.Goals as goal
-
--- a cell that reaches beyond another on an axis doesn't lie in it
-beyond : (low next : Cell) (axis : ℕ) (a b : Span) → axis < length (spans_of low) → Covers (spans_of low) (spans_of next) → (get_or low.spans axis a).hi < (get_or next.spans axis b).hi → ⊥
-beyond low next axis a b inside covers above =
-    let same = length-covers (spans_of low) (spans_of next) covers in
-    let one : axis < low.axes = omega (arith, length-spans_of low) in
-    let other : axis < next.axes = omega (arith, same, length-spans_of next) in
-    let within = covers_at (spans_of low) (spans_of next) axis covers inside in
-    let mine = ap (λ (s : ℕ × ℕ). s.1) (span_at-spans_of low axis a one) in
-    let its = ap (λ (s : ℕ × ℕ). s.1) (span_at-spans_of next axis b other) in
-    omega (arith, within.1, mine, its, above)
 
 pub halves-smaller : goal.halves-smaller
 halves-smaller c = spread-lower (spans_of c.halves.first) (spans_of c.halve_at.new.cell) (spans_of c.in-Some-halve_at.upper) c.in-Some-halve_at.ensures.halves
@@ -36,7 +22,7 @@ halves-preserved c =
     let next = spans_of c.args.cell.now in
     let others = open_cells c.halves.opened.items in
     let before = c.halves.invariant.cuts in
-    let opened : open_cells c.push.new.self.items ≡ upper ∷ others = ap open_cells c.in_ok-push.ensures.items ∙ open_push c.halves.opened.items c.in-Some-halve_at.upper in
+    let opened : open_cells c.append.new.list.items ≡ upper ∷ others = ap open_cells c.in_ok-append.ensures ∙ open_push c.halves.opened.items c.in-Some-halve_at.upper in
     let apart : first ≡ next → ⊥ = λ same. false≢true (sym c.halves-test.true ∙ c.is_same.ensures.1 same) in
     record {
       fronts = λ more. through (c.halves.invariant.fronts more)
@@ -44,7 +30,7 @@ halves-preserved c =
           (halved_on first lower upper next others more c.in-Some-halve_at.ensures.halves apart));
       cuts = (
         suc before.0,
-        ap length c.in_ok-push.ensures.items ∙ length-append c.halves.opened.items (c.in-Some-halve_at.upper ∷ []) ∙ omega (arith, before.1),
+        ap length c.in_ok-append.ensures ∙ length-append c.halves.opened.items (c.in-Some-halve_at.upper ∷ []) ∙ omega (arith, before.1),
         ap when_cut before.2 ∙ cut_open first lower upper others c.in-Some-halve_at.ensures.halves ∙ ap (λ (l : List (List (ℕ × ℕ))). lower ∷ l) (sym opened),
       );
     }

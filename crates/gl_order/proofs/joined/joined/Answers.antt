@@ -1,7 +1,7 @@
 use Rattle.std.proofs.Common.{◌≡◌, ◌∙◌, sym, ap, subst, ◌+◌, List, [], ◌∷◌, ◌++◌, map, reverse, take, ℕ, arith}
 use Rattle.std.proofs.lemmas.Bool.{eqb-true}
 use Rattle.std.proofs.lemmas.Grind.{flat_map-append}
-use Rattle.std.proofs.lemmas.List.{append-nil, map-append, take_more}
+use Rattle.std.proofs.lemmas.List.{append-nil, map-append, nil_from_length, take_more}
 use Rattle.gl_box.specs.declared.cell.Cell.{Cell}
 use Rattle.gl_box.specs.declared.closed.Why.{Why}
 use Rattle.gl_box.specs.declared.turn.GoalTurn.{GoalTurn}
@@ -10,7 +10,6 @@ use Rattle.gl_box.specs.Frontier.{IsFrontier}
 use Rattle.gl_box.specs.Turns.{boxes_from, left_open, reason_of}
 use Rattle.gl_box.specs.Walk.{open_cells}
 use Rattle.gl_box.proofs.Frontiers.{open_push}
-use Rattle.gl_box.proofs.Passed.{no_cell}
 use Rattle.gl_box.proofs.Turns.{boxes_from-append, left_open-append, turns_part}
 use Rattle.gl_order.specs.declared.run.Run.{Run}
 use Rattle.gl_order.specs.Order.{cells_of}
@@ -49,7 +48,7 @@ returns-clause-frontier c =
     let whole = spans_of c.args.whole.now in
     let l = c.loop-run in
     let turns = map reason_of l.turns.items in
-    let none : open_cells l.opened.items ≡ [] = no_cell l.opened.items (omega (arith, eqb-true _ _ (sym c.is_empty.ensures ∙ c.if-not-is_empty.false), l.opened.ok.0)) in
+    let none : open_cells l.opened.items ≡ [] = ap open_cells (nil_from_length l.opened.items (omega (arith, eqb-true _ _ (sym c.is_empty.ensures ∙ c.if-not-is_empty.false), l.opened.ok.0))) in
     let one : open_cells c.push-2.new.self.items ≡ whole ∷ [] =
     ap open_cells c.in_ok-push-2.ensures.items ∙ open_push l.opened.items c.args.whole.now ∙ ap (λ (opened : List (List (ℕ × ℕ))). whole ∷ opened) none in
     subst (λ (opened : List (List (ℕ × ℕ))). IsFrontier whole (cells_of (boxes_from opened turns))) (sym one) (turns_part whole turns (l.invariant.left ∙ none))
