@@ -6,6 +6,9 @@ pub mod LinesRead
 pub mod More
 pub mod Unique
 pub mod Codes
+pub mod Parsed
 pub mod Pieces
+pub mod Places
 pub mod Refused
+pub mod Stands
 pub mod Words

@@ -1,5 +1,5 @@
 -- What a reader of lines knows of its text.
-use Rattle.std.proofs.Common.{◌≡◌, ◌≢◌, ◌∙◌, sym, ap, refl, subst, ℕ, zero, suc, ◌+◌, ◌-◌, ◌<◌, ◌≤◌, ◌⊎◌, inl, inr, Bool, true, List, [], ◌∷◌, ◌++◌, length, get_or, take, drop, append_assoc, Option, None, Some, arith}
+use Rattle.std.proofs.Common.{◌≡◌, ◌≢◌, ◌∙◌, sym, ap, refl, subst, ℕ, zero, suc, ◌+◌, ◌-◌, ◌<◌, ◌≤◌, inl, inr, Bool, List, [], ◌∷◌, ◌++◌, length, get_or, take, drop, append_assoc, Option, Some, arith}
 use Rattle.std.specs.List.{flat_map}
 use Rattle.std.specs.Prelude.{min, if◌then◌else◌}
 use Rattle.std.proofs.Math.ListN.{drop_of_length-le, get_or-append}
@@ -7,9 +7,8 @@ use Rattle.std.proofs.Math.Seq.{take-append_seam}
 use Rattle.std.proofs.lemmas.Bool.{cases_order, ne_eqb}
 use Rattle.std.proofs.lemmas.List.{append-nil, get_or-append-add, length-append, length-drop, take-append-drop, take-append-le}
 use Rattle.std.proofs.lemmas.List.Concat.{flat_map-append}
-use Rattle.gl_proof.specs.declared.error.ProofError.{ProofError}
 use Rattle.gl_proof.specs.declared.error.ProofError.TheVariants.{Heading, Line as WrongLine, Cut}
-use Rattle.gl_proof.specs.LineRefusal.{HasLine, RunsThrough, last_line}
+use Rattle.gl_proof.specs.LineRefusal.{HasLine, last_line}
 use Rattle.gl_proof.specs.LineRules.{IsNext, IsTextRefused, LineRules, MayCome, grammar_from}
 use Rattle.gl_proof.specs.LineReading.{AreRead, IsLong, MayBegin, NoneComes, RunsTo, cut_at, fault_at, last_of}
 use Rattle.gl_proof.proofs.Refused.{follow_append, has_line, last-append}

@@ -68,7 +68,7 @@ heading_unique v w r q same =
     let version : v ≡ w = versions_apart v w (sym (byte_is v r) ∙ ap (λ (t : List ℕ). get_or t 11 0) same ∙ byte_is w q) in
     (version, append_cancel_left (ended (HeadingLine w)) r q (ap (λ (u : Version). ended (HeadingLine u) ++ r) (sym version) ∙ same))
 
-reason_unique : (w v : Why) (r q : List ℕ) → reason_word w ++ r ≡ reason_word v ++ q → (w ≡ v) × (r ≡ q)
+pub reason_unique : (w v : Why) (r q : List ℕ) → reason_word w ++ r ≡ reason_word v ++ q → (w ≡ v) × (r ≡ q)
 reason_unique Disordered Disordered r q same = (refl, append_cancel_left (codes "D") r q same)
 reason_unique Shut Shut r q same = (refl, append_cancel_left (codes "S") r q same)
 reason_unique Bound Bound r q same = (refl, append_cancel_left (codes "B") r q same)

@@ -69,7 +69,11 @@ front_text statement =
     spelled (ClaimLine statement.number statement.kind statement.total
     ∷ fix_lines statement.total statement.fixes)
 
+-- the text of boxes
+abbrev pub boxes_text : List (List (ℕ × ℕ) × Why) → List ℕ
+boxes_text boxes = spelled (map box_line boxes)
+
 -- the text that is left of a claim: its boxes, and what stands before them until that has gone
 abbrev pub left_of : Bool → Statement → List (List (ℕ × ℕ) × Why) → List ℕ
-left_of false statement boxes = front_text statement ++ spelled (map box_line boxes)
-left_of true statement boxes = spelled (map box_line boxes)
+left_of false statement boxes = front_text statement ++ boxes_text boxes
+left_of true statement boxes = boxes_text boxes

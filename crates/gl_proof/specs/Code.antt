@@ -4,3 +4,5 @@
 pub mod Fronts
 pub mod Passage
 pub mod Grammar
+pub mod Places
+pub mod Standing

@@ -12,3 +12,6 @@ pub mod LineRefusal
 pub mod Words
 pub mod LineRules
 pub mod LineReading
+pub mod ProofLines
+pub mod Lemmas
+pub mod ClaimLines

@@ -1,5 +1,5 @@
 -- What lines a kind of text has, and what is told of a text that has others.
-use Rattle.std.specs.Prelude.{◌≡◌, ◌↔◌, ℕ, ◌≤◌, ◌+◌, Bool, true, IsTrue, List, [], ◌++◌, length, Option, None, Some, ⊤}
+use Rattle.std.specs.Prelude.{◌≡◌, ◌↔◌, ℕ, ◌≤◌, ◌+◌, Bool, true, IsTrue, List, ◌++◌, length, Option, None, Some, ⊤}
 use Rattle.gl_proof.specs.declared.error.ProofError.{ProofError}
 use Rattle.gl_proof.specs.declared.error.ProofError.TheVariants.{Heading, Line as WrongLine, Cut, Memory}
 use Rattle.gl_proof.specs.Grammar.{Grammar, ended_line}

@@ -1,13 +1,13 @@
-ghost use Rattle.std.specs.Prelude.{◌≡◌, ◌+◌, ◌*◌, ◌≤◌, ◌++◌, ◌∷◌, length, drop, map, All};
+ghost use Rattle.std.specs.Prelude.{◌≡◌, ◌+◌, ◌≤◌, ◌++◌, ◌∷◌, length, drop};
 ghost use Rattle.std.specs.Fmt.{decimal};
 ghost use Rattle.gl_box.specs.Cell.{ends};
-ghost use Rattle.gl_proof.specs.Words.{IsSpan, span_word, spaced};
+ghost use Rattle.gl_proof.specs.Words.{IsSpan, span_word};
 
 use gl_box::Span;
 use gl_text::write_digits;
 
 /// The most bytes of a span behind its space: two numbers of ten digits, a hyphen and the space.
-pub const SPAN_ROOM: usize = 22;
+pub(crate) const SPAN_ROOM: usize = 22;
 
 /// Writes a byte before the place `end`, and answers where it stands.
 #[inline]
@@ -36,7 +36,7 @@ fn write_number(buffer: &mut [u8], end: usize, number: u32) -> usize
 
 /// Writes a span behind its space so that it ends before the place `end`, and answers where it
 /// begins.
-fn write_span(buffer: &mut [u8], end: usize, span: Span) -> usize
+pub(crate) fn write_span(buffer: &mut [u8], end: usize, span: Span) -> usize
     requires room { 22 ≤ end }
     requires within { end ≤ length buffer.old }
     ensures span { IsSpan (ends span) }
@@ -51,19 +51,18 @@ fn write_span(buffer: &mut [u8], end: usize, span: Span) -> usize
     write_byte(buffer, space, b' ')
 }
 
-/// Writes spans, each behind a space, so that they end before the place `end`, and answers where
-/// they begin.
-pub fn write_spans(buffer: &mut [u8], end: usize, spans: &[Span]) -> usize
-    requires room { 22 * length spans.now ≤ end }
+/// Writes the words with which the line of a box begins so that they end before the place `end`, and
+/// answers where they begin.
+pub(crate) fn write_front(buffer: &mut [u8], end: usize, letter: u8) -> usize
+    requires room { 5 ≤ end }
     requires within { end ≤ length buffer.old }
-    ensures each { All IsSpan (map ends spans.now) }
     ensures start { result ≤ end }
     ensures written { drop result buffer.new
-        ≡ spaced (map span_word (map ends spans.now)) ++ drop end buffer.old }
+        ≡ 66 ∷ 79 ∷ 88 ∷ 32 ∷ letter ∷ drop end buffer.old }
 {
-    let mut at = end;
-    for k in (0..spans.len()).rev() {
-        at = write_span(buffer, at, spans[k]);
-    }
-    at
+    let space = write_byte(buffer, end, letter);
+    let x = write_byte(buffer, space, b' ');
+    let o = write_byte(buffer, x, b'X');
+    let b = write_byte(buffer, o, b'O');
+    write_byte(buffer, b, b'B')
 }

@@ -72,7 +72,7 @@ fn lines_before_boxes(total: Option<u64>) -> usize
 }
 
 /// The name of an entrant's number. The only error is want of memory.
-fn name_of(alloc: Global, number: &[u8]) -> Result<Name, AllocError>
+pub(crate) fn name_of(alloc: Global, number: &[u8]) -> Result<Name, AllocError>
     requires { IsTrue (is_number number.now) }
     ensures { IfOk result (λ name. name ≡ number.now) }
 {

@@ -1,11 +1,14 @@
 ghost use Rattle.std.specs.Prelude.{◌≡◌, ◌≢◌, ◌≤◌, ◌+◌, ◌/◌, ℕ, max, List, [], ◌∷◌, ◌++◌, length, vec_len, vec_capacity, IfOk, OnOk, MatchOption, codes};
 ghost use Rattle.gl_proof.specs.Fronts.{Reads};
-ghost use Rattle.gl_proof.specs.Code.Fronts.{AreFixesAt, Adds, AddsBox, AreSpansAt, IsClaimAt, IsKindAt, IsReasonAt, said_of};
+ghost use Rattle.gl_box.specs.Cell.{spans_of};
+ghost use Rattle.gl_box.specs.Closed.{box_of};
+ghost use Rattle.gl_box.specs.declared.closed.Why.{Why as CodeWhy};
+ghost use Rattle.gl_proof.specs.Code.Fronts.{AreFixesAt, Adds, AddsBox, AreSpansAt, IsBoxAt, IsClaimAt, IsKindAt, IsReasonAt, said_of};
 
 use crate::claim::ClaimKind;
 use crate::entrant::entrant_at;
 use crate::front::{behind, short_number_at, span_at, total_at};
-use gl_box::{Cell, Closed, MOST_AXES, Span, Why};
+use gl_box::{Cell, Closed, MOST_AXES, Span, Tuple, Why};
 use std::alloc::{AllocError, Global};
 
 /// A full list of boxes gets room for so many more, and for a quarter of those that it has.
@@ -116,6 +119,72 @@ pub fn add_box_at<'a>(
         return Ok(None);
     };
     add_spans_at(cells, why, rest)
+}
+
+/// What follows the spans at the front of a text, each behind a space and LF behind the last one;
+/// they are given to a cell.
+#[inline(always)]
+fn spans_into<'a>(cell: &mut Cell, text: &'a [u8]) -> Option<&'a [u8]>
+    ensures { MatchOption result
+        ((spans : List (ℕ × ℕ)) (rest : List ℕ) → AreSpansAt text.now spans rest → ⊥)
+        (λ rest. AreSpansAt text.now (spans_of cell.new) rest.now) }
+{
+    *cell = Cell {
+        axes: MOST_AXES as u8,
+        spans: [Span { lo: 0, hi: 0 }; MOST_AXES],
+    };
+    let mut axes = 0;
+    let mut rest = text;
+    'axes: while let Some(word) = behind(rest, b" ") {
+        if axes == MOST_AXES {
+            return None;
+        }
+        let Some((span, after)) = span_at(word) else {
+            return None;
+        };
+        cell.spans[axes] = span;
+        axes += 1;
+        rest = after;
+    }
+    let Some(after) = behind(rest, b"\n") else {
+        return None;
+    };
+    if axes == 0 {
+        return None;
+    }
+    cell.axes = axes as u8;
+    Some(after)
+}
+
+/// The reason of the box whose line stands at the front of a text, and what follows; its spans are
+/// given to a cell.
+#[inline(always)]
+pub(crate) fn box_into<'a>(cell: &mut Cell, text: &'a [u8]) -> Option<(Why, &'a [u8])>
+    ensures { MatchOption result
+        ((box : List (ℕ × ℕ) × CodeWhy) (rest : List ℕ) → IsBoxAt text.now box rest → ⊥)
+        (λ taken. IsBoxAt text.now (spans_of cell.new, taken.0) taken.1.now) }
+{
+    let Some(words) = behind_box(text) else {
+        return None;
+    };
+    let Some((why, tail)) = reason_at(words) else {
+        return None;
+    };
+    let Some(rest) = spans_into(cell, tail) else {
+        return None;
+    };
+    Some((why, rest))
+}
+
+/// The box whose line stands at the front of a text, and what follows.
+pub fn box_at(text: &[u8]) -> Option<(Closed, &[u8])>
+    ensures { Reads box_of (IsBoxAt text.now) result }
+{
+    let mut cell = Cell::point(&Tuple::first(1));
+    let Some((why, rest)) = box_into(&mut cell, text) else {
+        return None;
+    };
+    Some((Closed { cell, why }, rest))
 }
 
 /// The numbers of fixes at the front of a text, each behind a space and LF behind the last one, and

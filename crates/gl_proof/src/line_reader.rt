@@ -1,8 +1,8 @@
-ghost use Rattle.std.specs.Prelude.{◌≡◌, ◌++◌, ◌∷◌, ℕ, Bool, List, [], IfNone, IfOk, MatchOption, MatchResult, None, OnOk, Option, Some};
+ghost use Rattle.std.specs.Prelude.{◌≡◌, ◌+◌, ◌<◌, ◌≤◌, ◌++◌, ◌∷◌, ℕ, Bool, List, [], length, IfNone, IfOk, IfSome, MatchOption, MatchResult, None, OnOk, Option, Some};
 ghost use Rattle.gl_proof.specs.declared.line_state.Progress.TheVariants.{Going};
 ghost use Rattle.gl_proof.specs.Fronts.{Reads};
 ghost use Rattle.gl_proof.specs.LineReading.{IsExhausted, IsRead, IsWhole, LeavesBehind, NoneComes, cut_at, fault_at, last_of, unread};
-ghost use Rattle.gl_proof.specs.LineRules.{AreLineRules, IsNext, IsTextRefused, LineRules};
+ghost use Rattle.gl_proof.specs.LineRules.{AreLineRules, IsNext, IsTextRefused, LineRules, MayCome};
 
 use crate::error::ProofError;
 use crate::line_state::{LineReader, Progress};
@@ -52,8 +52,10 @@ pub trait TextLine: Drop {
         place: Self::Place,
         text: &[u8],
     ) -> Result<Option<(Self, &[u8])>, AllocError>
-        ensures { IfOk result (λ found. (last : Option Says) → is_place last place
-            → Reads said (IsNext rules last text.now) found) };
+        ensures reads { IfOk result (λ found. (last : Option Says) → is_place last place
+            → Reads said (IsNext rules last text.now) found) }
+        ensures shorter { IfOk result (λ found. IfSome found (λ taken.
+            length taken.1.now < length text.now)) };
 
     /// A line is short and has no LF before its end.
     ghost laws: { AreLineRules Self.Place Self.Says rules is_place ends };
@@ -84,7 +86,7 @@ pub fn begin_lines<L: TextLine>(alloc: Global) -> LineReader<L::Place>
 }
 
 /// The bytes of a reader that aren't read yet.
-fn unread<P>(reader: &LineReader<P>) -> &[u8]
+pub(crate) fn unread<P>(reader: &LineReader<P>) -> &[u8]
     ensures { result.now ≡ unread reader.now }
 {
     &reader.bytes[reader.at..]
@@ -108,9 +110,11 @@ pub fn feed_lines<L: TextLine>(
     reader: &mut LineReader<L::Place>,
     piece: &[u8],
 ) -> Result<(), AllocError>
-    ensures { OnOk result ((text : List ℕ) (lines : List L.Says)
+    ensures fed { OnOk result ((text : List ℕ) (lines : List L.Says)
         → IsRead L.rules L.is_place text lines reader.old
         → IsRead L.rules L.is_place (text ++ piece.now) lines reader.new) }
+    ensures more { OnOk result (length (unread reader.new)
+        ≤ length (unread reader.old) + length piece.now) }
 {
     match reader.progress {
         Progress::Going => {
@@ -131,9 +135,12 @@ pub fn feed_lines<L: TextLine>(
 /// The next line of those that were fed, and how many bytes are left behind it; `None` where none
 /// came whole that may stand there. The only error is want of memory.
 fn line_left<L: TextLine>(reader: &LineReader<L::Place>) -> Result<Option<(L, usize)>, AllocError>
-    ensures { IfOk result (λ found. (last : Option L.Says) → L.is_place last reader.now.place
+    ensures found { IfOk result (λ found. (last : Option L.Says)
+        → L.is_place last reader.now.place
         → MatchOption found (NoneComes L.rules last (unread reader.now))
         (λ taken. LeavesBehind L.rules last (unread reader.now) (L.said taken.0) taken.1)) }
+    ensures shorter { IfOk result (λ found. IfSome found (λ taken.
+        taken.1 < length (unread reader.now))) }
 {
     let text = unread(reader);
     let found = L::next_at(*reader.bytes.allocator(), reader.place, text)?;
@@ -152,6 +159,7 @@ fn note_none<L: TextLine>(reader: &mut LineReader<L::Place>)
         → NoneComes L.rules (last_of lines) (unread reader.old)
         → IsRead L.rules L.is_place text lines reader.new }
     ensures exhausted { IsExhausted L.ends reader.new }
+    ensures same { unread reader.new ≡ unread reader.old }
 {
     let text = unread(reader);
     if L::has_ended(reader.place) {
@@ -169,27 +177,40 @@ fn note_none<L: TextLine>(reader: &mut LineReader<L::Place>)
     }
 }
 
-/// Notes that a line was handed out, with so many bytes left behind it.
-fn note_line<L: TextLine>(reader: &mut LineReader<L::Place>, line: &L, left: usize)
+/// Notes that a line after which the reader stands at a place was handed out, with so many bytes left
+/// behind it.
+#[inline]
+pub(crate) fn note_left<L: TextLine>(
+    reader: &mut LineReader<L::Place>,
+    place: L::Place,
+    left: usize,
+)
     requires { reader.old.progress ≡ Going }
-    ensures { (text : List ℕ) (lines : List L.Says)
-        → IsRead L.rules L.is_place text lines reader.old
-        → LeavesBehind L.rules (last_of lines) (unread reader.old) (L.said line.now) left
-        → IsRead L.rules L.is_place text (lines ++ L.said line.now ∷ []) reader.new }
+    ensures left { left ≤ length (unread reader.old) → length (unread reader.new) ≡ left }
+    ensures noted { (text : List ℕ) (lines : List L.Says) (line : L.Says)
+        → IsRead L.rules L.is_place text lines reader.old → L.is_place (Some line) place
+        → LeavesBehind L.rules (last_of lines) (unread reader.old) line left
+        → IsRead L.rules L.is_place text (lines ++ line ∷ []) reader.new }
 {
     reader.at = reader.bytes.len().saturating_sub(left);
-    reader.place = line.place();
+    reader.place = place;
     reader.number = later(reader.number, 1);
 }
 
-/// Takes the next line of those that were fed, `None` where none came whole that may stand there.
-/// The only error is want of memory.
+/// Takes the next line of those that were fed, which may stand where it stands; `None` where no such
+/// line came whole. The only error is want of memory.
 pub fn next_line<L: TextLine>(reader: &mut LineReader<L::Place>) -> Result<Option<L>, AllocError>
     ensures read { IfOk result (λ next. (text : List ℕ) (lines : List L.Says)
         → IsRead L.rules L.is_place text lines reader.old
         → MatchOption next (IsRead L.rules L.is_place text lines reader.new)
         (λ line. IsRead L.rules L.is_place text (lines ++ L.said line ∷ []) reader.new)) }
+    ensures comes { IfOk result (λ next. IfSome next (λ line. (text : List ℕ) (lines : List L.Says)
+        → IsRead L.rules L.is_place text lines reader.old
+        → MayCome L.rules (last_of lines) (L.said line))) }
     ensures exhausted { IfOk result (λ next. IfNone next (IsExhausted L.ends reader.new)) }
+    ensures shorter { IfOk result (λ next. MatchOption next
+        (length (unread reader.new) ≤ length (unread reader.old))
+        (λ _. length (unread reader.new) < length (unread reader.old))) }
 {
     match reader.progress {
         Progress::Going => (),
@@ -199,7 +220,7 @@ pub fn next_line<L: TextLine>(reader: &mut LineReader<L::Place>) -> Result<Optio
         note_none::<L>(reader);
         return Ok(None);
     };
-    note_line(reader, &line, left);
+    note_left::<L>(reader, line.place(), left);
     Ok(Some(line))
 }
 

@@ -4,7 +4,7 @@ ghost use Rattle.gl_proof.specs.Kept.{Keeps, Writes};
 use std::alloc::AllocError;
 
 /// How many lines are written at a time.
-const PIECE: usize = 16_384;
+const PIECE: usize = 2_048;
 
 /// A text that is made line by line, so that one with millions of lines need not be in memory.
 pub trait LinesLeft: Drop {

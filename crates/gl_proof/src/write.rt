@@ -1,21 +1,20 @@
-ghost use Rattle.std.specs.Prelude.{◌≡◌, [], ◌∷◌, ◌++◌, map, codes, All, IfOk, OnOk, OnErr};
+ghost use Rattle.std.specs.Prelude.{◌≡◌, [], ◌∷◌, ◌++◌, map, IfOk, OnOk, OnErr};
 ghost use Rattle.std.specs.Fmt.{decimal};
-ghost use Rattle.gl_box.specs.Cell.{spans_of};
+ghost use Rattle.gl_box.specs.Along.{boxes_left};
+ghost use Rattle.gl_box.specs.Closed.{box_of};
 ghost use Rattle.gl_box.specs.InLists.{still_in};
-ghost use Rattle.gl_proof.specs.Kept.{Keeps};
-ghost use Rattle.gl_proof.specs.Words.{IsSpan, spaced, span_word};
-ghost use Rattle.gl_proof.specs.Claim.{IsWritable, claim_text, front_text, left_of, statement_of};
+ghost use Rattle.gl_box.specs.Turns.{reason_of};
+ghost use Rattle.gl_proof.specs.Kept.{Keeps, Writes};
+ghost use Rattle.gl_proof.specs.Words.{spaced};
+ghost use Rattle.gl_proof.specs.Claim.{IsWritable, boxes_text, claim_text, front_text, left_of, statement_of};
 ghost use Rattle.gl_proof.specs.Line.{ClaimLine, FixLine, ended, kind_word, reason_word};
 
-use crate::backwards::{SPAN_ROOM, write_spans};
+use crate::box_writer::BoxWriter;
 use crate::claim::{Claim, ClaimKind};
 use crate::lines_left::{LinesLeft, write_all};
 use crate::push::{push_number, push_total, push_word};
-use gl_box::{BoxesLeft, Cell, MOST_AXES, Why};
+use gl_box::{BoxesLeft, Closed, GoalTurn, WalkBoxes, Why};
 use std::alloc::{AllocError, Global};
-
-/// Room for the spans of a box and LF behind them.
-const LINE_ROOM: usize = MOST_AXES * SPAN_ROOM + 1;
 
 /// The word of a kind of claim.
 fn kind_word(kind: ClaimKind) -> &'static [u8]
@@ -29,14 +28,14 @@ fn kind_word(kind: ClaimKind) -> &'static [u8]
     }
 }
 
-/// The words with which the line of a box begins, for a reason.
-fn box_words(why: Why) -> &'static [u8]
-    ensures { result.now ≡ codes "BOX" ++ 32 ∷ reason_word why }
+/// The letter of a reason.
+fn reason_letter(why: Why) -> u8
+    ensures { result ∷ [] ≡ reason_word why }
 {
     match why {
-        Why::Disordered => b"BOX D",
-        Why::Shut => b"BOX S",
-        Why::Bound => b"BOX B",
+        Why::Disordered => b'D',
+        Why::Shut => b'S',
+        Why::Bound => b'B',
     }
 }
 
@@ -49,21 +48,6 @@ fn push_fixes(out: &mut Vec<u8>, fixes: &[u32]) -> Result<(), AllocError>
         push_number(out, b' ', fix.into())?;
     }
     Ok(())
-}
-
-/// Appends the line of a box that begins with some words. The only error is want of memory; `out`
-/// has then what it had, and perhaps more.
-pub fn push_box(out: &mut Vec<u8>, words: &[u8], cell: &Cell) -> Result<(), AllocError>
-    ensures spans { OnOk result (All IsSpan (spans_of cell.now)) }
-    ensures ok { OnOk result (out.new.items ≡ out.old.items
-        ++ (words.now ++ (spaced (map span_word (spans_of cell.now)) ++ 10 ∷ []))) }
-    ensures err { OnErr result (Keeps out.old.items out.new.items) }
-{
-    let mut line = [b'\n'; LINE_ROOM];
-    let spans = &cell.spans[..cell.axes as usize];
-    let start = write_spans(&mut line, LINE_ROOM - 1, spans);
-    out.extend_from_slice(words)?;
-    out.extend_from_slice(&line[start..])
 }
 
 /// Appends the line of the fixes.
@@ -110,6 +94,48 @@ fn push_front(out: &mut Vec<u8>, claim: &Claim) -> Result<(), AllocError>
     }
 }
 
+/// Appends the line of the next box of a walk, and answers whether there was one. The only error is
+/// want of memory; `out` has then what it had, and perhaps more.
+fn push_walked(
+    out: &mut Vec<u8>,
+    writer: &mut BoxWriter,
+    boxes: &mut WalkBoxes<'_, GoalTurn>,
+) -> Result<bool, AllocError>
+    ensures ok { IfOk result (Writes out.old.items out.new.items
+        (boxes_text (boxes_left reason_of boxes.old))
+        (boxes_text (boxes_left reason_of boxes.new))) }
+    ensures err { OnErr result (Keeps out.old.items out.new.items) }
+{
+    match boxes.next()? {
+        Some(why) => {
+            writer.push(out, reason_letter(why), &boxes.opened.first)?;
+            Ok(true)
+        }
+        None => Ok(false),
+    }
+}
+
+/// Appends the line of the next box of a list, and answers whether there was one. The only error is
+/// want of memory; `out` has then what it had, and perhaps more.
+fn push_listed(
+    out: &mut Vec<u8>,
+    writer: &mut BoxWriter,
+    boxes: &mut &[Closed],
+) -> Result<bool, AllocError>
+    ensures ok { IfOk result (Writes out.old.items out.new.items
+        (boxes_text (map box_of boxes.old.now)) (boxes_text (map box_of boxes.new.now))) }
+    ensures err { OnErr result (Keeps out.old.items out.new.items) }
+{
+    match boxes.split_first() {
+        Some((first, rest)) => {
+            *boxes = rest;
+            writer.push(out, reason_letter(first.why), &first.cell)?;
+            Ok(true)
+        }
+        None => Ok(false),
+    }
+}
+
 /// The lines of a claim that are still to come.
 #[derive(Drop)]
 pub struct ClaimLines<'a> {
@@ -117,6 +143,7 @@ pub struct ClaimLines<'a> {
     /// Whether the lines before the boxes have gone.
     pub begun: bool,
     pub boxes: BoxesLeft<'a>,
+    writer: BoxWriter,
 }
 
 impl Claim {
@@ -129,6 +156,7 @@ impl Claim {
             claim: self,
             begun: false,
             boxes: self.cells.each(alloc)?,
+            writer: BoxWriter::new(),
         })
     }
 }
@@ -143,12 +171,9 @@ impl LinesLeft for ClaimLines<'_> {
             self.begun = true;
             return Ok(true);
         }
-        match self.boxes.next()? {
-            Some(closed) => {
-                push_box(out, box_words(closed.why), &closed.cell)?;
-                Ok(true)
-            }
-            None => Ok(false),
+        match &mut self.boxes {
+            BoxesLeft::Walked(boxes) => push_walked(out, &mut self.writer, boxes),
+            BoxesLeft::Listed(boxes) => push_listed(out, &mut self.writer, boxes),
         }
     }
 }

@@ -1,4 +1,4 @@
-use Rattle.std.proofs.Common.{◌≡◌, ◌∙◌, sym, subst, ℕ, List, [], inl, inr}
+use Rattle.std.proofs.Common.{◌∙◌, sym, subst, ℕ, List, [], inl, inr}
 use Rattle.std.proofs.lemmas.Bool.{false≢true}
 use Rattle.std.proofs.lemmas.List.{append-nil}
 use Rattle.gl_proof.specs.LineReading.{IsExhaustedBy, IsReadBy, last_of, unread}

@@ -1,4 +1,4 @@
-use Rattle.std.proofs.Common.{◌≡◌, ◌∙◌, sym, subst, ap, ℕ, ◌++◌, List, [], length, arith}
+use Rattle.std.proofs.Common.{◌∙◌, sym, subst, ap, ◌++◌, length}
 use Rattle.std.proofs.lemmas.Bool.{eqb-false}
 use Rattle.gl_proof.specs.LineRefusal.{HasLine}
 use Rattle.gl_proof.specs.LineReading.{IsReadBy, last_of, unread}
