@@ -4,6 +4,7 @@ pub mod ByTests
 pub mod LineTexts
 pub mod Promises
 pub mod Runs
+pub mod FileParts
 pub mod FileTests
 pub mod Listing
 pub mod Pourings

@@ -1,19 +1,12 @@
--- What is known of a recording, and of a proof, that was read in pieces.
-use Rattle.std.proofs.Common.{◌≡◌, refl, sym, subst, ap, ℕ, ℤ, List, Option, None, Some, Result, Ok, Err}
-use Rattle.std.specs.Prelude.{IfErr, IfOk}
+-- What is known of a file that was read in pieces.
+use Rattle.std.proofs.Common.{◌≡◌, refl, sym, subst, ap, ℕ, ℤ, Option, None, Some, Err, List}
 use Rattle.gl_desk.specs.Desk.{FilesByName, IsLongerThan}
 use Rattle.gl_desk.specs.declared.error.ReadError.{ReadError}
 use Rattle.gl_desk.specs.declared.error.ReadError.TheVariants as reading
-use Rattle.gl_proof.specs.declared.error.ProofError.{ProofError}
-use Rattle.gl_proof.specs.declared.proof.Proof.{Proof}
-use Rattle.gl_proof.specs.declared.reader.ProofReader.{ProofReader}
-use Rattle.gl_proof.specs.Reading.{StandsForProof}
-use Rattle.gl_proof.specs.Refusal.{IsRefused}
-use Rattle.gl_proof.specs.Text.{IsTextOf, statements_of}
 use Rattle.gl_answer.specs.declared.halt.Halt.{Halt}
 use Rattle.gl_answer.specs.declared.halt.Halt.TheVariants.{Refused, Stopped}
 use Rattle.gl_answer.specs.Halts.{AreBytes, IsUnread}
-use Rattle.gl_answer.specs.Code.Pouring.{IsProofRead, day_tag}
+use Rattle.gl_answer.specs.Code.Pouring.{day_tag}
 
 -- a day is known by its tag
 pub day_of_tag : (a b : Option ℤ) → day_tag a ≡ day_tag b → a ≡ b
@@ -22,14 +15,7 @@ day_of_tag None (Some b) same = absurd (cc)
 day_of_tag (Some a) None same = absurd (cc)
 day_of_tag (Some a) (Some b) same = let days : a ≡ b = cc in ap Some days
 
--- what a reader of a proof tells of the text that it stands for
-pub proof_says : (bytes : List ℕ) (reader : ProofReader) (read : Result Proof ProofError)
-    → IfOk read (λ proof. (text : List ℕ) → StandsForProof text reader → IsTextOf proof.version text (statements_of proof))
-    → IfErr read (λ error. (text : List ℕ) → StandsForProof text reader → IsRefused text error)
-    → StandsForProof bytes reader → IsProofRead bytes read
-proof_says bytes reader (Ok read) ok refused stands = ok bytes stands
-proof_says bytes reader (Err error) ok refused stands = refused bytes stands
-
+-- why a file wasn't read
 pub unread_proof : (folder : Option FilesByName) (file : List ℕ) (most : ℕ) (error : ReadError) (halt : Halt) → (error ≡ reading.TooLarge → IsLongerThan most folder file) → IsUnread file error halt
     → AreBytes folder file most (Err halt)
 unread_proof folder file most reading.TooLarge (Refused refusal) longer is = (longer refl, is)

@@ -8,6 +8,7 @@ pub mod Run
 pub mod Statuses
 pub mod Texts
 pub mod Code
+pub mod FileLines
 pub mod FileTests
 pub mod Halts
 pub mod Pouring

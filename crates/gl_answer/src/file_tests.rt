@@ -3,15 +3,15 @@ ghost use Rattle.gl_desk.specs.Answers.{OnlyReads};
 ghost use Rattle.gl_desk.specs.Desk.{HasFile};
 ghost use Rattle.gl_desk.specs.Limits.{most_bytes};
 ghost use Rattle.gl_answer.specs.ReadFiles.{AreNeeded, HasReadFile, IsNeeded, IsUnused};
-ghost use Rattle.gl_answer.specs.FileTests.{IsProofOfText, IsRecordingOf, ProofText, RecordingText, proof_cause, recording_cause};
+ghost use Rattle.gl_answer.specs.FileTests.{IsRecordingOf, RecordingText, proof_cause, recording_cause};
 ghost use Rattle.gl_answer.specs.Halts.{AreBytes, IsNoFault, halt_stop};
 
 use crate::halt::{Halt, refusing, refusing_for, unread};
-use crate::pouring::{read_proof_pieces, read_recording_file};
+use crate::pouring::read_recording_file;
 use crate::refusal::Cause;
 use gl_desk::{Desk, Name, read_all};
 use gl_igc::{IgcError, Recording};
-use gl_proof::{Proof, ProofError};
+use gl_proof::ProofError;
 use std::alloc::Global;
 
 /// The most bytes that a proof may have; any other file has at most those of a recording.
@@ -99,7 +99,7 @@ pub fn read_recording<D: Desk>(
 }
 
 /// Why a text is no proof; `None` for want of memory.
-fn proof_cause(error: ProofError) -> Option<Cause>
+pub fn proof_cause(error: ProofError) -> Option<Cause>
     ensures { result ≡ proof_cause error }
 {
     match error {
@@ -107,24 +107,5 @@ fn proof_cause(error: ProofError) -> Option<Cause>
         ProofError::Line(line) => Some(Cause::WrongProof(line)),
         ProofError::Cut => Some(Cause::ProofCut),
         ProofError::Memory => None,
-    }
-}
-
-/// The proof of a listed file, which is refused where it has more than `most` bytes.
-pub fn read_proof_file<D: Desk>(
-    alloc: Global,
-    desk: &mut D,
-    file: &Name,
-    most: u64,
-) -> Result<Proof, Halt>
-    requires { HasFile (D.told desk.old).folder file.now }
-    ensures read { HasReadFile ProofText most (D.told desk.old).folder file.now
-        IsProofOfText result }
-    ensures reads { OnlyReads (halt_stop result) (D.told desk.old) (D.told desk.new) }
-{
-    match read_proof_pieces(alloc, desk, file, most) {
-        Ok(Ok(proof)) => Ok(proof),
-        Ok(Err(error)) => Err(refusing_for(file, proof_cause(error))),
-        Err(halt) => Err(halt),
     }
 }

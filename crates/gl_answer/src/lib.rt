@@ -9,6 +9,8 @@
 mod answer;
 mod appending;
 mod delivering;
+mod file_lines;
+mod file_state;
 mod file_tests;
 mod halt;
 mod line;
@@ -20,8 +22,10 @@ mod texts;
 pub use answer::{Answer, answer_halt, done};
 pub use appending::{append_lines, append_piece};
 pub use delivering::deliver;
+pub use file_lines::{end_file_lines, next_box_read, next_file_line, open_lines};
+pub use file_state::FileLines;
 pub use file_tests::{
-    MOST_PROOF_BYTES, need, need_both, need_unlisted, read_bytes, read_proof_file, read_recording,
+    MOST_PROOF_BYTES, need, need_both, need_unlisted, proof_cause, read_bytes, read_recording,
 };
 pub use halt::{Halt, refusing_for};
 pub use line::refusal_line;

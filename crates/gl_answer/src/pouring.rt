@@ -1,17 +1,13 @@
-ghost use Rattle.std.specs.Prelude.{◌≡◌, ◌≤◌, [], Err, IfOk, length};
+ghost use Rattle.std.specs.Prelude.{◌≡◌, Err, IfOk};
 ghost use Rattle.gl_desk.specs.Limits.{most_bytes};
 ghost use Rattle.gl_desk.specs.Answers.{OnlyReads, reading_stop};
-ghost use Rattle.gl_desk.specs.Desk.{HasFile, IsLongerThan, IsSeenIn};
+ghost use Rattle.gl_desk.specs.Desk.{HasFile, IsLongerThan};
 ghost use Rattle.gl_igc.specs.Pieces.{StandsForText, task_day_of};
-ghost use Rattle.gl_proof.specs.Reading.{StandsForProof};
-ghost use Rattle.gl_answer.specs.Halts.{halt_stop};
 ghost use Rattle.gl_answer.specs.Pouring.{IsFileRead};
-ghost use Rattle.gl_answer.specs.Code.Pouring.{IsProofPoured, day_tag};
+ghost use Rattle.gl_answer.specs.Code.Pouring.{day_tag};
 
-use crate::halt::{Halt, unread};
 use gl_desk::{Desk, MOST_BYTES, Name, ReadError, Taker, pour};
 use gl_igc::{IgcError, IgcReader, Recording};
-use gl_proof::{Proof, ProofError, ProofReader};
 use std::alloc::{AllocError, Global};
 
 /// Takes the pieces of a recording. Its tag is the task's day.
@@ -50,41 +46,4 @@ pub fn read_recording_file<D: Desk>(
     };
     pour(alloc, desk, file, MOST_BYTES, &mut taker)?;
     Ok(taker.reader.finish())
-}
-
-/// Takes the pieces of a proof.
-#[derive(Drop)]
-struct ProofTaker {
-    reader: ProofReader,
-}
-
-impl Taker for ProofTaker {
-    ghost tag = { λ _. [] };
-
-    ghost stands_for = { λ taker text. StandsForProof text taker.reader };
-
-    fn take(&mut self, piece: &[u8]) -> Result<(), AllocError> {
-        self.reader.feed(piece)
-    }
-}
-
-/// What a file that the folder lists says as a proof. The file is read in pieces, and is held whole
-/// only where a line of it is wrong. One of more than `most` bytes is refused, whatever it says.
-pub fn read_proof_pieces<D: Desk>(
-    alloc: Global,
-    desk: &mut D,
-    file: &Name,
-    most: u64,
-) -> Result<Result<Proof, ProofError>, Halt>
-    requires { HasFile (D.told desk.old).folder file.now }
-    ensures read { IsProofPoured (D.told desk.old).folder file.now most result }
-    ensures reads { OnlyReads (halt_stop result) (D.told desk.old) (D.told desk.new) }
-{
-    let mut taker = ProofTaker {
-        reader: ProofReader::new(alloc),
-    };
-    match pour(alloc, desk, file, most, &mut taker) {
-        Ok(_) => Ok(taker.reader.finish()),
-        Err(error) => Err(unread(file, error)),
-    }
 }

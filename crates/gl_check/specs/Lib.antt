@@ -1,3 +1,4 @@
 pub mod Checked
 pub mod Verdict
 pub mod Testing
+pub mod File

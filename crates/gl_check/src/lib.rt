@@ -5,7 +5,13 @@
 mod boxes;
 mod check;
 mod choice;
+mod claims;
+mod claims_file;
+mod file;
+mod file_said;
 mod verdict;
 
 pub use check::check_claim;
+pub use claims_file::ClaimsFile;
+pub use file_said::ClaimSaid;
 pub use verdict::Verdict;
