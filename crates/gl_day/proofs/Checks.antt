@@ -11,7 +11,7 @@ use Rattle.gl_day.specs.declared.fault.Checked.TheVariants.{Accepted, Refused}
 use Rattle.gl_day.specs.declared.fault.Fault.{Fault}
 use Rattle.gl_day.specs.declared.fault.Fault.TheVariants.{Missing, Name, Fixes, Total, Extra, Place, Cell, Open, Surplus}
 use Rattle.gl_day.specs.declared.fault.NotProved.{NotProved}
-use Rattle.gl_day.specs.Checked.{AreProved, GoesOn, IsChecked, IsFault, IsFaultAt, IsNotProved, IsSaid, Proceeds}
+use Rattle.gl_day.specs.Checked.{AreProved, IsChecked, IsFault, IsFaultAt, IsNotProved, IsSaid}
 use Rattle.gl_day.specs.Expected.{Expected, Proves}
 
 -- the first claim that is wrong stays it where more claims are expected behind
@@ -57,14 +57,6 @@ none_wrong expected statements wrong each first =
     right_at first.before first.behind first.next statements wrong.fault
     (subst (λ (l : List Expected). AllZip Proves l statements) first.are each) first.fault
 
--- the first of the claims that are proved are
-pub proved_front : (before behind : List Expected) (statements : List Statement) → AllZip Proves (before ++ behind) statements → AreProved before statements
-proved_front [] behind statements each = record { proved = []; rest = statements; are = refl; each = tt }
-proved_front (b ∷ before) behind [] each = absurd each
-proved_front (b ∷ before) behind (s ∷ statements) each =
-    let front = proved_front before behind statements each.1 in
-    record { proved = s ∷ front.proved; rest = front.rest; are = ap (λ (l : List Statement). s ∷ l) front.are; each = (each.0, front.each) }
-
 -- lists that go together are as long as each other
 pub zip_long : (expected : List Expected) (statements : List Statement) → AllZip Proves expected statements → length expected ≡ length statements
 zip_long [] [] each = refl
@@ -81,12 +73,3 @@ proof_accepted expected statements (Refused wrong) each (inl first) = absurd (no
 proof_accepted expected statements (Refused wrong) each (inr surplus) =
     let more = surplus.more in
     absurd (omega (arith, more, zip_long expected statements each))
-
--- what proves all that is expected is not refused on the way
-pub not_refused : (count : ℕ) (more : List Expected) (statements : List Statement) (wrong : NotProved) → GoesOn count more statements (Some wrong) → Proceeds count more statements → ⊥
-not_refused count more statements wrong goes all =
-    none_wrong ((all.before ++ more) ++ all.behind) statements wrong all.each
-    (not_proved_more (all.before ++ more) all.behind statements wrong
-    (goes all.before all.counted
-    (proved_front all.before (more ++ all.behind) statements
-    (subst (λ (l : List Expected). AllZip Proves l statements) (append_assoc all.before more all.behind) all.each))))

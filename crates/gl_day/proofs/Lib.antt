@@ -1,6 +1,8 @@
 pub mod Checks
 pub mod Distances
 pub mod Entrants
+pub mod FileFound
+pub mod FileWalked
 pub mod Fines
 pub mod Flights
 pub mod Foreign

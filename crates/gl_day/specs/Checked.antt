@@ -1,5 +1,5 @@
 -- What is said of the claims of a proof, where others, or the same, are expected.
-use Rattle.std.specs.Prelude.{◌≡◌, ℕ, ◌+◌, ◌<◌, ◌⊎◌, List, ◌∷◌, ◌++◌, length, slice_get, Option, None, Some, MatchOption}
+use Rattle.std.specs.Prelude.{◌≡◌, ℕ, ◌+◌, ◌<◌, ◌⊎◌, List, ◌∷◌, ◌++◌, length, slice_get, Option, None, Some}
 use Rattle.std.specs.List.{AllZip}
 use Rattle.gl_check.specs.declared.verdict.Verdict.{Verdict}
 use Rattle.gl_check.specs.declared.verdict.Verdict.TheVariants as verdict
@@ -78,26 +78,3 @@ IsChecked expected statements (Accepted claims) =
     AllZip Proves expected statements × (claims ≡ length expected)
 IsChecked expected statements (Refused wrong) =
     IsNotProved expected statements wrong ⊎ IsSurplus expected statements wrong
-
--- What is said of more claims that are expected, behind so many that are proved: they are proved
--- too, or this is the first that is wrong.
-abbrev pub GoesOn : ℕ → List Expected → List Statement → Option NotProved → Type 0
-GoesOn count more statements wrong =
-    (before : List Expected) → length before ≡ count
-    → AreProved before statements
-    → MatchOption wrong (AreProved (before ++ more) statements)
-    (IsNotProved (before ++ more) statements)
-
--- what is said of a proof of whose claims so many are proved, where no other is expected
-abbrev pub Ends : ℕ → List Statement → Checked → Type 0
-Ends count statements said =
-    (before : List Expected) → length before ≡ count
-    → AreProved before statements → IsChecked before statements said
-
--- The statements prove all that is expected: so many claims first, then these, then others.
-pub record Proceeds (count : ℕ) (more : List Expected)
-    (statements : List Statement) : Type 0 where
-  pub before : List Expected
-  pub behind : List Expected
-  pub counted : length before ≡ count
-  pub each : AllZip Proves ((before ++ more) ++ behind) statements

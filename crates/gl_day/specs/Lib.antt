@@ -4,5 +4,6 @@ pub mod Code
 pub mod Day
 pub mod Expected
 pub mod Fault
+pub mod FileChecked
 pub mod Flight
 pub mod Totals

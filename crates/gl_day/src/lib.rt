@@ -2,20 +2,20 @@
 //! and whether a proof that was read is that of the day. It reads and writes no file.
 #![tactic(auto)]
 
-mod check;
 mod claim;
 mod day;
 mod fault;
+mod file_check;
 mod finish;
 mod flight;
 mod frame;
 mod search;
 mod totals;
 
-pub use check::{check_end, check_flight, check_next};
 pub use claim::{claim_of, claim_of_found};
 pub use day::{day_rows, performances, row_of, sheet_of};
 pub use fault::{Checked, Fault, NotProved};
+pub use file_check::{check_ahead, check_flight_ahead, check_left};
 pub use finish::{finish_flight, outcome_of};
 pub use flight::{Flight, Seen, absent_flight, large_flight, read_flight};
 pub use frame::{end_line, heading_line};

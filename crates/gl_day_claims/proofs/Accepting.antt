@@ -6,7 +6,7 @@ use Rattle.gl_igc.specs.declared.error.IgcError.TheVariants.{NotIgc}
 use Rattle.gl_igc.specs.Reading.{recording_of}
 use Rattle.gl_proof.proofs.Unique.{text_unique}
 use Rattle.gl_proof.specs.Claim.{Statement}
-use Rattle.gl_proof.specs.Text.{IsTextOf, statements_of}
+use Rattle.gl_proof.specs.Text.{IsTextOf}
 use Rattle.gl_proof.specs.declared.version.Version.TheVariants.{Two}
 use Rattle.gl_day.specs.declared.fault.Checked.{Checked}
 use Rattle.gl_day.specs.declared.fault.Checked.TheVariants as checked
@@ -107,16 +107,16 @@ pub record FoundAccepted (appended : List ℕ) (said : Checked) : Type 0 where
 
 found_with : (most : ℕ) (files : FilesByName) (names : DayNames) (folder : IsScoredFolder most files names) (ended : EndedScore folder.before folder.stewards names folder.answer) (said : Checked)
     → IsProofChecked (Some files) (seen_with ended.seen folder.answer.appended) said → FoundAccepted folder.answer.appended said
-found_with most files names folder ended said (read, are, is) =
+found_with most files names folder ended said (read, are, (version, found, is_text, is)) =
     let statements = statements_of_all ended.scored.scored in
-    let day = day_one ended.seen.task read.0 ended.day are.day ended.read in
-    let claims = text_unique folder.answer.appended (statements_of read.1) statements are.proof ended.scored.appended in
+    let day = day_one ended.seen.task read ended.day are ended.read in
+    let claims = text_unique folder.answer.appended found statements is_text ended.scored.appended in
     let have = all_asked (Some folder.before) ended.day folder.stewards ended.day.task.entrants ended.scored.scored ended.scored.each in
     let foreign = subst (λ (t : List ℕ). recording_of t (Some ended.day.task.date) ≡ Err NotIgc) (sym ended.scored.appended.is) (proof_is_no_recording Two statements (Some ended.day.task.date)) in
     let new = proof_new folder.before folder.stewards names folder.answer ended in
     let asked = all_moved folder.before files names.proof folder.answer.appended ended.day.task ended.day.airspace ended.day.task.entrants have.claims new folder.proof foreign folder.others have.asked
     in
-    let checked_is = subst (λ (l : List Statement). IsDayChecked (Some files) ended.day l said) claims (subst (λ (d : DayFiles). IsDayChecked (Some files) d (statements_of read.1) said) day is) in
+    let checked_is = subst (λ (l : List Statement). IsDayChecked (Some files) ended.day l said) claims (subst (λ (d : DayFiles). IsDayChecked (Some files) d found said) day is) in
     record {
       statements = statements;
       is_text = ended.scored.appended;

@@ -1,6 +1,6 @@
 -- How the commands of a day answer, and how they are stopped.
-use Rattle.std.proofs.Common.{◌≡◌, ◌∙◌, sym, ap, subst, refl, ℕ, ◌⊎◌, inl, inr, List, [], map, take, Option, None, Some, Result, Ok, Err, arith}
-use Rattle.std.specs.Prelude.{IfOk, IsErrAnd, MatchResult}
+use Rattle.std.proofs.Common.{◌≡◌, ◌∙◌, ap, subst, refl, ℕ, ◌⊎◌, inl, inr, List, [], take, Option, None, Some, Result, Ok, Err, arith}
+use Rattle.std.specs.Prelude.{IfOk}
 use Rattle.std.specs.List.{AllZip}
 use Rattle.std.proofs.lemmas.Bool.{cases_lt}
 use Rattle.std.proofs.lemmas.List.{length-take, take-take, take_all}
@@ -8,24 +8,20 @@ use Rattle.gl_desk.specs.Answers.{OnlyReads, stop_of}
 use Rattle.gl_desk.specs.Desk.{FilesByName, Rose, Told}
 use Rattle.gl_desk.specs.declared.error.DeskError.{DeskError}
 use Rattle.gl_desk.specs.declared.error.DeskError.TheVariants.{Failed, Memory}
-use Rattle.gl_proof.specs.Claim.{Statement, statement_of}
-use Rattle.gl_proof.specs.declared.claim.Claim.{Claim}
-use Rattle.gl_proof.specs.declared.proof.Proof.{Proof}
+use Rattle.gl_proof.specs.Claim.{Statement}
 use Rattle.gl_proof.specs.Text.{proof_text}
 use Rattle.gl_proof.specs.declared.version.Version.TheVariants.{Two}
-use Rattle.gl_day.specs.declared.fault.Checked.{Checked}
 use Rattle.gl_day.specs.Expected.{Proves}
 use Rattle.gl_day.specs.Flight.{StewardRules}
 use Rattle.gl_words.specs.DayWords.{DayNames}
 use Rattle.gl_day_files.specs.declared.day_files.DayFiles.{DayFiles}
 use Rattle.gl_answer.specs.declared.halt.Halt.{Halt}
 use Rattle.gl_answer.specs.declared.halt.Halt.TheVariants.{Refused, Stopped}
-use Rattle.gl_day_files.specs.DayFiles.{IsCheckRead, IsScoreRead, IsScoreSeen, check_tests, score_tests}
+use Rattle.gl_day_files.specs.DayFiles.{IsScoreRead, IsScoreSeen, score_tests}
 use Rattle.gl_answer.specs.FileTests.{HasTested}
 use Rattle.gl_answer.specs.Halts.{halt_stop}
 use Rattle.gl_answer.proofs.ReadsTwice.{reads_twice}
 use Rattle.gl_answer.specs.Appending.{HasGiven}
-use Rattle.gl_day_claims.specs.DayChecked.{IsDayChecked}
 use Rattle.gl_day_claims.specs.Scored.{IsBegun, IsScored, statements_of_all, text_so_far}
 use Rattle.gl_day_claims.specs.Scoring.{IsDayDone, IsDayStopped}
 use Rattle.gl_answer.proofs.Appended.{HasAppended-none, HasAppended-reads, HasAppended-then, part_after}
@@ -33,7 +29,7 @@ use Rattle.gl_day_claims.proofs.Flights.{all_texts}
 use Rattle.gl_answer.specs.declared.answer.Answer as code
 use Rattle.gl_answer.specs.declared.status.Status.TheVariants.{Done}
 use Rattle.gl_answer.specs.Answer.{answer_of, AnswersHalt}
-use Rattle.gl_day_claims.specs.Check.{IsCheck, IsProofChecked, check_promise}
+use Rattle.gl_day_claims.specs.Check.{IsCheck, check_promise}
 use Rattle.gl_answer.specs.Given.{HasAnswered, IsStopped}
 use Rattle.gl_day_claims.specs.Score.{IsScore, IsScoreDay, score_promise}
 
@@ -141,34 +137,6 @@ reads_on x y z Failed one two =
     record { folder = two.folder ∙ one.folder; said = two.said ∙ one.said; outputs = two.outputs ∙ one.outputs; faults = subst (λ (n : ℕ). Rose n z.faults) one.faults two.faults }
 reads_on x y z Memory one two =
     record { folder = two.folder ∙ one.folder; said = two.said ∙ one.said; outputs = two.outputs ∙ one.outputs; faults = two.faults ∙ one.faults }
-
--- what is said of the proof that was read
-pub proof_checked : (most : ℕ) (folder : Option FilesByName) (names : DayNames) (files : DayFiles) (proof : Proof) (claims : List Claim) (said : Checked)
-    → HasTested (IsScoreSeen names folder) (check_tests most names) IsCheckRead (Ok (files, proof)) → claims ≡ proof.claims.items → IsDayChecked folder files (map statement_of claims) said
-    → HasTested (IsScoreSeen names folder) (check_tests most names) (IsProofChecked folder) (Ok said)
-proof_checked most folder names files proof claims said (seen, is, passes, read) are checked =
-    (seen, is, passes, ((files, proof), read, subst (λ (l : List Claim). IsDayChecked folder files (map statement_of l) said) are checked))
-
--- what is said of the claims that were read, or what stopped that
-pub claims_said : (most : ℕ) (folder : Option FilesByName) (names : DayNames) (files : DayFiles) (proof : Proof) (claims : List Claim) (said : Result Checked DeskError) (result : Result Checked Halt)
-    → HasTested (IsScoreSeen names folder) (check_tests most names) IsCheckRead (Ok (files, proof)) → claims ≡ proof.claims.items → IfOk said (IsDayChecked folder files (map statement_of claims))
-    → MatchResult said (λ checked. result ≡ Ok checked) (λ stop. IsErrAnd result (λ halt. halt ≡ Stopped stop))
-    → HasTested (IsScoreSeen names folder) (check_tests most names) (IsProofChecked folder) result
-claims_said most folder names files proof claims (Ok checked) result tested are is same =
-    subst (λ (r : Result Checked Halt). HasTested (IsScoreSeen names folder) (check_tests most names) (IsProofChecked folder) r) (sym same)
-    (proof_checked most folder names files proof claims checked tested are is)
-claims_said most folder names files proof claims (Err stop) (Ok checked) tested are is same = absurd same
-claims_said most folder names files proof claims (Err stop) (Err halt) tested are is same =
-    subst (λ (h : Halt). HasTested (IsScoreSeen names folder) (check_tests most names) (IsProofChecked folder) (Err h)) (sym same) tt
-
--- and the desk was only read for it
-pub claims_read : (x m y z : Told) (said : Result Checked DeskError) (result : Result Checked Halt) → OnlyReads None x m → OnlyReads None m y → OnlyReads (stop_of said) y z
-    → MatchResult said (λ checked. result ≡ Ok checked) (λ stop. IsErrAnd result (λ halt. halt ≡ Stopped stop)) → OnlyReads (halt_stop result) x z
-claims_read x m y z (Ok checked) result one two three same =
-    subst (λ (r : Result Checked Halt). OnlyReads (halt_stop r) x z) (sym same) (reads_twice x y z (reads_twice x m y one two) three)
-claims_read x m y z (Err stop) (Ok checked) one two three same = absurd same
-claims_read x m y z (Err stop) (Err halt) one two three same =
-    subst (λ (h : Halt). OnlyReads (halt_stop {X = Checked} (Err h)) x z) (sym same) (reads_on x y z stop (reads_twice x m y one two) three)
 
 -- `check` has its answer
 pub check_right : (names : DayNames) (x y : Told) (result : Result code.Answer DeskError) → IfOk result (λ answer. IsCheck x.folder names (answer_of answer)) → OnlyReads (stop_of result) x y

@@ -9,6 +9,7 @@ pub mod Claiming
 pub mod Compared
 pub mod Completing
 pub mod DayAccepted
+pub mod FileFound
 pub mod Flights
 pub mod OneFlight
 pub mod Runs

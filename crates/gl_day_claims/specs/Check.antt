@@ -1,16 +1,15 @@
 -- The right answer of `check`.
-use Rattle.std.specs.Prelude.{◌≡◌, ◌≢◌, ℕ, ◌≤◌, List, Option, Some, length, None}
+use Rattle.std.specs.Prelude.{◌≡◌, ◌≢◌, ℕ, ◌≤◌, List, Option, Some, length, None, IsSomeAnd}
 use Rattle.gl_desk.specs.Desk.{FilesByName}
-use Rattle.gl_proof.specs.declared.proof.Proof.{Proof}
-use Rattle.gl_proof.specs.Text.{statements_of}
 use Rattle.gl_day.specs.declared.fault.Checked.{Checked}
 use Rattle.gl_day.specs.declared.fault.Checked.TheVariants.{Accepted, Refused}
 use Rattle.gl_day.specs.declared.fault.NotProved.{NotProved}
 use Rattle.gl_day.specs.Fault.{box_of_fault, word_of}
+use Rattle.gl_day.specs.FileChecked.{SaysOfText}
 use Rattle.gl_day.specs.Flight.{StewardRules}
 use Rattle.gl_words.specs.DayWords.{DayNames}
 use Rattle.gl_day_files.specs.declared.day_files.DayFiles.{DayFiles}
-use Rattle.gl_day_files.specs.DayFiles.{IsCheckRead, IsScoreSeen, ScoreSeen, check_tests}
+use Rattle.gl_day_files.specs.DayFiles.{IsDayRead, IsScoreSeen, ScoreSeen, check_tests}
 use Rattle.gl_answer.specs.FileTests.{most_proof_bytes}
 use Rattle.gl_day_claims.specs.DayChecked.{IsDayChecked}
 use Rattle.gl_answer.specs.declared.status.Status.TheVariants as status
@@ -29,11 +28,16 @@ abbrev pub checked_answer : Checked → Answer
 checked_answer (Accepted claims) = saying status.Done (accepted_line claims)
 checked_answer (Refused wrong) = saying status.NotProved (not_proved_line wrong)
 
+-- a text is a proof, and this is to be said of its claims by the files of a day
+abbrev pub IsTextChecked : Option FilesByName → DayFiles → List ℕ → Checked → Type 0
+IsTextChecked folder day text said =
+    SaysOfText (λ statements checked. IsDayChecked folder day statements checked) text said
+
 -- what is to be said of the proof that was seen, by the day that was
 abbrev pub IsProofChecked : Option FilesByName → ScoreSeen → Checked → Type 0
 IsProofChecked folder seen said =
-    (read : DayFiles × Proof) × IsCheckRead seen read
-    × IsDayChecked folder read.0 (statements_of read.1) said
+    (day : DayFiles) × IsDayRead seen.task day
+    × IsSomeAnd seen.proof (λ text. IsTextChecked folder day text said)
 
 abbrev pub IsCheckTold : Option FilesByName → ScoreSeen → Answer → Type 0
 IsCheckTold folder seen answer =

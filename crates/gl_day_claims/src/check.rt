@@ -7,7 +7,7 @@ ghost use Rattle.gl_answer.specs.Halts.{halt_stop};
 ghost use Rattle.gl_answer.specs.Answer.{answer_of};
 ghost use Rattle.gl_day_claims.specs.Check.{IsCheck, IsProofChecked, checked_answer};
 
-use crate::checking::check_claims;
+use crate::checking::check_file;
 use gl_answer::{Answer, Halt, MOST_PROOF_BYTES, Status, accepted_line, answer_halt, wrong_line};
 use gl_day::Checked;
 use gl_day_files::test_check_files;
@@ -29,14 +29,8 @@ pub fn check_proof<D: Desk>(
     ensures reads { OnlyReads (halt_stop result) (D.told desk.old) (D.told desk.new) }
 {
     let names = desk.names(alloc)?;
-    match test_check_files(alloc, desk, &names, day, most) {
-        Ok((files, proof)) => {
-            check_claims(alloc, desk, &names, &files, proof.claims.as_slice()).map_err(
-                Halt::Stopped,
-            )
-        }
-        Err(halt) => Err(halt),
-    }
+    let files = test_check_files(alloc, desk, &names, day)?;
+    check_file(alloc, desk, &names, &files, day.proof, most)
 }
 
 /// The answer that says what was found.

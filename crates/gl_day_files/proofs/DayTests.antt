@@ -6,7 +6,6 @@ use Rattle.gl_airspace.specs.Airspace.{IsAirspace}
 use Rattle.gl_airspace.specs.declared.volume.Airspace.{Airspace}
 use Rattle.gl_desk.specs.Desk.{FilesByName, HasFile, ListsNames}
 use Rattle.gl_desk.specs.Limits.{most_bytes}
-use Rattle.gl_proof.specs.declared.proof.Proof.{Proof}
 use Rattle.gl_task.specs.declared.task.Task.{Task}
 use Rattle.gl_task_file.specs.Keys.{said}
 use Rattle.gl_task_file.specs.Reading.{IsReadFrom}
@@ -16,8 +15,8 @@ use Rattle.gl_day_files.specs.declared.day_files.DayFiles.{DayFiles}
 use Rattle.gl_answer.specs.declared.halt.Halt.{Halt}
 use Rattle.gl_answer.specs.declared.halt.Halt.TheVariants.{Refused, Stopped}
 use Rattle.gl_answer.specs.declared.refusal.Refusal.{Refusal}
-use Rattle.gl_day_files.specs.DayFiles.{AirspaceText, IsAirspaceRead, IsAirspaceSeen, IsCheckRead, IsDayRead, IsScoreRead, IsScoreSeen, IsTaskSeen, TaskText, airspace_file, airspace_tests, check_tests, named_airspace, score_tests, task_tests}
-use Rattle.gl_answer.specs.FileTests.{HasTested, IsProofOfText, ProofText, Reads, text_tests}
+use Rattle.gl_day_files.specs.DayFiles.{AirspaceText, IsAirspaceRead, IsAirspaceSeen, HasTestedDay, IsDayRead, IsScoreRead, IsScoreSeen, IsTaskSeen, TaskText, airspace_file, airspace_tests, check_tests, named_airspace, score_tests, task_tests}
+use Rattle.gl_answer.specs.FileTests.{HasTested, ProofText, Reads, text_tests}
 use Rattle.gl_answer.specs.ReadFiles.{HasReadFile, IsNeeded, IsUnused}
 use Rattle.gl_answer.proofs.FileTests.{all_pass, fails_behind, fails_in_front, small_fails, small_passes, some_text_fails, some_text_passes}
 use Rattle.gl_answer.proofs.Listing.{is_listed, not_listed, seen_some}
@@ -105,7 +104,7 @@ score_task_missing folder names day (Refused refusal) lists (none, same) =
 score_task_missing folder names day (Stopped stop) lists needed = tt
 
 pub check_task_missing : (most : ℕ) (folder : Option FilesByName) (names : List (List ℕ)) (day : DayNames) (halt : Halt) → ListsNames folder names → IsNeeded names day.task (Err halt)
-    → HasTested (IsScoreSeen day folder) (check_tests most day) IsCheckRead (Err halt)
+    → HasTestedDay most folder day (Err halt)
 check_task_missing most folder names day (Refused refusal) lists (none, same) =
     let proof = seen_some folder day.proof in (
       record { task = record { text = None; airspace = None }; proof = proof.0 },
@@ -130,7 +129,7 @@ score_proof_listed folder names day (Stopped stop) lists task used = tt
 -- the task is listed, and the proof of `check` isn't
 pub check_proof_missing : (most : ℕ) (folder : Option FilesByName) (names : List (List ℕ)) (day : DayNames) (halt : Halt) → ListsNames folder names → HasFile folder day.task
     → IsNeeded names day.proof (Err halt)
-    → HasTested (IsScoreSeen day folder) (check_tests most day) IsCheckRead (Err halt)
+    → HasTestedDay most folder day (Err halt)
 check_proof_missing most folder names day (Refused refusal) lists task (none, same) =
     let text = is_listed folder day.task task in
     let air = airspace_seen folder (named_airspace text.0) in (
@@ -160,7 +159,7 @@ score_tested folder names day (Err (Stopped stop)) lists new tested = tt
 
 -- both are listed, and the day was refused
 pub check_day_refused : (most : ℕ) (folder : Option FilesByName) (day : DayNames) (halt : Halt) → HasFile folder day.proof
-    → HasTested {X = DayFiles} (IsTaskSeen day.task folder) (task_tests day.task) IsDayRead (Err halt) → HasTested (IsScoreSeen day folder) (check_tests most day) IsCheckRead (Err halt)
+    → HasTested {X = DayFiles} (IsTaskSeen day.task folder) (task_tests day.task) IsDayRead (Err halt) → HasTestedDay most folder day (Err halt)
 check_day_refused most folder day (Refused refusal) there (seen, is, fails) =
     let proof = is_listed folder day.proof there in
     let rest = airspace_tests (airspace_file seen.text) seen.airspace in (
@@ -173,11 +172,27 @@ check_day_refused most folder day (Refused refusal) there (seen, is, fails) =
     )
 check_day_refused most folder day (Stopped stop) there tested = tt
 
--- both are listed, the day passed, and the proof was refused
-pub check_proof_refused : (most : ℕ) (folder : Option FilesByName) (day : DayNames) (files : DayFiles) (halt : Halt)
-    → HasTested (IsTaskSeen day.task folder) (task_tests day.task) IsDayRead (Ok files) → HasReadFile {X = Proof} ProofText most folder day.proof IsProofOfText (Err halt)
-    → HasTested (IsScoreSeen day folder) (check_tests most day) IsCheckRead (Err halt)
-check_proof_refused most folder day files (Refused refusal) (seen, is, passes, reads) (proof, there, fails) =
+-- both are listed, and the day was tested
+pub day_tested : (most : ℕ) (folder : Option FilesByName) (day : DayNames) (result : Result DayFiles Halt) → HasFile folder day.proof
+    → HasTested (IsTaskSeen day.task folder) (task_tests day.task) IsDayRead result → HasTestedDay most folder day result
+day_tested most folder day (Ok files) there tested = tested
+day_tested most folder day (Err halt) there tested = check_day_refused most folder day halt there tested
+
+-- both are listed, the day passed, and so the proof is tested
+pub check_tested : {X : Type 0} (most : ℕ) (folder : Option FilesByName) (day : DayNames) (files : DayFiles) (result : Result X Halt) (IsOf : List ℕ → X → Type 0)
+    → HasTestedDay most folder day (Ok files) → HasReadFile ProofText most folder day.proof IsOf result
+    → HasTested (IsScoreSeen day folder) (check_tests most day) (λ seen x. IsDayRead seen.task files × IsSomeAnd seen.proof (λ text. IsOf text x)) result
+check_tested most folder day files (Ok x) IsOf (seen, is, passes, reads) (proof, there, pass, are) =
+    let rest = airspace_tests (airspace_file seen.text) seen.airspace in (
+      record { task = seen; proof = proof },
+      record { task = is; proof = there },
+      (
+        small_passes most_bytes day.task seen.text (Reads TaskText day.task seen.text ∷ rest) passes,
+        (some_text_passes ProofText most day.proof proof pass, all_pass (task_tests day.task seen) (text_tests ProofText most day.proof proof) passes pass),
+      ),
+      (reads, are),
+    )
+check_tested most folder day files (Err (Refused refusal)) IsOf (seen, is, passes, reads) (proof, there, fails) =
     let rest = airspace_tests (airspace_file seen.text) seen.airspace in (
       record { task = seen; proof = proof },
       record { task = is; proof = there },
@@ -186,19 +201,4 @@ check_proof_refused most folder day files (Refused refusal) (seen, is, passes, r
         inr (some_text_fails ProofText most day.proof proof refusal fails, fails_behind (task_tests day.task seen) (text_tests ProofText most day.proof proof) refusal passes fails),
       ),
     )
-check_proof_refused most folder day files (Stopped stop) tested read = tt
-
--- both are listed, and passed
-pub check_passed : (most : ℕ) (folder : Option FilesByName) (day : DayNames) (files : DayFiles) (read : Proof)
-    → HasTested (IsTaskSeen day.task folder) (task_tests day.task) IsDayRead (Ok files) → HasReadFile ProofText most folder day.proof IsProofOfText (Ok read)
-    → HasTested (IsScoreSeen day folder) (check_tests most day) IsCheckRead (Ok (files, read))
-check_passed most folder day files read (seen, is, passes, reads) (proof, there, pass, are) =
-    let rest = airspace_tests (airspace_file seen.text) seen.airspace in (
-      record { task = seen; proof = proof },
-      record { task = is; proof = there },
-      (
-        small_passes most_bytes day.task seen.text (Reads TaskText day.task seen.text ∷ rest) passes,
-        (some_text_passes ProofText most day.proof proof pass, all_pass (task_tests day.task seen) (text_tests ProofText most day.proof proof) passes pass),
-      ),
-      record { day = reads; proof = are },
-    )
+check_tested most folder day files (Err (Stopped stop)) IsOf tested read = tt

@@ -1,5 +1,5 @@
 -- The files of a day: their tests in their order, and what they give.
-use Rattle.std.specs.Prelude.{◌≡◌, ℕ, List, [], ◌∷◌, ◌++◌, Option, None, Some, IsSomeAnd, codes}
+use Rattle.std.specs.Prelude.{◌≡◌, ℕ, List, [], ◌∷◌, ◌++◌, Option, None, Some, Result, Ok, Err, IsSomeAnd, codes}
 use Rattle.std.specs.Option.{option_and_then}
 use Rattle.toml.specs.Parse.{parse_document}
 use Rattle.gl_airspace.specs.Airspace.{IsAirspace}
@@ -10,7 +10,6 @@ use Rattle.gl_airspace.specs.declared.error.AirError.TheVariants as air
 use Rattle.gl_airspace.specs.declared.volume.Airspace.{Airspace}
 use Rattle.gl_desk.specs.Desk.{FilesByName, IsSeenIn}
 use Rattle.gl_desk.specs.Limits.{most_bytes}
-use Rattle.gl_proof.specs.declared.proof.Proof.{Proof}
 use Rattle.gl_task.specs.declared.task.Task.{Task}
 use Rattle.gl_task_file.specs.Keys.{said}
 use Rattle.gl_task_file.specs.Reading.{IsReadFrom, IsRefusalOf}
@@ -18,7 +17,8 @@ use Rattle.gl_task_file.specs.Values.{file_name}
 use Rattle.gl_task_file.specs.declared.error.TaskError.{TaskError}
 use Rattle.gl_task_file.specs.declared.error.TaskError.TheVariants as task
 use Rattle.gl_words.specs.DayWords.{DayNames}
-use Rattle.gl_answer.specs.FileTests.{FileTest, IsProofOfText, Kind, Listed, ProofText, Unlisted, text_tests}
+use Rattle.gl_answer.specs.FileTests.{FileTest, HasTested, Kind, Listed, ProofText, Unlisted, text_tests}
+use Rattle.gl_answer.specs.declared.halt.Halt.{Halt}
 use Rattle.gl_answer.specs.declared.refusal.Cause.{Cause}
 use Rattle.gl_answer.specs.declared.refusal.Cause.TheVariants.{NoKey, NotToml, NumberTwice, TooManyItems, TooMuchAirspace, WrongAirspace, WrongValue}
 use Rattle.gl_day_files.specs.declared.day_files.DayFiles.{DayFiles}
@@ -131,7 +131,11 @@ check_tests most names seen =
 abbrev pub IsScoreRead : ScoreSeen → DayFiles → Type 0
 IsScoreRead seen day = IsDayRead seen.task day
 
--- this day and this proof were read
-pub record IsCheckRead (seen : ScoreSeen) (read : DayFiles × Proof) : Type 0 where
-  pub day : IsDayRead seen.task read.0
-  pub proof : IsSomeAnd seen.proof (λ text. IsProofOfText text read.1)
+-- what the tests of `check` before that of the proof's text end with: the task and its airspace pass
+-- them and were read, or the first that fails refuses its file
+abbrev pub HasTestedDay : ℕ → Option FilesByName → DayNames → Result DayFiles Halt → Type 0
+HasTestedDay most folder names (Ok day) =
+    HasTested (IsTaskSeen names.task folder) (task_tests names.task) IsDayRead (Ok day)
+HasTestedDay most folder names (Err halt) =
+    HasTested {X = DayFiles} (IsScoreSeen names folder) (check_tests most names) (λ seen day. ⊥)
+    (Err halt)

@@ -1,19 +1,18 @@
-ghost use Rattle.std.specs.Prelude.{◌≡◌, Contains, IfOk};
+ghost use Rattle.std.specs.Prelude.{◌≡◌, ℕ, Contains, IfOk};
 ghost use Rattle.gl_airspace.specs.Airspace.{IsAirspace};
 ghost use Rattle.gl_desk.specs.Answers.{OnlyReads};
 ghost use Rattle.gl_desk.specs.Desk.{HasFile, ListsNames};
 ghost use Rattle.gl_desk.specs.Limits.{most_bytes};
 ghost use Rattle.gl_task_file.specs.Reading.{IsReadFrom};
 ghost use Rattle.gl_words.specs.DayNames.{names_seen};
-ghost use Rattle.gl_day_files.specs.DayFiles.{AirspaceText, IsAirspaceRead, IsAirspaceSeen, IsCheckRead, IsDayRead, IsScoreRead, IsScoreSeen, IsTaskSeen, TaskText, airspace_cause, airspace_tests, check_tests, score_tests, task_cause, task_tests};
+ghost use Rattle.gl_day_files.specs.DayFiles.{AirspaceText, HasTestedDay, IsAirspaceRead, IsAirspaceSeen, IsDayRead, IsScoreRead, IsScoreSeen, IsTaskSeen, TaskText, airspace_cause, airspace_tests, score_tests, task_cause, task_tests};
 ghost use Rattle.gl_answer.specs.FileTests.{HasTested};
 ghost use Rattle.gl_answer.specs.ReadFiles.{HasRead, HasReadFile};
 ghost use Rattle.gl_answer.specs.Halts.{IsNoFault, halt_stop};
 
 use gl_airspace::{AirError, Airspace, empty, read_openair};
-use gl_answer::{Cause, Halt, need, need_unlisted, read_bytes, read_proof_file, refusing_for};
+use gl_answer::{Cause, Halt, need, need_unlisted, read_bytes, refusing_for};
 use gl_desk::{Desk, MOST_BYTES, Name};
-use gl_proof::Proof;
 use gl_task::Task;
 use gl_task_file::{TaskError, read_task};
 use gl_words::DayNames;
@@ -155,26 +154,24 @@ pub fn test_score_files<D: Desk>(
     read_day(alloc, desk, names, day.task)
 }
 
-/// The files that `check` needs, where they pass its tests.
+/// The task and the airspace that `check` needs, where its files pass these tests.
 ///
 /// The tests are made in this order: TASK and PROOF are of the folder's names; then those of TASK
-/// and the airspace file as in [`test_score_files`]; PROOF has at most `most` bytes; its text is a
-/// proof.
+/// and the airspace file as in [`test_score_files`]. That PROOF has at most `most` bytes, and that
+/// its text is a proof, is tested after them.
 pub fn test_check_files<D: Desk>(
     alloc: Global,
     desk: &mut D,
     names: &[Name],
     day: DayNames<'_>,
-    most: u64,
-) -> Result<(DayFiles, Proof), Halt>
+) -> Result<DayFiles, Halt>
     requires { ListsNames (D.told desk.old).folder names.now }
-    ensures tested { HasTested (IsScoreSeen (names_seen day.entry) (D.told desk.old).folder)
-        (check_tests most (names_seen day.entry)) IsCheckRead result }
+    ensures tested { (most : ℕ) → HasTestedDay most (D.told desk.old).folder
+        (names_seen day.entry) result }
+    ensures listed { IfOk result (λ _. HasFile (D.told desk.old).folder day.entry.proof.now) }
     ensures reads { OnlyReads (halt_stop result) (D.told desk.old) (D.told desk.new) }
 {
     need(names, day.task)?;
     need(names, day.proof)?;
-    let files = read_day(alloc, desk, names, day.task)?;
-    let proof = read_proof_file(alloc, desk, day.proof, most)?;
-    Ok((files, proof))
+    read_day(alloc, desk, names, day.task)
 }
