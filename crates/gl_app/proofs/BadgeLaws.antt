@@ -7,7 +7,7 @@ use Rattle.gl_igc.specs.declared.recording.Recording.{Recording}
 use Rattle.gl_proof.proofs.Unique.{text_unique}
 use Rattle.gl_proof.specs.declared.version.Version.TheVariants.{Two}
 use Rattle.gl_proof.specs.Claim.{Statement}
-use Rattle.gl_proof.specs.Text.{IsTextOf, statements_of}
+use Rattle.gl_proof.specs.Text.{IsTextOf}
 use Rattle.gl_words.specs.Words.{BadgeWords}
 use Rattle.gl_words.proofs.Unbroken.{HasUnbrokenBadge}
 use Rattle.gl_answer.specs.declared.refusal.Refusal.{Refusal}
@@ -43,17 +43,18 @@ begun_part folder words text (answer, right, count, is) = record { answer = answ
 pub badge_lawful : (folder : Option FilesByName) (words : BadgeWords) → HasUnbrokenBadge words → IsLawful (badge_promise folder words)
 badge_lawful folder words named = record {
   result = by_tests_result (IsBadgeSeen words folder) (badge_tests words) (IsBadgeTold words) (λ seen answer is. inl (badge_done words seen answer is));
-  passes = by_tests_passes folder (IsBadgeSeen words) (badge_tests words) (IsBadgeTold words) (badge_decided words) (λ seen answer is. done_no_refusal answer.status (inl (badge_done words seen answer is)));
+  passes = by_tests_passes folder (IsBadgeSeen words) (badge_tests words) (IsBadgeTold words) (badge_decided words)
+      (λ seen answer is. done_no_refusal answer.status (inl (badge_done words seen answer is)));
   line = by_tests_line (IsBadgeSeen words folder) (badge_tests words) (IsBadgeTold words) (badge_named words named) (λ seen answer is unless. absurd (unless (badge_done words seen answer is)));
   own = λ none. absurd none;
   begun = begun_part folder words;
 }
 
 judged_result : (words : BadgeWords) (seen : BadgeSeen) (answer : Answer) → IsBadgeJudged words seen answer → (answer.status ≡ status.Done) ⊎ (answer.status ≡ status.NotProved)
-judged_result words seen answer (read, are, said, is, same) = checked_result said answer same
+judged_result words seen answer (said, checked, same) = checked_result said answer same
 
 judged_line : (words : BadgeWords) (seen : BadgeSeen) (answer : Answer) → IsBadgeJudged words seen answer → answer.status ≢ status.Done → IsLine answer.said
-judged_line words seen answer (read, are, said, is, same) unless = checked_line said answer same unless
+judged_line words seen answer (said, checked, same) unless = checked_line said answer same unless
 
 -- what was seen where `badge` had its answer
 record HasTold (before : FilesByName) (words : BadgeWords) (answer : Answer) : Type 0 where
@@ -96,10 +97,10 @@ all_pass words seen text statements passes small is =
 -- what is said of it
 own_judged : (words : BadgeWords) (seen : BadgeSeen) (wrote : Answer) (recording : Recording) → IsBadgeRead seen recording → IsBadgeSaid recording wrote → (answer : Answer)
     → IsBadgeJudged words (seen_with seen wrote.appended) answer → answer.status ≡ status.Done
-own_judged words seen wrote recording read said answer (read_too, are, told, checked, same) =
-    let flight = one_recording seen.flight None read_too.0 recording are.flight read in
-    let claims = text_unique wrote.appended (statements_of read_too.1) said.statements are.proof said.appended in
-    let is = subst (λ (l : List Statement). IsBadgeChecked recording l told) claims (subst (λ (r : Recording). IsBadgeChecked r (statements_of read_too.1) told) flight checked) in
+own_judged words seen wrote recording read said answer (told, (recording_too, read_too, (version, found, is_text, checked)), same) =
+    let flight = one_recording seen.flight None recording_too recording read_too read in
+    let claims = text_unique wrote.appended found said.statements is_text said.appended in
+    let is = subst (λ (l : List Statement). IsBadgeChecked recording l told) claims (subst (λ (r : Recording). IsBadgeChecked r found told) flight checked) in
     let accepted = badges_accepted recording wrote.said said.statements told said.found is in
     ap (λ (a : Answer). a.status) (same ∙ ap checked_answer accepted.1)
 
@@ -123,7 +124,8 @@ own_accepted (Some files) words own answer (seen, is, either) =
 pub badge_check_lawful : (folder : Option FilesByName) (words : BadgeWords) → HasUnbrokenBadge words → IsLawful (badge_check_promise folder words)
 badge_check_lawful folder words named = record {
   result = by_tests_result (IsBadgeSeen words folder) (badge_check_tests words) (IsBadgeJudged words) (λ seen answer is. some_result answer.status (judged_result words seen answer is));
-  passes = by_tests_passes folder (IsBadgeSeen words) (badge_check_tests words) (IsBadgeJudged words) (badge_check_decided words) (λ seen answer is. done_no_refusal answer.status (judged_result words seen answer is));
+  passes = by_tests_passes folder (IsBadgeSeen words) (badge_check_tests words) (IsBadgeJudged words) (badge_check_decided words)
+      (λ seen answer is. done_no_refusal answer.status (judged_result words seen answer is));
   line = by_tests_line (IsBadgeSeen words folder) (badge_check_tests words) (IsBadgeJudged words) (badge_check_named words named) (judged_line words);
   own = own_accepted folder words;
   begun = λ text none. absurd none;

@@ -7,11 +7,11 @@ use Rattle.gl_badge.specs.Proved.{IsBadgeChecked, IsBadgeFound}
 use Rattle.gl_desk.specs.Answers.{OnlyReads, stop_of}
 use Rattle.gl_desk.specs.Desk.{FilesByName, Told}
 use Rattle.gl_desk.specs.declared.error.DeskError.{DeskError}
+use Rattle.gl_day.specs.FileChecked.{SaysOfText}
 use Rattle.gl_day.specs.declared.fault.Checked.{Checked}
 use Rattle.gl_day.proofs.Texts.{claim_texts-append, proof_text-parts}
 use Rattle.gl_igc.specs.declared.recording.Recording.{Recording}
 use Rattle.gl_proof.specs.declared.claim.Claim.{Claim}
-use Rattle.gl_proof.specs.declared.proof.Proof.{Proof}
 use Rattle.gl_proof.specs.declared.version.Version.TheVariants.{Two}
 use Rattle.gl_proof.specs.Claim.{Statement, claim_text, statement_of}
 use Rattle.gl_proof.specs.Line.{EndLine, HeadingLine, ended}
@@ -19,8 +19,10 @@ use Rattle.gl_proof.specs.Text.{proof_text}
 use Rattle.gl_words.specs.Words.{BadgeWords}
 use Rattle.gl_answer.specs.declared.halt.Halt.{Halt}
 use Rattle.gl_answer.specs.declared.halt.Halt.TheVariants.{Refused, Stopped}
-use Rattle.gl_flights.specs.BadgeFiles.{AreBadgeCheckRead, IsBadgeRead, IsBadgeSeen, badge_check_tests, badge_tests}
-use Rattle.gl_answer.specs.FileTests.{HasTested}
+use Rattle.gl_flights.specs.BadgeFiles.{HasTestedFlight, IsBadgeRead, IsBadgeSeen, badge_check_tests, badge_tests}
+use Rattle.gl_flights.proofs.BadgeTests.{proof_tested}
+use Rattle.gl_answer.specs.FileTests.{HasTested, ProofText, most_proof_bytes}
+use Rattle.gl_answer.specs.ReadFiles.{HasReadFile}
 use Rattle.gl_answer.specs.Halts.{halt_stop}
 use Rattle.gl_answer.proofs.ReadsTwice.{reads_twice}
 use Rattle.gl_day_claims.proofs.Commanded.{some_text}
@@ -29,7 +31,7 @@ use Rattle.gl_answer.proofs.Appended.{HasAppended-none, HasAppended-reads, HasAp
 use Rattle.gl_answer.specs.declared.answer.Answer as code
 use Rattle.gl_answer.specs.declared.status.Status.TheVariants.{Done}
 use Rattle.gl_answer.specs.Answer.{Answer, answer_of, AnswersHalt}
-use Rattle.gl_app.specs.Badge.{IsBadge, IsBadgeCheck, badge_check_promise, badge_promise}
+use Rattle.gl_app.specs.Badge.{IsBadge, IsBadgeCheck, IsBadgeProofChecked, badge_check_promise, badge_promise}
 use Rattle.gl_day_claims.specs.Check.{checked_answer}
 use Rattle.gl_answer.specs.Given.{HasAnswered, IsStopped}
 
@@ -168,12 +170,27 @@ badge_refused words x m y (Refused refusal) (Err stop) lists tested reads same =
 badge_refused words x m y (Stopped stop) (Ok answer) lists tested reads same = absurd same
 badge_refused words x m y (Stopped stop) (Err error) lists tested reads same = tt
 
+-- the recording passed its tests, and then this was said of the proof's file
+pub badge_proof_said : (folder : Option FilesByName) (words : BadgeWords) (recording : Recording) (result : Result Checked Halt) → HasTestedFlight folder words (Ok recording)
+    → HasReadFile ProofText most_proof_bytes folder words.proof (SaysOfText (IsBadgeChecked recording)) result
+    → HasTested (IsBadgeSeen words folder) (badge_check_tests words) IsBadgeProofChecked result
+badge_proof_said folder words recording (Ok said) tested read =
+    let all = proof_tested folder words recording (Ok said) (SaysOfText (IsBadgeChecked recording)) tested read in
+    (all.0, all.1, all.2, (recording, all.3.0, all.3.1))
+badge_proof_said folder words recording (Err (Refused refusal)) tested read =
+    proof_tested folder words recording (Err (Refused refusal)) (SaysOfText (IsBadgeChecked recording)) tested read
+badge_proof_said folder words recording (Err (Stopped stop)) tested read = tt
+
+-- or it didn't
+pub flight_said : (folder : Option FilesByName) (words : BadgeWords) (halt : Halt) → HasTestedFlight folder words (Err halt)
+    → HasTested {X = Checked} (IsBadgeSeen words folder) (badge_check_tests words) IsBadgeProofChecked (Err halt)
+flight_said folder words (Refused refusal) tested = tested
+flight_said folder words (Stopped stop) tested = tt
+
 -- `badgecheck` has its answer
-pub badge_check_right : (folder : Option FilesByName) (words : BadgeWords) (recording : Recording) (proof : Proof) (claims : List Claim) (said : Checked) (answer : Answer)
-    → HasTested (IsBadgeSeen words folder) (badge_check_tests words) AreBadgeCheckRead (Ok (recording, proof)) → claims ≡ proof.claims.items → IsBadgeChecked recording (map statement_of claims) said
-    → answer ≡ checked_answer said → IsBadgeCheck folder words answer
-badge_check_right folder words recording proof claims said answer (seen, is, passes, read) are checked same =
-    (seen, is, inl (passes, ((recording, proof), read, said, subst (λ (l : List Claim). IsBadgeChecked recording (map statement_of l) said) are checked, same)))
+pub badge_check_right : (folder : Option FilesByName) (words : BadgeWords) (said : Checked) (answer : Answer)
+    → HasTested (IsBadgeSeen words folder) (badge_check_tests words) IsBadgeProofChecked (Ok said) → answer ≡ checked_answer said → IsBadgeCheck folder words answer
+badge_check_right folder words said answer (seen, is, passes, checked) same = (seen, is, inl (passes, (said, checked, same)))
 
 -- it has given it
 pub badge_checked : (words : BadgeWords) (x y : Told) (result : Result code.Answer DeskError) → IfOk result (λ answer. IsBadgeCheck x.folder words (answer_of answer)) → OnlyReads (stop_of result) x y

@@ -1,15 +1,15 @@
 -- The right answers of `badge` and `badgecheck`.
-use Rattle.std.specs.Prelude.{◌≡◌, ◌≢◌, ℕ, ◌≤◌, List, length, take, Option, None, Some}
+use Rattle.std.specs.Prelude.{◌≡◌, ◌≢◌, ℕ, ◌≤◌, List, length, take, Option, None, Some, IsSomeAnd}
 use Rattle.gl_badge.specs.Proved.{IsBadgeChecked, IsBadgeFound}
 use Rattle.gl_desk.specs.Desk.{FilesByName}
+use Rattle.gl_day.specs.FileChecked.{SaysOfText}
 use Rattle.gl_day.specs.declared.fault.Checked.{Checked}
 use Rattle.gl_igc.specs.declared.recording.Recording.{Recording}
-use Rattle.gl_proof.specs.declared.proof.Proof.{Proof}
 use Rattle.gl_proof.specs.declared.version.Version.TheVariants.{Two}
 use Rattle.gl_proof.specs.Claim.{Statement}
-use Rattle.gl_proof.specs.Text.{IsTextOf, statements_of}
+use Rattle.gl_proof.specs.Text.{IsTextOf}
 use Rattle.gl_words.specs.Words.{BadgeWords}
-use Rattle.gl_flights.specs.BadgeFiles.{AreBadgeCheckRead, BadgeSeen, IsBadgeRead, IsBadgeSeen, badge_check_tests, badge_tests}
+use Rattle.gl_flights.specs.BadgeFiles.{BadgeSeen, IsBadgeRead, IsBadgeSeen, badge_check_tests, badge_tests}
 use Rattle.gl_answer.specs.FileTests.{most_proof_bytes}
 use Rattle.gl_answer.specs.declared.status.Status.TheVariants as status
 use Rattle.gl_answer.specs.Answer.{Answer}
@@ -51,13 +51,16 @@ badge_promise folder words = record {
   target = Some words.proof;
 }
 
--- the answer says what is to be said of the claims of the proof that was seen, by the recording
--- that was
+-- what is to be said of the proof that was seen, by the recording that was
+abbrev pub IsBadgeProofChecked : BadgeSeen → Checked → Type 0
+IsBadgeProofChecked seen said =
+    (recording : Recording) × IsBadgeRead seen recording
+    × IsSomeAnd seen.proof (λ text. SaysOfText (IsBadgeChecked recording) text said)
+
+-- the answer says so
 abbrev pub IsBadgeJudged : BadgeWords → BadgeSeen → Answer → Type 0
 IsBadgeJudged words seen answer =
-    (read : Recording × Proof) × AreBadgeCheckRead seen read
-    × (said : Checked) × IsBadgeChecked read.0 (statements_of read.1) said
-    × (answer ≡ checked_answer said)
+    (said : Checked) × IsBadgeProofChecked seen said × (answer ≡ checked_answer said)
 
 -- the answer of `badgecheck`
 abbrev pub IsBadgeCheck : Option FilesByName → BadgeWords → Answer → Type 0

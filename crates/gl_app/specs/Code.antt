@@ -1,4 +1,3 @@
 -- Definitions of the code alone: what its loops keep, and views of its types. No promise to a
 -- caller cites them.
-pub mod Badge
 pub mod Shelf

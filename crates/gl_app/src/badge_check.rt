@@ -1,27 +1,60 @@
-ghost use Rattle.std.specs.Prelude.{◌≡◌, IfErr, IfOk};
+ghost use Rattle.std.specs.Prelude.{◌≡◌, IfOk};
+ghost use Rattle.gl_badge.specs.Proved.{IsBadgeChecked};
+ghost use Rattle.gl_day.specs.FileChecked.{SaysOfText};
 ghost use Rattle.gl_desk.specs.Answers.{OnlyReads, stop_of};
+ghost use Rattle.gl_desk.specs.Desk.{HasFile};
 ghost use Rattle.gl_words.specs.BadgeWords.{badge_seen};
+ghost use Rattle.gl_flights.specs.BadgeFiles.{IsBadgeSeen, badge_check_tests};
 ghost use Rattle.gl_answer.specs.Answer.{answer_of};
-ghost use Rattle.gl_app.specs.Badge.{IsBadgeCheck};
-ghost use Rattle.gl_app.specs.Code.Badge.{AreClaimsAnswered};
+ghost use Rattle.gl_answer.specs.FileTests.{HasTested, ProofText, most_proof_bytes};
+ghost use Rattle.gl_answer.specs.Halts.{halt_stop};
+ghost use Rattle.gl_answer.specs.ReadFiles.{HasReadFile};
+ghost use Rattle.gl_app.specs.Badge.{IsBadgeCheck, IsBadgeProofChecked};
 
-use gl_answer::{Answer, answer_halt};
+use gl_answer::{Answer, Halt, MOST_PROOF_BYTES, answer_halt};
 use gl_badge::check_badges;
+use gl_check::ClaimsFile;
+use gl_day::Checked;
 use gl_day_claims::check::checked_answer;
-use gl_desk::{Desk, DeskError};
+use gl_desk::{Desk, DeskError, Name};
 use gl_flights::test_badge_check_files;
 use gl_igc::Recording;
-use gl_proof::Proof;
 use gl_words::BadgeWords;
 use std::alloc::Global;
 
-/// The answer for the claims of a proof by a recording.
-fn answer_claims(alloc: Global, recording: &Recording, proof: &Proof) -> Result<Answer, DeskError>
-    ensures right { IfOk result (AreClaimsAnswered recording.now proof.now) }
-    ensures stopped { IfErr result (λ stop. stop ≡ DeskError.Memory) }
+/// What is said of a listed file by a recording. It is refused where it has more than 1,073,741,824
+/// bytes, or isn't a proof, whatever is wrong with its claims.
+fn check_badge_file<D: Desk>(
+    alloc: Global,
+    desk: &mut D,
+    recording: &Recording,
+    proof: &Name,
+) -> Result<Checked, Halt>
+    requires { HasFile (D.told desk.old).folder proof.now }
+    ensures checked { HasReadFile ProofText most_proof_bytes (D.told desk.old).folder proof.now
+        (SaysOfText (IsBadgeChecked recording.now)) result }
+    ensures reads { OnlyReads (halt_stop result) (D.told desk.old) (D.told desk.new) }
 {
-    let said = check_badges(alloc, recording, proof.claims.as_slice())?;
-    Ok(checked_answer(alloc, said)?)
+    let mut claims = ClaimsFile::open(alloc, desk, proof, MOST_PROOF_BYTES)?;
+    let said = check_badges(alloc, desk, recording, &mut claims)?;
+    claims.end(alloc, desk)?;
+    Ok(said)
+}
+
+/// What is said of a proof by the recording: that its claims are accepted, or the first that is
+/// wrong.
+fn check_badge_proof<D: Desk>(
+    alloc: Global,
+    desk: &mut D,
+    words: BadgeWords<'_>,
+) -> Result<Checked, Halt>
+    ensures checked { HasTested (IsBadgeSeen (badge_seen words.entry) (D.told desk.old).folder)
+        (badge_check_tests (badge_seen words.entry)) IsBadgeProofChecked result }
+    ensures reads { OnlyReads (halt_stop result) (D.told desk.old) (D.told desk.new) }
+{
+    let names = desk.names(alloc)?;
+    let recording = test_badge_check_files(alloc, desk, &names, words)?;
+    check_badge_file(alloc, desk, &recording, words.proof)
 }
 
 /// The answer of `badgecheck FILE PROOF`: whether the proof is that of the flight's badge claims.
@@ -34,9 +67,8 @@ pub fn badge_check<D: Desk>(
         IsBadgeCheck (D.told desk.old).folder (badge_seen words.entry) (answer_of answer)) }
     ensures reads { OnlyReads (stop_of result) (D.told desk.old) (D.told desk.new) }
 {
-    let names = desk.names(alloc)?;
-    match test_badge_check_files(alloc, desk, &names, words) {
-        Ok((recording, proof)) => answer_claims(alloc, &recording, &proof),
+    match check_badge_proof(alloc, desk, words) {
+        Ok(said) => Ok(checked_answer(alloc, said)?),
         Err(halt) => answer_halt(alloc, halt),
     }
 }

@@ -1,15 +1,20 @@
 -- The badge claims of a flight, proved: their texts, their totals, and that they are accepted.
-use Rattle.std.proofs.Common.{◌≡◌, ◌∙◌, sym, ap, refl, subst, ℕ, suc, ◌+◌, ◌-◌, ◌<◌, ◌≤◌, List, [], ◌∷◌, ◌++◌, length, map, take, drop, get_or, Option, None, Some, pos, inl, arith}
-use Rattle.std.specs.Prelude.{All, IsTrue}
+use Rattle.std.proofs.Common.{◌≡◌, ◌∙◌, sym, ap, refl, subst, ℕ, suc, ◌+◌, ◌-◌, ◌^◌, ◌<◌, ◌≤◌, List, [], ◌∷◌, ◌++◌, length, map, take, drop, get_or, Option, None, Some, pos, inl, arith}
+use Rattle.std.specs.Prelude.{All, IsTrue, MatchOption}
 use Rattle.std.specs.List.{AllZip}
 use Rattle.std.proofs.lemmas.List.{length-take, map_push, take-append-drop, take_all, take_more}
 use Rattle.std.proofs.lemmas.List.Elements.{All-cons, All-head, All-tail}
 use Rattle.gl_day.specs.declared.fault.Checked.{Checked}
 use Rattle.gl_day.specs.declared.fault.Checked.TheVariants.{Accepted, Refused}
 use Rattle.gl_day.specs.declared.fault.NotProved.{NotProved}
-use Rattle.gl_day.specs.Checked.{AreProved, Ends, GoesOn, IsNotProved}
+use Rattle.gl_check.specs.File.{HasSaid}
+use Rattle.gl_check.specs.declared.claims_file.ClaimsFile.{ClaimsFile}
+use Rattle.gl_desk.specs.Desk.{FilesByName}
+use Rattle.gl_day.specs.Checked.{IsChecked, IsNotProved}
+use Rattle.gl_day.specs.FileChecked.{EndsAhead, GoesOnAhead, HasFound, HasProved, IsCount}
 use Rattle.gl_day.specs.Expected.{Proves, Expected}
 use Rattle.gl_day.proofs.Checks.{not_proved_more, proof_accepted}
+use Rattle.gl_day.proofs.FileWalked.{found_so}
 use Rattle.gl_day.proofs.Statements.{certificate_statement}
 use Rattle.gl_igc.specs.declared.fix.Fix.{Fix}
 use Rattle.gl_igc.specs.declared.recording.Declared.{Declared}
@@ -198,44 +203,78 @@ pub all_proved : (claims : List BadgeClaim) (i : ℕ) (proved : List Claim) → 
 all_proved claims i proved last each =
     subst (λ (l : List BadgeClaim). AllZip Proves (expected_for l) (map statement_of proved)) (take_all i claims last) each
 
+is_count : (claims : List BadgeClaim) (i count : ℕ) → i < length claims → count ≡ i → count < 2 ^ 64 → IsCount count (expected_for (take i claims))
+is_count claims i count below counted small = omega (arith, counted, below, small, length-expected_for (take i claims), length-take i claims)
+
 -- the claims so far are right, and so is the next
-pub next_right : (claims : List BadgeClaim) (i : ℕ) (c : BadgeClaim) (statements : List Statement) (count : ℕ) → i < length claims → c ≡ get_or claims i c → count ≡ i
-    → AreProved (expected_for (take i claims)) statements → GoesOn count (expected_for (c ∷ [])) statements None → AreProved (expected_for (take (i + 1) claims)) statements
-next_right claims i c statements count below item counted proved goes =
-    subst (λ (l : List Expected). AreProved l statements) (sym (expected_next claims i c below item))
-    (goes (expected_for (take i claims)) (omega (arith, counted, below, length-expected_for (take i claims), length-take i claims)) proved)
+pub next_right : (folder : Option FilesByName) (file : List ℕ) (most : ℕ) (claims : List BadgeClaim) (i : ℕ) (c : BadgeClaim) (before after : ClaimsFile) (count : ℕ) → i < length claims
+    → c ≡ get_or claims i c
+    → count ≡ i → count < 2 ^ 64 → HasProved folder file most (expected_for (take i claims)) before → GoesOnAhead folder count (expected_for (c ∷ [])) before after None
+    → HasProved folder file most (expected_for (take (i + 1) claims)) after
+next_right folder file most claims i c before after count below item counted small proved goes =
+    subst (λ (l : List Expected). HasProved folder file most l after) (sym (expected_next claims i c below item))
+    (goes file most (expected_for (take i claims)) (is_count claims i count below counted small) proved)
 
 -- or it is the first that is wrong
-pub next_wrong : (claims : List BadgeClaim) (i : ℕ) (c : BadgeClaim) (statements : List Statement) (count : ℕ) (wrong : NotProved) → i < length claims → c ≡ get_or claims i c → count ≡ i
-    → AreProved (expected_for (take i claims)) statements → GoesOn count (expected_for (c ∷ [])) statements (Some wrong) → IsNotProved (expected_for claims) statements wrong
-next_wrong claims i c statements count wrong below item counted proved goes =
-    let first = goes (expected_for (take i claims)) (omega (arith, counted, below, length-expected_for (take i claims), length-take i claims)) proved in
+pub next_wrong : (folder : Option FilesByName) (file : List ℕ) (most : ℕ) (claims : List BadgeClaim) (i : ℕ) (c : BadgeClaim) (before after : ClaimsFile) (count : ℕ) (wrong : NotProved)
+    → i < length claims
+    → c ≡ get_or claims i c → count ≡ i → count < 2 ^ 64 → HasProved folder file most (expected_for (take i claims)) before → GoesOnAhead folder count (expected_for (c ∷ [])) before after (Some wrong)
+    → HasFound folder file most (λ statements. IsNotProved (expected_for claims) statements wrong) after
+next_wrong folder file most claims i c before after count wrong below item counted small proved goes =
+    let so_far = expected_for (take i claims) in
     let whole : expected_for claims ≡ expected_for (take (i + 1) claims) ++ expected_for (drop (i + 1) claims) =
     ap expected_for (sym (take-append-drop (i + 1) claims)) ∙ expected_for-append (take (i + 1) claims) (drop (i + 1) claims) in
-    subst (λ (l : List Expected). IsNotProved l statements wrong) (sym whole)
+    found_so folder file most after (λ statements. IsNotProved (so_far ++ expected_for (c ∷ [])) statements wrong) (λ statements. IsNotProved (expected_for claims) statements wrong)
+    (λ statements first. subst (λ (l : List Expected). IsNotProved l statements wrong) (sym whole)
     (not_proved_more (expected_for (take (i + 1) claims)) (expected_for (drop (i + 1) claims)) statements wrong
-    (subst (λ (l : List Expected). IsNotProved l statements wrong) (sym (expected_next claims i c below item)) first))
+    (subst (λ (l : List Expected). IsNotProved l statements wrong) (sym (expected_next claims i c below item)) first)))
+    (goes file most so_far (is_count claims i count below counted small) proved)
 
-pub all_right : (claims : List BadgeClaim) (i : ℕ) (statements : List Statement) → length claims ≤ i → AreProved (expected_for (take i claims)) statements → AreProved (expected_for claims) statements
-all_right claims i statements last proved =
-    subst (λ (l : List BadgeClaim). AreProved (expected_for l) statements) (take_all i claims last) proved
+pub all_right : (folder : Option FilesByName) (file : List ℕ) (most : ℕ) (claims : List BadgeClaim) (i : ℕ) (after : ClaimsFile) → length claims ≤ i
+    → HasProved folder file most (expected_for (take i claims)) after
+    → HasProved folder file most (expected_for claims) after
+all_right folder file most claims i after last proved =
+    subst (λ (l : List BadgeClaim). HasProved folder file most (expected_for l) after) (take_all i claims last) proved
 
 -- what was proved of a list of claims
 pub proved_of : (goals slice : List BadgeClaim) (proved : List Claim) → slice ≡ goals → AllZip Proves (expected_for slice) (map statement_of proved)
     → AllZip Proves (expected_for goals) (map statement_of proved)
 proved_of goals slice proved same each = subst (λ (l : List BadgeClaim). AllZip Proves (expected_for l) (map statement_of proved)) same each
 
-pub none_right : (claims : List BadgeClaim) (statements : List Statement) → AreProved (expected_for (take 0 claims)) statements
-none_right claims statements = record { proved = []; rest = statements; are = refl; each = tt }
+pub none_right : (folder : Option FilesByName) (file : List ℕ) (most : ℕ) (claims : List BadgeClaim) (before : ClaimsFile) → HasSaid folder file most [] before
+    → HasProved folder file most (expected_for (take 0 claims)) before
+none_right folder file most claims before has = record { said = []; each = tt; has = has }
+
+-- none are expected before the first
+none_before : (before : List Expected) → IsCount 0 before → before ≡ []
+none_before [] none = refl
+none_before (e ∷ before) none = absurd (omega (arith, none))
+
+-- what is said from the first claim of a file on
+pub from_first : (folder : Option FilesByName) (more : List Expected) (old after : ClaimsFile) (wrong : Option NotProved)
+    → ((file : List ℕ) (most : ℕ) → HasProved folder file most [] old
+    → MatchOption wrong (HasProved folder file most more after) (λ first. HasFound folder file most (λ statements. IsNotProved more statements first) after))
+    → GoesOnAhead folder 0 more old after wrong
+from_first folder more old after wrong goes = λ file most before none proved.
+    let empty = none_before before none in
+    subst (λ (l : List Expected). MatchOption wrong (HasProved folder file most (l ++ more) after) (λ first. HasFound folder file most (λ statements. IsNotProved (l ++ more) statements first) after))
+    (sym empty) (goes file most (subst (λ (l : List Expected). HasProved folder file most l old) empty proved))
 
 -- what is said of claims that are all right
-pub end_said : (recording : Recording) (claims slice : List BadgeClaim) (statements : List Statement) (count : ℕ) (said : Checked) → AreBadgeClaims recording (rules_of_claims claims) → slice ≡ claims
-    → count ≡ length claims → AreProved (expected_for slice) statements → Ends count statements said → IsBadgeChecked recording statements said
-end_said recording claims slice statements count said are same counted proved ends =
-    (rules_of_claims claims, are, ends (expected_for claims) (length-expected_for claims ∙ sym counted) (subst (λ (l : List BadgeClaim). AreProved (expected_for l) statements) same proved))
+pub end_said : (folder : Option FilesByName) (file : List ℕ) (most : ℕ) (recording : Recording) (claims slice : List BadgeClaim) (after : ClaimsFile) (count : ℕ) (said : Checked)
+    → AreBadgeClaims recording (rules_of_claims claims) → slice ≡ claims → count ≡ length claims → count < 2 ^ 64 → HasProved folder file most (expected_for slice) after → EndsAhead count after said
+    → HasFound folder file most (λ statements. IsBadgeChecked recording statements said) after
+end_said folder file most recording claims slice after count said are same counted small proved ends =
+    found_so folder file most after (λ statements. IsChecked (expected_for claims) statements said) (λ statements. IsBadgeChecked recording statements said)
+    (λ statements is. (rules_of_claims claims, are, is))
+    (ends folder file most (expected_for claims) (omega (arith, counted, small, length-expected_for claims))
+    (subst (λ (l : List BadgeClaim). HasProved folder file most (expected_for l) after) same proved))
 
 -- and where one is wrong
-pub wrong_said : (recording : Recording) (claims slice : List BadgeClaim) (statements : List Statement) (wrong : NotProved) → AreBadgeClaims recording (rules_of_claims claims) → slice ≡ claims
-    → IsNotProved (expected_for slice) statements wrong → IsBadgeChecked recording statements (Refused wrong)
-wrong_said recording claims slice statements wrong are same first =
-    (rules_of_claims claims, are, inl (subst (λ (l : List BadgeClaim). IsNotProved (expected_for l) statements wrong) same first))
+pub wrong_said : (folder : Option FilesByName) (file : List ℕ) (most : ℕ) (recording : Recording) (claims slice : List BadgeClaim) (after : ClaimsFile) (wrong : NotProved)
+    → AreBadgeClaims recording (rules_of_claims claims)
+    → slice ≡ claims → HasFound folder file most (λ statements. IsNotProved (expected_for slice) statements wrong) after
+    → HasFound folder file most (λ statements. IsBadgeChecked recording statements (Refused wrong)) after
+wrong_said folder file most recording claims slice after wrong are same first =
+    found_so folder file most after (λ statements. IsNotProved (expected_for slice) statements wrong) (λ statements. IsBadgeChecked recording statements (Refused wrong))
+    (λ statements is. (rules_of_claims claims, are, inl (subst (λ (l : List BadgeClaim). IsNotProved (expected_for l) statements wrong) same is))) first

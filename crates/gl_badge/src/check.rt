@@ -1,6 +1,9 @@
-ghost use Rattle.std.specs.Prelude.{◌+◌, ◌≤◌, [], ◌∷◌, length, map, IfNone, IfOk, MatchOption};
-ghost use Rattle.gl_day.specs.Checked.{AreProved, GoesOn, IsNotProved};
-ghost use Rattle.gl_proof.specs.Claim.{statement_of};
+ghost use Rattle.std.specs.Prelude.{◌≡◌, ℕ, List, [], ◌∷◌, Err, IfErr, IfOk};
+ghost use Rattle.gl_answer.specs.Halts.{AreBytes, halt_stop};
+ghost use Rattle.gl_check.specs.File.{HasSaid};
+ghost use Rattle.gl_desk.specs.Answers.{OnlyReads};
+ghost use Rattle.gl_desk.specs.Desk.{HasFile};
+ghost use Rattle.gl_day.specs.FileChecked.{GoesOnAhead, HaltsAhead, HasFound, HasProved};
 ghost use Rattle.gl_badge.specs.Claims.{rule_of_claim, rules_of_claims};
 ghost use Rattle.gl_badge.specs.Named.{expected_claim, expected_of};
 ghost use Rattle.gl_badge.specs.Proved.{IsBadgeChecked};
@@ -8,73 +11,82 @@ ghost use Rattle.gl_badge.specs.Proved.{IsBadgeChecked};
 use crate::badge::Badge;
 use crate::claim::BadgeClaim;
 use crate::claims::badge_claims;
-use gl_day::{Checked, NotProved, check_end, check_next};
-use gl_desk::Name;
+use gl_answer::Halt;
+use gl_check::ClaimsFile;
+use gl_day::{Checked, NotProved, check_ahead, check_left};
+use gl_desk::{Desk, Name};
 use gl_goal::Goal;
 use gl_igc::Recording;
-use gl_proof::Claim;
-use std::alloc::{AllocError, Global};
+use std::alloc::Global;
 
-/// What is wrong with the next claim of a proof, where that of a badge with this goal is expected
-/// and `count` claims were found right before. The only error is want of memory.
-fn check_goal<G: Goal>(
+/// What is wrong with the next claim of a file, where that of a badge with this goal is expected
+/// and `count` claims were found right before.
+fn check_goal<D: Desk, G: Goal>(
     alloc: Global,
+    desk: &mut D,
     badge: Badge,
     goal: &G,
-    proof: &[Claim],
+    file: &mut ClaimsFile<'_>,
     count: usize,
-) -> Result<Option<NotProved>, AllocError>
-    requires { count ≤ length proof.now }
-    ensures goes_on { IfOk result (GoesOn count
-        (expected_claim badge (G.rule goal.now) ∷ []) (map statement_of proof.now)) }
-    ensures within { IfOk result (λ wrong. IfNone wrong (count + 1 ≤ length proof.now)) }
+) -> Result<Option<NotProved>, Halt>
+    requires { HasFile (D.told desk.old).folder file.old.file.now }
+    ensures goes_on { IfOk result (GoesOnAhead (D.told desk.old).folder count
+        (expected_claim badge (G.rule goal.now) ∷ []) file.old file.new) }
+    ensures same { file.new.file.now ≡ file.old.file.now }
+    ensures halted { IfErr result (HaltsAhead (D.told desk.old).folder file.old) }
+    ensures reads { OnlyReads (halt_stop result) (D.told desk.old) (D.told desk.new) }
 {
     let number = Name::from_text(alloc, badge.number())?;
-    check_next(alloc, &number, badge.kind(), goal, proof, count)
+    check_ahead(alloc, desk, &number, badge.kind(), goal, file, count)
 }
 
-/// What is wrong with the next claim of a proof, where a badge claim is expected and `count` claims
-/// were found right before. The only error is want of memory.
-fn check_claim(
+/// What is wrong with the next claim of a file, where a badge claim is expected and `count` claims
+/// were found right before.
+fn check_claim<D: Desk>(
     alloc: Global,
+    desk: &mut D,
     claim: &BadgeClaim,
-    proof: &[Claim],
+    file: &mut ClaimsFile<'_>,
     count: usize,
-) -> Result<Option<NotProved>, AllocError>
-    requires { count ≤ length proof.now }
-    ensures goes_on { IfOk result (GoesOn count (expected_of (rule_of_claim claim.now ∷ []))
-        (map statement_of proof.now)) }
-    ensures within { IfOk result (λ wrong. IfNone wrong (count + 1 ≤ length proof.now)) }
+) -> Result<Option<NotProved>, Halt>
+    requires { HasFile (D.told desk.old).folder file.old.file.now }
+    ensures goes_on { IfOk result (GoesOnAhead (D.told desk.old).folder count
+        (expected_of (rule_of_claim claim.now ∷ [])) file.old file.new) }
+    ensures same { file.new.file.now ≡ file.old.file.now }
+    ensures halted { IfErr result (HaltsAhead (D.told desk.old).folder file.old) }
+    ensures reads { OnlyReads (halt_stop result) (D.told desk.old) (D.told desk.new) }
 {
     match claim {
-        BadgeClaim::Distance(goal) => check_goal(alloc, Badge::Distance, goal, proof, count),
-        BadgeClaim::Gain(goal) => check_goal(alloc, Badge::Gain, goal, proof, count),
-        BadgeClaim::DeclaredGoal(goal) => check_goal(
-            alloc,
-            Badge::DeclaredGoal,
-            goal,
-            proof,
-            count,
-        ),
+        BadgeClaim::Distance(goal) => {
+            check_goal(alloc, desk, Badge::Distance, goal, file, count)
+        }
+        BadgeClaim::Gain(goal) => check_goal(alloc, desk, Badge::Gain, goal, file, count),
+        BadgeClaim::DeclaredGoal(goal) => {
+            check_goal(alloc, desk, Badge::DeclaredGoal, goal, file, count)
+        }
     }
 }
 
-/// What is wrong with the first claim of a proof that is, where these badge claims are expected;
-/// none where all of them are right. The only error is want of memory.
-fn check_claims(
+/// What is wrong with the first claim of a file that is, where these badge claims are expected;
+/// none where all of them are right.
+fn check_claims<D: Desk>(
     alloc: Global,
+    desk: &mut D,
     claims: &[BadgeClaim],
-    proof: &[Claim],
-) -> Result<Option<NotProved>, AllocError>
-    ensures said { IfOk result (λ wrong. MatchOption wrong
-        (AreProved (expected_of (rules_of_claims claims.now)) (map statement_of proof.now))
-        (IsNotProved (expected_of (rules_of_claims claims.now)) (map statement_of proof.now))) }
-    ensures within { IfOk result
-        (λ wrong. IfNone wrong (length claims.now ≤ length proof.now)) }
+    file: &mut ClaimsFile<'_>,
+) -> Result<Option<NotProved>, Halt>
+    requires { HasFile (D.told desk.old).folder file.old.file.now }
+    ensures goes_on { IfOk result (GoesOnAhead (D.told desk.old).folder 0
+        (expected_of (rules_of_claims claims.now)) file.old file.new) }
+    ensures same { file.new.file.now ≡ file.old.file.now }
+    ensures halted { IfErr result (λ halt. (name : List ℕ) (most : ℕ)
+        → HasProved (D.told desk.old).folder name most [] file.old
+        → AreBytes (D.told desk.old).folder name most (Err halt)) }
+    ensures reads { OnlyReads (halt_stop result) (D.told desk.old) (D.told desk.new) }
 {
-    let mut count = 0;
+    let mut count: usize = 0;
     for claim in claims {
-        if let Some(wrong) = check_claim(alloc, claim, proof, count)? {
+        if let Some(wrong) = check_claim(alloc, desk, claim, file, count)? {
             return Ok(Some(wrong));
         }
         count += 1;
@@ -82,15 +94,28 @@ fn check_claims(
     Ok(None)
 }
 
-/// What is said of the claims of a proof by a recording: they are exactly its badge claims, in
-/// their order, each a certificate, or the first that is wrong is named. The only error is want of
-/// memory.
-pub fn check_badges(alloc: Global, rec: &Recording, proof: &[Claim]) -> Result<Checked, AllocError>
-    ensures { IfOk result (IsBadgeChecked rec.now (map statement_of proof.now)) }
+/// What is said of the claims of a proof's file by a recording: they are exactly its badge claims,
+/// in their order, each a certificate, or the first that is wrong is named.
+pub fn check_badges<D: Desk>(
+    alloc: Global,
+    desk: &mut D,
+    rec: &Recording,
+    file: &mut ClaimsFile<'_>,
+) -> Result<Checked, Halt>
+    requires { HasFile (D.told desk.old).folder file.old.file.now }
+    ensures checked { IfOk result (λ said. (name : List ℕ) (most : ℕ)
+        → HasSaid (D.told desk.old).folder name most [] file.old
+        → HasFound (D.told desk.old).folder name most (λ statements.
+        IsBadgeChecked rec.now statements said) file.new) }
+    ensures same { file.new.file.now ≡ file.old.file.now }
+    ensures halted { IfErr result (λ halt. (name : List ℕ) (most : ℕ)
+        → HasSaid (D.told desk.old).folder name most [] file.old
+        → AreBytes (D.told desk.old).folder name most (Err halt)) }
+    ensures reads { OnlyReads (halt_stop result) (D.told desk.old) (D.told desk.new) }
 {
     let claims = badge_claims(alloc, rec)?;
-    match check_claims(alloc, claims.as_slice(), proof)? {
+    match check_claims(alloc, desk, claims.as_slice(), file)? {
         Some(wrong) => Ok(Checked::Refused(wrong)),
-        None => Ok(check_end(proof, claims.len())),
+        None => Ok(check_left(file, claims.len())),
     }
 }
