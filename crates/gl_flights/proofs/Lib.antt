@@ -1,4 +1,5 @@
 pub mod Bests
+pub mod NearFile
 pub mod NearLaws
 pub mod Nears
 pub mod OfFileLaws

@@ -1,14 +1,13 @@
 -- The laws of `near` and `nearcheck`.
-use Rattle.std.proofs.Common.{◌≡◌, ◌≢◌, ◌∙◌, refl, sym, ap, subst, ℕ, ◌≤◌, ◌⊎◌, inl, inr, true, List, length, map, Option, None, Some}
+use Rattle.std.proofs.Common.{◌≡◌, ◌≢◌, ◌∙◌, refl, sym, ap, subst, ℕ, ◌≤◌, ◌⊎◌, inl, inr, true, List, length, Option, None, Some}
 use Rattle.std.specs.Prelude.{IsSomeAnd}
 use Rattle.gl_desk.specs.Desk.{FilesByName}
 use Rattle.gl_igc.specs.declared.recording.Recording.{Recording}
 use Rattle.gl_near.proofs.Judged.{certificate_yes}
 use Rattle.gl_near.proofs.Reading.{text_unique}
-use Rattle.gl_near.specs.Certificate.{box_of}
 use Rattle.gl_near.specs.Line.{IsTextOf}
 use Rattle.gl_near.specs.Pairing.{Pairing}
-use Rattle.gl_near.specs.Verdict.{IsCheckedAs, IsVerdict}
+use Rattle.gl_near.specs.Verdict.{IsVerdict}
 use Rattle.gl_near.specs.declared.answer.NearVerdict.{NearVerdict}
 use Rattle.gl_near.specs.declared.answer.NearVerdict.TheVariants.{Yes, Pair, Total, Extra, Place, Cell, Open}
 use Rattle.gl_near.specs.declared.found.NearBest.{NearBest}
@@ -85,10 +84,10 @@ verdict_line (Cell number) answer same unless = told_line (Cell number) answer (
 verdict_line Open answer same unless = told_line Open answer (ap (λ (a : Answer). a.said) same)
 
 checked_result : (words : NearWords) (seen : NearSeen) (answer : Answer) → IsNearChecked words seen answer → (answer.status ≡ status.Done) ⊎ (answer.status ≡ status.NotProved)
-checked_result words seen answer (read, are, verdict, checked, same) = verdict_result verdict answer same
+checked_result words seen answer (verdict, said, same) = verdict_result verdict answer same
 
 checked_line : (words : NearWords) (seen : NearSeen) (answer : Answer) → IsNearChecked words seen answer → answer.status ≢ status.Done → IsLine answer.said
-checked_line words seen answer (read, are, verdict, checked, same) unless = verdict_line verdict answer same unless
+checked_line words seen answer (verdict, said, same) unless = verdict_line verdict answer same unless
 
 -- what was seen where `near` had its answer
 record HasFound (before : FilesByName) (words : NearWords) (answer : Answer) : Type 0 where
@@ -142,13 +141,13 @@ same_pairs seen text seconds one other are also =
 -- its verdict
 own_verdict : (words : NearWords) (seen : NearSeen) (wrote : Answer) (read : Recording × Recording) → AreNearRead seen read → IsNearestSaid (pairs_of read words.seconds) wrote → (answer : Answer)
     → IsNearChecked words (seen_with seen wrote.appended) answer → answer.status ≡ status.Done
-own_verdict words seen wrote read are nearest answer (read_too, are_too, verdict, checked, same) =
-    let pairs = same_pairs seen wrote.appended words.seconds read read_too.0 are are_too.flights in
-    let claim = text_unique wrote.appended read_too.1.best nearest.best (map box_of read_too.1.closed.items) nearest.boxes are_too.claim nearest.appended in
+own_verdict words seen wrote read are nearest answer (verdict, (also, are_too, (best, boxes, of, checked)), same) =
+    let pairs = same_pairs seen wrote.appended words.seconds read also are are_too in
+    let claim = text_unique wrote.appended best nearest.best boxes nearest.boxes of nearest.appended in
     let is : IsVerdict (pairs_of read words.seconds) nearest.best nearest.boxes verdict =
     subst (λ (boxes : List (List (ℕ × ℕ) × NearWhy)). IsVerdict (pairs_of read words.seconds) nearest.best boxes verdict) claim.1
-    (subst (λ (best : Option NearBest). IsVerdict (pairs_of read words.seconds) best (map box_of read_too.1.closed.items) verdict) claim.0
-    (subst (λ (p : Pairing). IsCheckedAs p read_too.1 verdict) pairs checked)) in
+    (subst (λ (best : Option NearBest). IsVerdict (pairs_of read words.seconds) best boxes verdict) claim.0
+    (subst (λ (p : Pairing). IsVerdict p best boxes verdict) pairs checked)) in
     let yes = certificate_yes (pairs_of read words.seconds) nearest.best nearest.boxes verdict is nearest.certificate in
     ap (λ (a : Answer). a.status) (same ∙ ap verdict_answer yes)
 

@@ -4,7 +4,8 @@ use Rattle.std.specs.Prelude.{Contains, IsSomeAnd}
 use Rattle.gl_desk.specs.Desk.{FilesByName, HasFile, ListsNames}
 use Rattle.gl_igc.specs.declared.recording.Recording.{Recording}
 use Rattle.gl_near.proofs.Reading as near
-use Rattle.gl_near.specs.declared.claim.NearClaim.{NearClaim}
+use Rattle.gl_near.specs.Verdict.{IsTextChecked}
+use Rattle.gl_near.specs.declared.answer.NearVerdict.{NearVerdict}
 use Rattle.gl_desk.specs.Limits.{most_bytes}
 use Rattle.gl_words.specs.Words.{NearWords}
 use Rattle.gl_answer.specs.declared.halt.Halt.{Halt}
@@ -14,7 +15,8 @@ use Rattle.gl_answer.specs.declared.refusal.Refusal.{Refusal}
 use Rattle.gl_answer.specs.FileTests.{AllPass, FileTest, FirstFails, HasTested, IsRecordingOf, Listed, Passes, RecordingText, Unlisted, most_proof_bytes, text_tests}
 use Rattle.gl_answer.specs.ReadFiles.{AreNeeded, HasReadFile, IsNeeded, IsUnused}
 use Rattle.gl_flights.specs.Code.NearFiles.{AreFlightsSeen, flights_tests}
-use Rattle.gl_flights.specs.NearFiles.{AreNearCheckRead, AreNearRead, IsClaimOf, IsNearSeen, NearProofText, NearSeen, day_of, day_read, near_check_tests, near_proof_cause, near_tests, recording_tests}
+use Rattle.gl_flights.specs.Near.{IsNearVerdict, pairs_of}
+use Rattle.gl_flights.specs.NearFiles.{AreNearRead, IsNearSeen, NearProofText, NearSeen, day_of, day_read, near_check_tests, near_proof_cause, near_tests, recording_tests}
 use Rattle.gl_answer.proofs.Listing.{is_listed, not_listed, seen_some}
 use Rattle.gl_answer.proofs.FileTests.{AreDecided, IsDecided, all_pass, fails_behind, fails_in_front, recording_decided, some_text_fails, some_text_passes}
 use Rattle.gl_desk.proofs.DeskLemmas.{HasFile-from_names}
@@ -123,7 +125,7 @@ proof_listed folder names words (Stopped stop) lists flight other used = tt
 
 -- the proof of `nearcheck` isn't there
 pub proof_missing : (folder : Option FilesByName) (names : List (List ℕ)) (words : NearWords) (halt : Halt) → ListsNames folder names → HasFile folder words.flight → HasFile folder words.other
-    → IsNeeded names words.proof (Err halt) → HasTested (IsNearSeen words folder) (near_check_tests words) AreNearCheckRead (Err halt)
+    → IsNeeded names words.proof (Err halt) → HasTested (IsNearSeen words folder) (near_check_tests words) (IsNearVerdict words) (Err halt)
 proof_missing folder names words (Refused refusal) lists flight other (none, same) =
     let one = is_listed folder words.flight flight in
     let two = is_listed folder words.other other in (
@@ -168,7 +170,7 @@ near_tested folder names words (Err (Stopped stop)) lists new tested = tt
 -- `nearcheck`: the recordings were refused
 pub near_check_refused : (folder : Option FilesByName) (words : NearWords) (halt : Halt) → HasFile folder words.proof
     → HasTested {X = Recording × Recording} (AreFlightsSeen words folder) (flights_tests words) AreNearRead (Err halt)
-    → HasTested (IsNearSeen words folder) (near_check_tests words) AreNearCheckRead (Err halt)
+    → HasTested (IsNearSeen words folder) (near_check_tests words) (IsNearVerdict words) (Err halt)
 near_check_refused folder words (Refused refusal) there (seen, is, fails) =
     let proof = is_listed folder words.proof there in
     let flight = Listed words.flight seen.flight in
@@ -181,29 +183,25 @@ near_check_refused folder words (Refused refusal) there (seen, is, fails) =
     )
 near_check_refused folder words (Stopped stop) there tested = tt
 
--- the recordings were read, and the claim was refused
-pub near_claim_refused : (folder : Option FilesByName) (words : NearWords) (read : Recording × Recording) (halt : Halt)
-    → HasTested (AreFlightsSeen words folder) (flights_tests words) AreNearRead (Ok read) → HasReadFile {X = NearClaim} NearProofText most_proof_bytes folder words.proof IsClaimOf (Err halt)
-    → HasTested (IsNearSeen words folder) (near_check_tests words) AreNearCheckRead (Err halt)
-near_claim_refused folder words read (Refused refusal) (seen, is, passes, are) (proof, there, fails) =
+-- the recordings were read, and the proof was checked or refused
+pub near_checked : (folder : Option FilesByName) (words : NearWords) (read : Recording × Recording) (result : Result NearVerdict Halt)
+    → HasTested (AreFlightsSeen words folder) (flights_tests words) AreNearRead (Ok read)
+    → HasReadFile NearProofText most_proof_bytes folder words.proof (IsTextChecked (pairs_of read words.seconds)) result
+    → HasTested (IsNearSeen words folder) (near_check_tests words) (IsNearVerdict words) result
+near_checked folder words read (Ok verdict) (seen, is, passes, are) (proof, there, pass, checked) =
+    let more = text_tests NearProofText most_proof_bytes words.proof proof in (
+      record { flight = seen.flight; other = seen.other; proof = proof },
+      record { flight = is.0; other = is.1; proof = there },
+      (passes.0, (passes.1.0, (some_text_passes NearProofText most_proof_bytes words.proof proof pass, all_pass (recording_tests words seen) more passes.1.1 pass))),
+      (read, with_proof seen proof read are, checked),
+    )
+near_checked folder words read (Err (Refused refusal)) (seen, is, passes, are) (proof, there, fails) =
     let more = text_tests NearProofText most_proof_bytes words.proof proof in (
       record { flight = seen.flight; other = seen.other; proof = proof },
       record { flight = is.0; other = is.1; proof = there },
       inr (passes.0, inr (passes.1.0, inr (some_text_fails NearProofText most_proof_bytes words.proof proof refusal fails, fails_behind (recording_tests words seen) more refusal passes.1.1 fails))),
     )
-near_claim_refused folder words read (Stopped stop) flights claim = tt
-
--- all was read
-pub near_all_read : (folder : Option FilesByName) (words : NearWords) (read : Recording × Recording) (claim : NearClaim)
-    → HasTested (AreFlightsSeen words folder) (flights_tests words) AreNearRead (Ok read) → HasReadFile NearProofText most_proof_bytes folder words.proof IsClaimOf (Ok claim)
-    → HasTested (IsNearSeen words folder) (near_check_tests words) AreNearCheckRead (Ok (read, claim))
-near_all_read folder words read claim (seen, is, passes, are) (proof, there, pass, reads) =
-    let more = text_tests NearProofText most_proof_bytes words.proof proof in (
-      record { flight = seen.flight; other = seen.other; proof = proof },
-      record { flight = is.0; other = is.1; proof = there },
-      (passes.0, (passes.1.0, (some_text_passes NearProofText most_proof_bytes words.proof proof pass, all_pass (recording_tests words seen) more passes.1.1 pass))),
-      record { flights = with_proof seen proof read are; claim = reads },
-    )
+near_checked folder words read (Err (Stopped stop)) flights checked = tt
 
 -- no text is a proof of a closest approach and is refused
 pub near_proof_decided : IsDecided NearProofText

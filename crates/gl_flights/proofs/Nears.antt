@@ -6,9 +6,6 @@ use Rattle.gl_desk.specs.Desk.{FilesByName, Told}
 use Rattle.gl_desk.specs.declared.error.DeskError.{DeskError}
 use Rattle.gl_igc.specs.declared.recording.Recording.{Recording}
 use Rattle.gl_near.specs.Line.{IsTextOf}
-use Rattle.gl_near.specs.Verdict.{IsCheckedAs}
-use Rattle.gl_near.specs.declared.answer.NearVerdict.{NearVerdict}
-use Rattle.gl_near.specs.declared.claim.NearClaim.{NearClaim}
 use Rattle.gl_near.specs.declared.found.NearBest.{NearBest}
 use Rattle.gl_near.specs.declared.found.NearWhy.{NearWhy}
 use Rattle.gl_sphere.specs.PlaceText.{place_of, place_of_text}
@@ -18,7 +15,7 @@ use Rattle.gl_answer.specs.declared.halt.Halt.{Halt}
 use Rattle.gl_answer.specs.declared.halt.Halt.TheVariants.{Refused, Stopped}
 use Rattle.gl_answer.specs.FileTests.{HasTested}
 use Rattle.gl_answer.specs.Halts.{halt_stop}
-use Rattle.gl_flights.specs.NearFiles.{AreNearCheckRead, AreNearRead, IsNearSeen, near_check_tests, near_tests}
+use Rattle.gl_flights.specs.NearFiles.{AreNearRead, IsNearSeen, near_tests}
 use Rattle.gl_answer.proofs.ReadsTwice.{reads_twice}
 use Rattle.gl_answer.specs.Appending.{HasAppended, HasAppendedPart, HasGiven}
 use Rattle.gl_answer.proofs.Appended.{HasAppended-none, HasAppended-reads, HasAppended-then}
@@ -26,7 +23,7 @@ use Rattle.gl_answer.proofs.Appended.{part_after}
 use Rattle.gl_answer.specs.declared.answer.Answer as code
 use Rattle.gl_answer.specs.declared.status.Status.TheVariants.{Done}
 use Rattle.gl_answer.specs.Answer.{Answer, answer_of, AnswersHalt}
-use Rattle.gl_flights.specs.Near.{IsNear, IsNearCheck, IsNearestFix, IsNearestSaid, IsPointText, near_check_promise, near_promise, point_promise, pairs_of, verdict_answer}
+use Rattle.gl_flights.specs.Near.{IsNear, IsNearCheck, IsNearestFix, IsNearestSaid, IsPointText, near_check_promise, near_promise, point_promise, pairs_of}
 use Rattle.gl_flights.specs.OfFile.{IsOfFile}
 use Rattle.gl_answer.specs.Given.{HasAnswered, IsStopped}
 
@@ -89,14 +86,7 @@ near_refused words x m y (Refused refusal) (Err stop) lists tested reads same = 
 near_refused words x m y (Stopped stop) (Ok answer) lists tested reads same = absurd same
 near_refused words x m y (Stopped stop) (Err error) lists tested reads same = tt
 
--- `nearcheck` has its answer
-pub near_check_right : (folder : Option FilesByName) (words : NearWords) (flights : Recording × Recording) (claim : NearClaim) (verdict : NearVerdict) (answer : Answer)
-    → HasTested (IsNearSeen words folder) (near_check_tests words) AreNearCheckRead (Ok (flights, claim)) → IsCheckedAs (pairs_of flights words.seconds) claim verdict → answer ≡ verdict_answer verdict
-    → IsNearCheck folder words answer
-near_check_right folder words flights claim verdict answer (seen, is, passes, read) checked same =
-    (seen, is, inl (passes, ((flights, claim), read, verdict, checked, same)))
-
--- it has given it
+-- `nearcheck` has given its answer
 pub near_checked : (words : NearWords) (x y : Told) (result : Result code.Answer DeskError) → IfOk result (λ answer. IsNearCheck x.folder words (answer_of answer)) → OnlyReads (stop_of result) x y
     → IfOk result (HasAnswered (near_check_promise x.folder words) x y)
 near_checked words x y (Ok answer) right reads =

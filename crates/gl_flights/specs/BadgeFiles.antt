@@ -1,11 +1,12 @@
 -- The files of `badge` and `badgecheck`: their tests in their order, and what they give.
-use Rattle.std.specs.Prelude.{ℕ, List, ◌∷◌, ◌++◌, Option, None, IsSomeAnd}
+use Rattle.std.specs.Prelude.{ℕ, List, ◌∷◌, ◌++◌, Option, None, Result, Ok, Err}
 use Rattle.gl_desk.specs.Desk.{FilesByName, IsSeenIn}
 use Rattle.gl_igc.specs.declared.recording.Recording.{Recording}
-use Rattle.gl_proof.specs.declared.proof.Proof.{Proof}
 use Rattle.gl_desk.specs.Limits.{most_bytes}
 use Rattle.gl_words.specs.Words.{BadgeWords}
-use Rattle.gl_answer.specs.FileTests.{FileTest, IsProofOfText, Listed, ProofText, RecordingText, Unlisted, most_proof_bytes, text_tests}
+use Rattle.gl_answer.specs.FileTests.{FileTest, HasTested, IsRecordingOf, Listed, ProofText, RecordingText, Unlisted, most_proof_bytes, text_tests}
+use Rattle.gl_answer.specs.ReadFiles.{HasReadFile}
+use Rattle.gl_answer.specs.declared.halt.Halt.{Halt}
 use Rattle.gl_flights.specs.FlightFile.{IsFlightRead}
 
 -- what is seen of the two files
@@ -35,7 +36,12 @@ badge_check_tests words seen =
 abbrev pub IsBadgeRead : BadgeSeen → Recording → Type 0
 IsBadgeRead seen recording = IsFlightRead seen.flight recording
 
--- this recording and this proof were read
-pub record AreBadgeCheckRead (seen : BadgeSeen) (read : Recording × Proof) : Type 0 where
-  pub flight : IsBadgeRead seen read.0
-  pub proof : IsSomeAnd seen.proof (λ text. IsProofOfText text read.1)
+-- what the tests of `badgecheck` before that of the proof's text end with: the recording passes them
+-- and was read, or the first that fails refuses its file
+abbrev pub HasTestedFlight : Option FilesByName → BadgeWords → Result Recording Halt → Type 0
+HasTestedFlight folder words (Ok recording) =
+    HasReadFile (RecordingText None) most_bytes folder words.flight (IsRecordingOf None)
+    (Ok recording)
+HasTestedFlight folder words (Err halt) =
+    HasTested {X = Recording} (IsBadgeSeen words folder) (badge_check_tests words)
+    (λ seen recording. ⊥) (Err halt)

@@ -1,3 +1,2 @@
 -- Definitions of the code alone: what its functions share. No promise to a caller cites them.
-pub mod Near
 pub mod NearFiles

@@ -1,15 +1,14 @@
 -- The right answers of `near`, `nearcheck` and `point`.
-use Rattle.std.specs.Prelude.{◌≡◌, ◌≢◌, ℕ, ◌≤◌, List, [], ◌∷◌, length, take, codes, Option, None, Some}
+use Rattle.std.specs.Prelude.{◌≡◌, ◌≢◌, ℕ, ◌≤◌, List, [], ◌∷◌, length, take, codes, Option, None, Some, IsSomeAnd}
 use Rattle.gl_desk.specs.Desk.{FilesByName}
 use Rattle.gl_igc.specs.declared.fix.Fix.{Fix}
 use Rattle.gl_igc.specs.declared.recording.Recording.{Recording}
 use Rattle.gl_near.specs.Certificate.{IsCertificate, IsSound, total_of}
 use Rattle.gl_near.specs.Line.{IsTextOf}
 use Rattle.gl_near.specs.Pairing.{IsLeast, Pairing, flights, place}
-use Rattle.gl_near.specs.Verdict.{IsCheckedAs}
+use Rattle.gl_near.specs.Verdict.{IsTextChecked}
 use Rattle.gl_near.specs.declared.answer.NearVerdict.{NearVerdict}
 use Rattle.gl_near.specs.declared.answer.NearVerdict.TheVariants.{Yes, Pair, Total, Extra, Place, Cell, Open}
-use Rattle.gl_near.specs.declared.claim.NearClaim.{NearClaim}
 use Rattle.gl_near.specs.declared.found.NearBest.{NearBest}
 use Rattle.gl_near.specs.declared.found.NearWhy.{NearWhy}
 use Rattle.gl_sphere.specs.Place.{written_vector}
@@ -17,7 +16,7 @@ use Rattle.gl_sphere.specs.PlaceText.{place_of, place_of_text}
 use Rattle.gl_sphere.specs.declared.place.Grid.{Grid}
 use Rattle.gl_words.specs.Words.{NearWords, PointWords}
 use Rattle.gl_answer.specs.FileTests.{most_proof_bytes}
-use Rattle.gl_flights.specs.NearFiles.{AreNearCheckRead, AreNearRead, IsNearSeen, NearSeen, near_check_tests, near_tests}
+use Rattle.gl_flights.specs.NearFiles.{AreNearRead, IsNearSeen, NearSeen, near_check_tests, near_tests}
 use Rattle.gl_answer.specs.declared.status.Status.TheVariants as status
 use Rattle.gl_answer.specs.Answer.{Answer, saying}
 use Rattle.gl_answer.specs.ByTests.{IsByTests, PassByTests}
@@ -108,12 +107,16 @@ verdict_answer (Place number) = verdict_line (Place number)
 verdict_answer (Cell number) = verdict_line (Cell number)
 verdict_answer Open = verdict_line Open
 
--- the answer says what is to be said of the claim that was seen, by the recordings that were
+-- this is to be said of the proof that was seen, by the recordings that were
+abbrev pub IsNearVerdict : NearWords → NearSeen → NearVerdict → Type 0
+IsNearVerdict words seen verdict =
+    (read : Recording × Recording) × AreNearRead seen read
+    × IsSomeAnd seen.proof (λ text. IsTextChecked (pairs_of read words.seconds) text verdict)
+
+-- the answer says it
 abbrev pub IsNearChecked : NearWords → NearSeen → Answer → Type 0
 IsNearChecked words seen answer =
-    (read : (Recording × Recording) × NearClaim) × AreNearCheckRead seen read
-    × (verdict : NearVerdict) × IsCheckedAs (pairs_of read.0 words.seconds) read.1 verdict
-    × (answer ≡ verdict_answer verdict)
+    (verdict : NearVerdict) × IsNearVerdict words seen verdict × (answer ≡ verdict_answer verdict)
 
 -- the answer of `nearcheck`
 abbrev pub IsNearCheck : Option FilesByName → NearWords → Answer → Type 0

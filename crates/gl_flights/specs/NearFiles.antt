@@ -1,5 +1,5 @@
 -- The files of `near` and `nearcheck`: their tests in their order, and what they give.
-use Rattle.std.specs.Prelude.{◌≡◌, ℕ, ℤ, List, ◌∷◌, ◌++◌, map, Option, None, Some, Result, Ok, Err, IsSomeAnd}
+use Rattle.std.specs.Prelude.{◌≡◌, ℕ, ℤ, List, ◌∷◌, ◌++◌, Option, None, Some, Result, Ok, Err, IsSomeAnd}
 use Rattle.gl_desk.specs.Desk.{FilesByName, IsSeenIn}
 use Rattle.gl_igc.specs.Reading.{Reading, recording_of}
 use Rattle.gl_igc.specs.declared.error.IgcError.{IgcError}
@@ -7,9 +7,7 @@ use Rattle.gl_igc.specs.declared.recording.Recording.{Recording}
 use Rattle.gl_proof.specs.LineRefusal.{IsRefusal}
 use Rattle.gl_proof.specs.declared.error.ProofError.{ProofError}
 use Rattle.gl_proof.specs.declared.error.ProofError.TheVariants as proof
-use Rattle.gl_near.specs.Certificate.{box_of}
 use Rattle.gl_near.specs.Line.{IsTextOf, near_grammar}
-use Rattle.gl_near.specs.declared.claim.NearClaim.{NearClaim}
 use Rattle.gl_near.specs.declared.found.NearBest.{NearBest}
 use Rattle.gl_near.specs.declared.found.NearWhy.{NearWhy}
 use Rattle.gl_desk.specs.Limits.{most_bytes}
@@ -78,13 +76,3 @@ near_check_tests words seen =
 pub record AreNearRead (seen : NearSeen) (read : Recording × Recording) : Type 0 where
   pub flight : IsSomeAnd seen.flight (λ text. IsRecordingOf None text read.0)
   pub other : IsSomeAnd seen.other (λ text. IsRecordingOf (Some read.0.date) text read.1)
-
--- a text has this claim
-abbrev pub IsClaimOf : List ℕ → NearClaim → Type 0
-IsClaimOf text claim = IsTextOf text claim.best (map box_of claim.closed.items)
-
--- these recordings and this claim were read
-pub record AreNearCheckRead (seen : NearSeen) (read : (Recording × Recording) × NearClaim)
-    : Type 0 where
-  pub flights : AreNearRead seen read.0
-  pub claim : IsSomeAnd seen.proof (λ text. IsClaimOf text read.1)

@@ -9,6 +9,7 @@ mod free;
 mod laws;
 pub mod near;
 pub mod near_check;
+mod near_file;
 mod near_files;
 mod of_file;
 mod replay;

@@ -1,18 +1,20 @@
-ghost use Rattle.std.specs.Prelude.{◌≡◌, IfErr, IfOk};
-ghost use Rattle.gl_desk.specs.Answers.{OnlyReads, stop_of};
-ghost use Rattle.gl_near.specs.Verdict.{IsCheckedAs};
-ghost use Rattle.gl_words.specs.NearWords.{near_seen};
+ghost use Rattle.std.specs.Prelude.{◌≡◌, IfOk};
 ghost use Rattle.gl_answer.specs.Answer.{answer_of};
-ghost use Rattle.gl_flights.specs.Code.Near.{IsClaimAnswered};
-ghost use Rattle.gl_flights.specs.Near.{IsNearCheck, box_of_verdict, pairs_of, verdict_answer, word_of_verdict};
+ghost use Rattle.gl_answer.specs.FileTests.{HasTested};
+ghost use Rattle.gl_answer.specs.Halts.{halt_stop};
+ghost use Rattle.gl_desk.specs.Answers.{OnlyReads, stop_of};
+ghost use Rattle.gl_desk.specs.Desk.{HasFile, ListsNames};
+ghost use Rattle.gl_words.specs.NearWords.{near_seen};
+ghost use Rattle.gl_flights.specs.Near.{IsNearCheck, IsNearVerdict, box_of_verdict, verdict_answer, word_of_verdict};
+ghost use Rattle.gl_flights.specs.NearFiles.{IsNearSeen, near_check_tests};
 
 use crate::near::pairs_of;
-use crate::near_files::test_near_check_files;
-use gl_answer::{Answer, Status, accepted_line, answer_halt, wrong_line};
-use gl_desk::{Desk, DeskError};
-use gl_igc::Recording;
-use gl_near::{NearClaim, NearVerdict, check_near};
-use gl_words::{Apart, NearWords};
+use crate::near_file::check_near_file;
+use crate::near_files::read_recordings;
+use gl_answer::{Answer, Halt, Status, accepted_line, answer_halt, need, need_both, wrong_line};
+use gl_desk::{Desk, DeskError, Name};
+use gl_near::NearVerdict;
+use gl_words::NearWords;
 use std::alloc::{AllocError, Global};
 
 /// The word for what is wrong with a claim; it is empty where nothing is.
@@ -58,32 +60,44 @@ fn verdict_answer(alloc: Global, verdict: NearVerdict) -> Result<Answer, AllocEr
     })
 }
 
-/// What is to be said of a claim by two recordings. The only error is want of memory.
-fn verdict_of(
+/// What is to be said of the proof by the two recordings, where the folder lists the three files
+/// and these pass the further tests.
+fn check_listed<D: Desk>(
     alloc: Global,
-    flights: &(Recording, Recording),
-    apart: Apart,
-    claim: &NearClaim,
-) -> Result<NearVerdict, AllocError>
-    ensures { IfOk result (IsCheckedAs (pairs_of flights.now apart.seconds) claim.now) }
+    desk: &mut D,
+    words: NearWords<'_>,
+) -> Result<NearVerdict, Halt>
+    requires flight { HasFile (D.told desk.old).folder words.flight.now }
+    requires other { HasFile (D.told desk.old).folder words.other.now }
+    requires proof { HasFile (D.told desk.old).folder words.proof.now }
+    ensures tested { HasTested (IsNearSeen (near_seen words.entry) (D.told desk.old).folder)
+        (near_check_tests (near_seen words.entry)) (IsNearVerdict (near_seen words.entry)) result }
+    ensures reads { OnlyReads (halt_stop result) (D.told desk.old) (D.told desk.new) }
 {
-    let pairs = pairs_of(alloc, flights, apart)?;
-    check_near(alloc, &pairs, claim)
+    let flights = read_recordings(alloc, desk, words)?;
+    let pairs = pairs_of(alloc, &flights, words.apart)?;
+    check_near_file(alloc, desk, words.proof, &pairs)
 }
 
-/// The answer for a claim by two recordings.
-fn answer_claim(
+/// What is to be said of the proof, where the files pass the tests of `nearcheck`.
+///
+/// The tests are made in this order: FILE, OTHER and PROOF are of the folder's names; FILE has at
+/// most 16,777,216 bytes, and is a recording; so does OTHER, and it is one of the day of FILE, or
+/// of the day before or after it; PROOF has at most 1,073,741,824 bytes, and its text is a proof.
+fn check_files<D: Desk>(
     alloc: Global,
-    flights: &(Recording, Recording),
-    apart: Apart,
-    claim: &NearClaim,
-) -> Result<Answer, DeskError>
-    ensures right { IfOk result
-        (IsClaimAnswered (pairs_of flights.now apart.seconds) claim.now) }
-    ensures stopped { IfErr result (λ stop. stop ≡ DeskError.Memory) }
+    desk: &mut D,
+    names: &[Name],
+    words: NearWords<'_>,
+) -> Result<NearVerdict, Halt>
+    requires { ListsNames (D.told desk.old).folder names.now }
+    ensures tested { HasTested (IsNearSeen (near_seen words.entry) (D.told desk.old).folder)
+        (near_check_tests (near_seen words.entry)) (IsNearVerdict (near_seen words.entry)) result }
+    ensures reads { OnlyReads (halt_stop result) (D.told desk.old) (D.told desk.new) }
 {
-    let verdict = verdict_of(alloc, flights, apart, claim)?;
-    Ok(verdict_answer(alloc, verdict)?)
+    need_both(names, words.flight, words.other)?;
+    need(names, words.proof)?;
+    check_listed(alloc, desk, words)
 }
 
 /// The answer of `nearcheck FILE OTHER SECONDS PROOF`: whether the proof is that of the two
@@ -98,8 +112,8 @@ pub fn near_check<D: Desk>(
     ensures reads { OnlyReads (stop_of result) (D.told desk.old) (D.told desk.new) }
 {
     let names = desk.names(alloc)?;
-    match test_near_check_files(alloc, desk, &names, words) {
-        Ok((flights, claim)) => answer_claim(alloc, &flights, words.apart, &claim),
+    match check_files(alloc, desk, &names, words) {
+        Ok(verdict) => Ok(verdict_answer(alloc, verdict)?),
         Err(halt) => answer_halt(alloc, halt),
     }
 }

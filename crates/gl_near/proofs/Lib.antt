@@ -1,9 +1,13 @@
 pub mod Exact
 pub mod Judged
+pub mod Known
 pub mod Least
+pub mod LineChecks
 pub mod Lines
 pub mod Numbers
+pub mod Parsed
 pub mod PairsLemmas
+pub mod Places
 pub mod Reading
 pub mod Said
 pub mod Squares

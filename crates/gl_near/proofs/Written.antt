@@ -55,21 +55,21 @@ box_line_is : (why : NearWhy) (spans : List (ℕ × ℕ)) → ended (BoxLine why
 box_line_is Time spans = refl
 box_line_is Near spans = refl
 
-pub box_written : (before after words : List ℕ) (why : NearWhy) (spans : List (ℕ × ℕ)) → words ≡ codes "BOX" ++ 32 ∷ reason_word why
-    → after ≡ before ++ (words ++ (spaced (map span_word spans) ++ 10 ∷ [])) → after ≡ before ++ ended (BoxLine why spans)
-box_written before after words why spans is added =
-    added ∙ ap (λ (l : List ℕ). before ++ (l ++ (spaced (map span_word spans) ++ 10 ∷ []))) is ∙ ap (λ (l : List ℕ). before ++ l) (sym (box_line_is why spans))
+pub box_written : (before after : List ℕ) (letter : ℕ) (why : NearWhy) (spans : List (ℕ × ℕ)) → letter ∷ [] ≡ reason_word why
+    → after ≡ before ++ (codes "BOX" ++ 32 ∷ letter ∷ (spaced (map span_word spans) ++ 10 ∷ [])) → after ≡ before ++ ended (BoxLine why spans)
+box_written before after letter why spans is added =
+    added ∙ ap (λ (l : List ℕ). before ++ (codes "BOX" ++ 32 ∷ (l ++ (spaced (map span_word spans) ++ 10 ∷ [])))) is ∙ ap (λ (l : List ℕ). before ++ l) (sym (box_line_is why spans))
 
 -- the lines of a proof, one after the other
 pub front_next : (before after : List ℕ) (best : Option NearBest) (boxes : List (List (ℕ × ℕ) × NearWhy)) → after ≡ before ++ front_text best
     → Writes before after (left_of (Front best) boxes) (left_of Boxes boxes) true
 front_next before after best boxes is = record { written = front_text best; text = is; parts = near_text-parts best boxes; some = λ _. omega arith }
 
-pub box_next : (before after words : List ℕ) (boxes left : List (List (ℕ × ℕ) × NearWhy)) (why : NearWhy) (spans : List (ℕ × ℕ)) → boxes ≡ (spans, why) ∷ left
-    → words ≡ codes "BOX" ++ 32 ∷ reason_word why → after ≡ before ++ (words ++ (spaced (map span_word spans) ++ 10 ∷ [])) → Writes before after (left_of Boxes boxes) (left_of Boxes left) true
-box_next before after words boxes left why spans next is added = record {
+pub box_next : (before after : List ℕ) (letter : ℕ) (boxes left : List (List (ℕ × ℕ) × NearWhy)) (why : NearWhy) (spans : List (ℕ × ℕ)) → boxes ≡ (spans, why) ∷ left
+    → letter ∷ [] ≡ reason_word why → after ≡ before ++ (codes "BOX" ++ 32 ∷ letter ∷ (spaced (map span_word spans) ++ 10 ∷ [])) → Writes before after (left_of Boxes boxes) (left_of Boxes left) true
+box_next before after letter boxes left why spans next is added = record {
   written = ended (BoxLine why spans);
-  text = box_written before after words why spans is added;
+  text = box_written before after letter why spans is added;
   parts = ap (λ (l : List (List (ℕ × ℕ) × NearWhy)). boxes_text l ++ ended EndLine) next ∙ append_assoc (ended (BoxLine why spans)) (boxes_text left) (ended EndLine);
   some = λ _. omega arith;
 }

@@ -1,8 +1,11 @@
 pub mod Code
+pub mod Lemmas
 pub mod Pairing
 pub mod Pairs
 pub mod Certificate
 pub mod Search
 pub mod Verdict
 pub mod Line
+pub mod NearLines
+pub mod LineCheck
 pub mod Testing

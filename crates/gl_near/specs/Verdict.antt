@@ -10,6 +10,7 @@ use Rattle.gl_near.specs.declared.answer.NearVerdict.{NearVerdict}
 use Rattle.gl_near.specs.declared.answer.NearVerdict.TheVariants.{Yes, Pair, Total, Extra, Place, Cell, Open}
 use Rattle.gl_near.specs.Pairing.{Pairing, Fits, IsReached, whole_cell}
 use Rattle.gl_near.specs.Certificate.{IsCertificate, IsClosedFor, IsSound, box_of, total_of}
+use Rattle.gl_near.specs.Line.{IsTextOf}
 
 -- a box is closed for the total by its reason
 abbrev pub IsBoxClosed : Pairing → Option NearBest → List (ℕ × ℕ) × NearWhy → Type 0
@@ -57,3 +58,9 @@ IsCertifiedClaim pairing claim =
 abbrev pub IsCheckedAs : Pairing → NearClaim → NearVerdict → Type 0
 IsCheckedAs pairing claim verdict =
     IsVerdict pairing claim.best (map box_of claim.closed.items) verdict
+
+-- this is the first thing that is to be said of the claim that a text is of
+abbrev pub IsTextChecked : Pairing → List ℕ → NearVerdict → Type 0
+IsTextChecked pairing text verdict =
+    (best : Option NearBest) × (boxes : List (List (ℕ × ℕ) × NearWhy))
+    × IsTextOf text best boxes × IsVerdict pairing best boxes verdict

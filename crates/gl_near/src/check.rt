@@ -15,7 +15,7 @@ use crate::pairs::Pairs;
 use std::alloc::{AllocError, Global};
 
 /// What is wrong with the pair of a claim and its total: `Pair` or `Total`, or nothing.
-fn fault_of(pairs: &Pairs, best: Option<NearBest>) -> Option<NearVerdict>
+pub(crate) fn fault_of(pairs: &Pairs, best: Option<NearBest>) -> Option<NearVerdict>
     ensures fault { IfSome result (λ verdict. (boxes : List (List (ℕ × ℕ) × NearWhy))
         → IsVerdict (pairing_of pairs.now) best boxes verdict) }
     ensures none { IsNone result → IsSound (pairing_of pairs.now) best }

@@ -1,60 +1,40 @@
-ghost use Rattle.std.specs.Prelude.{◌≡◌, ◌≢◌, ◌⊎◌, ℕ, List, Option, map, IfOk, IfErr, IsErrOf, MatchResult};
+ghost use Rattle.std.specs.Prelude.{◌≡◌, ◌≢◌, ◌⊎◌, ℕ, List, Option, map, IfOk, IfErr, IsErrOf, MatchResult, OnOk};
 ghost use Rattle.gl_proof.specs.declared.error.ProofError.{ProofError};
 ghost use Rattle.gl_proof.specs.declared.error.ProofError.TheVariants.{Memory};
 ghost use Rattle.gl_proof.specs.LineRefusal.{IsRefusal};
 ghost use Rattle.gl_near.specs.declared.found.NearBest.{NearBest as Best};
 ghost use Rattle.gl_near.specs.declared.found.NearWhy.{NearWhy};
 ghost use Rattle.gl_near.specs.Certificate.{box_of};
-ghost use Rattle.gl_near.specs.Code.Fronts.{AreBoxesAt, IsBestAt, LacksBest};
+ghost use Rattle.gl_near.specs.Code.Reading.{known_by};
 ghost use Rattle.gl_near.specs.Line.{IsTextOf, near_grammar};
+ghost use Rattle.gl_near.specs.LineCheck.{known_with};
+ghost use Rattle.gl_near.specs.NearLines.{line_said};
 
 use crate::claim::NearClaim;
-use crate::found::{NearBest, NearClosed};
-use crate::line::{box_at, least_at, pair_at};
-use gl_proof::{ProofError, behind, later, misfit};
+use crate::line_check::best_with;
+use crate::near_line::NearLine;
+use gl_proof::{ProofError, begin_lines, end_lines, feed_lines, next_line};
 use std::alloc::{AllocError, Global};
 
-/// The heading of such a proof, which tells the version of the format.
-const HEADING: &[u8] = b"GLIDENEAR 1\n";
-
-/// The line with which it ends.
-const END: &[u8] = b"END\n";
-
-/// The least distance and its pair whose lines stand at the front of what is behind the heading,
-/// what follows them, and the number of the line that follows.
-fn best_at(text: &[u8]) -> Result<(Option<NearBest>, &[u8], u32), ProofError>
-    ensures ok { IfOk result (λ read. IsBestAt text.now read.0 read.1.now read.2) }
-    ensures refused { IfErr result (LacksBest text.now) }
+/// Notes what the next line of a text says. The only error is want of memory.
+fn note_line(
+    line: NearLine,
+    total: &mut Option<u64>,
+    claim: &mut NearClaim,
+) -> Result<(), AllocError>
+    ensures { OnOk result (known_by total.new claim.new
+        ≡ known_with (known_by total.old claim.old) (line_said line)) }
 {
-    let Some((total, rest)) = least_at(text) else {
-        return Err(misfit(text, 2));
-    };
-    let Some(total) = total else {
-        return Ok((None, rest, 3));
-    };
-    let Some(((first, second), after)) = pair_at(rest) else {
-        return Err(misfit(rest, 3));
-    };
-    let best = NearBest {
-        total,
-        first,
-        second,
-    };
-    Ok((Some(best), after, 4))
-}
-
-/// The boxes whose lines stand at the front of a text, and what follows them. The only error is
-/// want of memory.
-fn boxes_at(alloc: Global, text: &[u8]) -> Result<(Vec<NearClosed>, &[u8]), AllocError>
-    ensures { IfOk result (λ read. AreBoxesAt text.now (map box_of read.0.items) read.1.now) }
-{
-    let mut closed = Vec::new(alloc);
-    let mut rest = text;
-    'boxes: while let Some((one, after)) = box_at(rest) {
-        closed.push(one)?;
-        rest = after;
+    match line {
+        NearLine::Heading | NearLine::End => (),
+        NearLine::Least(least) => *total = least,
+        NearLine::Pair(first, second) => {
+            claim.best = best_with(*total, first, second);
+            claim.closed.clear();
+        }
+        NearLine::Box(closed) => claim.closed.push(closed)?,
     }
-    Ok((closed, rest))
+    Ok(())
 }
 
 /// The claim of a text, or why it is none.
@@ -63,22 +43,20 @@ fn read_lines(alloc: Global, text: &[u8]) -> Result<NearClaim, ProofError>
         IsTextOf text.now claim.best (map box_of claim.closed.items)) }
     ensures refused { IfErr result (IsRefusal near_grammar text.now) }
 {
-    let Some(lines) = behind(text, HEADING) else {
-        return Err(ProofError::Heading);
+    let mut reader = begin_lines::<NearLine>(alloc);
+    feed_lines::<NearLine>(&mut reader, text)?;
+    let mut total = None;
+    let mut claim = NearClaim {
+        best: None,
+        closed: Vec::new(alloc),
     };
-    let (best, boxes, line) = match best_at(lines) {
-        Ok(read) => read,
-        Err(error) => return Err(error),
-    };
-    let (closed, last) = boxes_at(alloc, boxes)?;
-    let line = later(line, closed.len());
-    let Some(after) = behind(last, END) else {
-        return Err(misfit(last, line));
-    };
-    if !after.is_empty() {
-        return Err(ProofError::Line(later(line, 1)));
+    'lines: while let Some(line) = next_line::<NearLine>(&mut reader)? {
+        note_line(line, &mut total, &mut claim)?;
     }
-    Ok(NearClaim { best, closed })
+    match end_lines::<NearLine>(&reader) {
+        Ok(()) => Ok(claim),
+        Err(error) => Err(error),
+    }
 }
 
 /// Reads a claim from the text of a proof: the one claim with this text. So what was written is

@@ -1,4 +1,4 @@
-ghost use Rattle.std.specs.Prelude.{◌≡◌, ◌∷◌, ◌++◌, map, codes, All, IfOk, IfSome, OnOk, OnErr};
+ghost use Rattle.std.specs.Prelude.{◌≡◌, [], ◌∷◌, ◌++◌, map, All, IfOk, IfSome, OnOk, OnErr};
 ghost use Rattle.gl_box.specs.Along.{boxes_left};
 ghost use Rattle.gl_near.specs.Certificate.{box_of};
 ghost use Rattle.gl_proof.specs.Kept.{Keeps};
@@ -9,16 +9,16 @@ use crate::claim::NearClaim;
 use crate::found::{NearBest, NearClosed, NearFound, NearWhy};
 use crate::turn::NearTurn;
 use gl_box::WalkBoxes;
-use gl_proof::{LinesLeft, push_box, push_number, push_total};
+use gl_proof::{BoxWriter, LinesLeft, push_number, push_total};
 use std::alloc::{AllocError, Global};
 
-/// The words with which the line of a box begins, for a reason.
-fn box_words(why: NearWhy) -> &'static [u8]
-    ensures { result.now ≡ codes "BOX" ++ 32 ∷ reason_word why }
+/// The letter of a reason.
+fn reason_letter(why: NearWhy) -> u8
+    ensures { result ∷ [] ≡ reason_word why }
 {
     match why {
-        NearWhy::Time => b"BOX T",
-        NearWhy::Near => b"BOX N",
+        NearWhy::Time => b'T',
+        NearWhy::Near => b'N',
     }
 }
 
@@ -30,8 +30,9 @@ fn push_boxes(out: &mut Vec<u8>, cells: &[NearClosed]) -> Result<(), AllocError>
         (out.new.items ≡ out.old.items ++ boxes_text (map box_of cells.now)) }
     ensures err { OnErr result (Keeps out.old.items out.new.items) }
 {
+    let mut writer = BoxWriter::new();
     for closed in cells {
-        push_box(out, box_words(closed.why), &closed.cell)?;
+        writer.push(out, reason_letter(closed.why), &closed.cell)?;
     }
     Ok(())
 }
@@ -100,6 +101,7 @@ pub enum NearPart {
 pub struct NearLines<'a> {
     pub part: NearPart,
     pub boxes: WalkBoxes<'a, NearTurn>,
+    writer: BoxWriter,
 }
 
 impl NearFound {
@@ -111,6 +113,7 @@ impl NearFound {
         Ok(NearLines {
             part: NearPart::Front(self.best),
             boxes: self.closed.boxes(alloc)?,
+            writer: BoxWriter::new(),
         })
     }
 }
@@ -125,7 +128,10 @@ impl LinesLeft for NearLines<'_> {
                 self.part = NearPart::Boxes;
             }
             NearPart::Boxes => match self.boxes.next()? {
-                Some((cell, why)) => push_box(out, box_words(why), &cell)?,
+                Some(why) => {
+                    let letter = reason_letter(why);
+                    self.writer.push(out, letter, &self.boxes.opened.first)?;
+                }
                 None => {
                     out.extend_from_slice(b"END\n")?;
                     self.part = NearPart::Over;

@@ -11,20 +11,20 @@ use Rattle.gl_near.specs.Line.{AreTwoSpans}
 use Rattle.gl_near.proofs.Written.{box_more, box_written, two_spans}
 use Rattle.gl_near.proofs.write.push_boxes.Goals as goal
 
-pub returns-in_err-push_box-clause-err : goal.returns-in_err-push_box-clause-err
-returns-in_err-push_box-clause-err c =
+pub returns-in_err-push-clause-err : goal.returns-in_err-push-clause-err
+returns-in_err-push-clause-err c =
     let p = err_from_is_err_and c.from_residual.result c.from_residual.ensures.1 in
-    rw p.1 (keeps_behind _ _ _ _ c.loop-closed.invariant.written c.in_err-push_box.ensures.err)
+    rw p.1 (keeps_behind _ _ _ _ c.loop-closed.invariant.written c.in_err-push.ensures.err)
 
 pub loop-closed-preserved : goal.loop-closed-preserved
 loop-closed-preserved c =
     let l = c.loop-closed in
     let cells = c.args.cells.now in
     record {
-      written = box_more _ _ _ cells l.closed-index c.closed-item.result c.loop-closed-test.true c.closed-item.is l.invariant.written (box_written _ _ _ _ _ c.box_words.ensures c.in_ok-push_box.ensures.ok);
+      written = box_more _ _ _ cells l.closed-index c.closed-item.result c.loop-closed-test.true c.closed-item.is l.invariant.written (box_written _ _ _ _ _ c.reason_letter.ensures c.in_ok-push.ensures.ok);
       each = below_more (HoldsAt (λ (box : List (ℕ × ℕ) × NearWhy). AreTwoSpans box.0) (map box_of cells)) l.closed-index l.invariant.each
           (holds_at box_of (λ (box : List (ℕ × ℕ) × NearWhy). AreTwoSpans box.0) cells l.closed-index c.closed-item.result c.loop-closed-test.true c.closed-item.is
-          (two_spans c.closed-item.result.cell (subst (λ (closed : NearClosed). closed.cell.axes ≡ 2) (sym c.closed-item.is) (c.requires l.closed-index c.closed-item.result c.loop-closed-test.true)) c.in_ok-push_box.ensures.spans));
+          (two_spans c.closed-item.result.cell (subst (λ (closed : NearClosed). closed.cell.axes ≡ 2) (sym c.closed-item.is) (c.requires l.closed-index c.closed-item.result c.loop-closed-test.true)) c.in_ok-push.ensures.spans));
     }
 
 pub returns-clause-spans : goal.returns-clause-spans

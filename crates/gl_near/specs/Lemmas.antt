@@ -1,0 +1,2 @@
+-- Lemmas on which the definitions of traits rest.
+pub mod NearLines
