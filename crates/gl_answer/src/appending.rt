@@ -21,7 +21,7 @@ pub fn append_piece<D: Desk>(
     desk.append(alloc, file, piece)
 }
 
-/// Appends the next lines to a file, some thousands of them, and answers whether there may be more.
+/// Appends the next lines to a file, some hundreds of them, and answers whether there may be more.
 /// After an error a first part of the lines was appended. `text` is room to work in.
 fn append_next<D: Desk, L: LinesLeft>(
     desk: &mut D,
@@ -40,7 +40,7 @@ fn append_next<D: Desk, L: LinesLeft>(
     Ok(more)
 }
 
-/// Appends all lines that are left to a file, some thousands at a time, so that the text of a proof
+/// Appends all lines that are left to a file, some hundreds at a time, so that the text of a proof
 /// with millions of lines isn't in memory. After an error a first part of them was appended.
 pub fn append_lines<D: Desk, L: LinesLeft>(
     alloc: Global,

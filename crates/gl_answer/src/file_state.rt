@@ -5,8 +5,8 @@ use gl_proof::LineReader;
 /// How many bytes are asked for at once.
 pub(crate) const PIECE: usize = 65_536;
 
-/// A file of lines that is read as its lines are asked for. It keeps a piece of the file and less
-/// than a line.
+/// A file of lines that is read as its lines are asked for. It has room for a piece of the file, and
+/// keeps the last piece behind the part of a line that came before it.
 #[derive(Drop)]
 pub struct FileLines<P> {
     pub(crate) reader: LineReader<P>,

@@ -2,8 +2,8 @@ use gl_answer::FileLines;
 use gl_desk::Name;
 use gl_proof::{ProofLine, ProofPlace};
 
-/// A proof's file whose claims are checked as its lines come. It keeps a piece of the file, a line,
-/// and no box.
+/// A proof's file whose claims are checked as its lines come. It keeps what [`FileLines`] does, a
+/// line, and no box.
 #[derive(Drop)]
 pub struct ClaimsFile<'a> {
     pub(crate) file: &'a Name,

@@ -1,5 +1,5 @@
 //! The checker of claims: it goes over the boxes of a claim along the split tree and tests each by
-//! the tests of the goal. It knows nothing of how they were found.
+//! the tests of the goal, also as the lines of a file come. It knows nothing of how they were found.
 #![tactic(auto)]
 
 mod boxes;

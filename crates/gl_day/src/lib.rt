@@ -1,5 +1,5 @@
 //! A day as values: what the flights of a task give, claim by claim and line by line of the sheet,
-//! and whether a proof that was read is that of the day. It reads and writes no file.
+//! and whether the claims of a proof are those of the day. Of files it reads the proof alone.
 #![tactic(auto)]
 
 mod claim;

@@ -1,4 +1,5 @@
-//! The files of a day, for `score` and `check`: their tests in their order, and what they give.
+//! The files of a day, for `score` and `check`: their tests in their order, but that of a proof's
+//! text, and what they give.
 #![tactic(auto)]
 
 mod day_files;

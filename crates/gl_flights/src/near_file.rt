@@ -54,7 +54,7 @@ fn end_check(
 }
 
 /// What is to be said of the proof of a listed file by some pairs. Its boxes are tested as their
-/// lines come: no more than a piece of the file, a line and the open cells are kept.
+/// lines come: no more than two pieces of the file, a line and the open cells are kept.
 pub(crate) fn check_near_file<D: Desk>(
     alloc: Global,
     desk: &mut D,

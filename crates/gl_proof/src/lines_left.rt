@@ -4,7 +4,7 @@ ghost use Rattle.gl_proof.specs.Kept.{Keeps, Writes};
 use std::alloc::AllocError;
 
 /// How many lines are written at a time.
-const PIECE: usize = 2_048;
+const PIECE: usize = 512;
 
 /// A text that is made line by line, so that one with millions of lines need not be in memory.
 pub trait LinesLeft: Drop {
@@ -19,7 +19,7 @@ pub trait LinesLeft: Drop {
         ensures err { OnErr result (Keeps out.old.items out.new.items) };
 }
 
-/// Appends the next lines, at most some thousands of them, and answers whether there may be more.
+/// Appends the next lines, at most some hundreds of them, and answers whether there may be more.
 /// The only error is want of memory; `out` has then what it had, and perhaps more.
 pub fn write_next<L: LinesLeft>(out: &mut Vec<u8>, lines: &mut L) -> Result<bool, AllocError>
     ensures ok { IfOk result
