@@ -113,23 +113,22 @@ fn any_number_at(text: &[u8]) -> Option<(u32, &[u8])>
     Some((number as u32, rest))
 }
 
-/// The same span as `span_at` finds, whatever its digits.
-#[inline(never)]
-fn any_span_at(text: &[u8]) -> Option<(Span, &[u8])>
+/// The span at the front of a text, and what follows it.
+pub fn span_at(text: &[u8]) -> Option<(Span, &[u8])>
     ensures { Reads ends (IsSpanAt text.now) result }
 {
-    let (lo, rest) = any_number_at(text)?;
-    let (hi, rest) = any_number_at(behind(rest, b"-")?)?;
+    let (lo, rest) = short_number_at(text)?;
+    let (hi, rest) = short_number_at(behind(rest, b"-")?)?;
     if lo > hi {
         return None;
     }
     Some((Span { lo, hi }, rest))
 }
 
-/// The span at the front of a text, and what follows it. It is made where it is read, since handing
-/// over an answer of several parts in memory takes longer than reading it.
+/// The same span as `span_at` finds. It is for one caller, where it is made in place: handing over
+/// an answer of several parts in memory takes longer than reading it.
 #[inline(always)]
-pub fn span_at(text: &[u8]) -> Option<(Span, &[u8])>
+pub(crate) fn common_span_at(text: &[u8]) -> Option<(Span, &[u8])>
     ensures { Reads ends (IsSpanAt text.now) result }
 {
     let low = common_number_at(text);
@@ -140,8 +139,7 @@ pub fn span_at(text: &[u8]) -> Option<(Span, &[u8])>
             return Some((Span { lo, hi }, &word[high.bytes..]));
         }
     }
-    let (Span { lo, hi }, rest) = any_span_at(text)?;
-    Some((Span { lo, hi }, rest))
+    span_at(text)
 }
 
 /// The total at the front of a text with LF behind it, and what follows that.

@@ -7,7 +7,7 @@ ghost use Rattle.gl_proof.specs.Code.Fronts.{AreFixesAt, Adds, AddsBox, AreSpans
 
 use crate::claim::ClaimKind;
 use crate::entrant::entrant_at;
-use crate::front::{behind, short_number_at, span_at, total_at};
+use crate::front::{behind, common_span_at, short_number_at, span_at, total_at};
 use gl_box::{Cell, Closed, MOST_AXES, Span, Tuple, Why};
 use std::alloc::{AllocError, Global};
 
@@ -129,17 +129,15 @@ fn spans_into<'a>(cell: &mut Cell, text: &'a [u8]) -> Option<&'a [u8]>
         ((spans : List (ℕ × ℕ)) (rest : List ℕ) → AreSpansAt text.now spans rest → ⊥)
         (λ rest. AreSpansAt text.now (spans_of cell.new) rest.now) }
 {
-    *cell = Cell {
-        axes: MOST_AXES as u8,
-        spans: [Span { lo: 0, hi: 0 }; MOST_AXES],
-    };
+    cell.spans = [Span { lo: 0, hi: 0 }; MOST_AXES];
+    cell.axes = MOST_AXES as u8;
     let mut axes = 0;
     let mut rest = text;
     'axes: while let Some(word) = behind(rest, b" ") {
         if axes == MOST_AXES {
             return None;
         }
-        let Some((span, after)) = span_at(word) else {
+        let Some((span, after)) = common_span_at(word) else {
             return None;
         };
         cell.spans[axes] = span;

@@ -19,27 +19,27 @@ returns-then-axes-eq-MOST_AXES c =
     (spans_on l.axes l.cell.spans c.args.text.now l.rest.now spans more i.few i.ten i.is i.each i.stops at) in
     absurd (omega (arith, next.0, length-read l.axes l.cell.spans i.few i.ten, c.if-axes-eq-MOST_AXES.true, at.are_spans.most))
 
-pub returns-in_default-span_at : goal.returns-in_default-span_at
-returns-in_default-span_at c =
+pub returns-in_default-common_span_at : goal.returns-in_default-common_span_at
+returns-in_default-common_span_at c =
     λ spans more at.
     let l = c.axes in
     let i = l.invariant in
     let xs = map ends (take l.axes l.cell.spans) in
     let next = next_word span_word IsSpan xs spans l.rest.now c.in-Some.word.now more c.in-Some.ensures
     (spans_on l.axes l.cell.spans c.args.text.now l.rest.now spans more i.few i.ten i.is i.each i.stops at) in
-    c.in_default-span_at.ensures next.1.next (spaced (map span_word next.1.others) ++ 10 ∷ more)
+    c.in_default-common_span_at.ensures next.1.next (spaced (map span_word next.1.others) ++ 10 ∷ more)
     (record { is_span = next.1.is_next; is = next.1.text; stops = span_next_stops next.1.others more })
 
 pub invariant_of-cell-in-Some : goal.invariant_of-cell-in-Some
 invariant_of-cell-in-Some c =
     let l = c.axes in
     let i = l.invariant in
-    let long = length-set l.cell.spans l.axes c.in-Some-span_at.span in
+    let long = length-set l.cell.spans l.axes c.in-Some-common_span_at.span in
     record {
       some_axis = omega (arith, i.wide);
       ten_axes = omega (arith, i.wide);
       ten_spans = long ∙ i.ten;
-      unused = λ k d below. absurd (omega (arith, below, i.wide, i.ten, long, length-drop l.cell.axes (slice_set l.cell.spans l.axes c.in-Some-span_at.span)));
+      unused = λ k d below. absurd (omega (arith, below, i.wide, i.ten, long, length-drop l.cell.axes (slice_set l.cell.spans l.axes c.in-Some-common_span_at.span)));
     }
 
 pub axes-preserved : goal.axes-preserved
@@ -47,18 +47,18 @@ axes-preserved c =
     let l = c.axes in
     let i = l.invariant in
     let below : l.axes < length l.cell.spans = omega arith in
-    let more = ends_more l.axes l.cell.spans c.in-Some-span_at.span below in
+    let more = ends_more l.axes l.cell.spans c.in-Some-common_span_at.span below in
     record {
       few = omega arith;
       wide = i.wide;
-      ten = length-set l.cell.spans l.axes c.in-Some-span_at.span ∙ i.ten;
-      is = subst (λ (xs : List (ℕ × ℕ)). c.args.text.now ≡ spaced (map span_word xs) ++ c.in-Some-span_at.after.now) (sym more)
-          (word_taken span_word (map ends (take l.axes l.cell.spans)) (ends c.in-Some-span_at.span) c.args.text.now l.rest.now c.in-Some.word.now c.in-Some-span_at.after.now i.is c.in-Some.ensures
-          c.in-Some-span_at.ensures.is);
-      each = subst (All IsSpan) (sym more) (All-push IsSpan (map ends (take l.axes l.cell.spans)) (ends c.in-Some-span_at.span) i.each c.in-Some-span_at.ensures.is_span);
-      stops = λ some. c.in-Some-span_at.ensures.stops;
-      unused = subst (All (λ (span : Span). span.hi ≡ 0)) (sym (drop-set-lt (l.axes + 1) l.cell.spans l.axes c.in-Some-span_at.span (omega arith)))
-          (All-rest (λ (span : Span). span.hi ≡ 0) _ _ _ (drop_more l.cell.spans l.axes c.in-Some-span_at.span below) i.unused);
+      ten = length-set l.cell.spans l.axes c.in-Some-common_span_at.span ∙ i.ten;
+      is = subst (λ (xs : List (ℕ × ℕ)). c.args.text.now ≡ spaced (map span_word xs) ++ c.in-Some-common_span_at.after.now) (sym more)
+          (word_taken span_word (map ends (take l.axes l.cell.spans)) (ends c.in-Some-common_span_at.span) c.args.text.now l.rest.now c.in-Some.word.now c.in-Some-common_span_at.after.now i.is c.in-Some.ensures
+          c.in-Some-common_span_at.ensures.is);
+      each = subst (All IsSpan) (sym more) (All-push IsSpan (map ends (take l.axes l.cell.spans)) (ends c.in-Some-common_span_at.span) i.each c.in-Some-common_span_at.ensures.is_span);
+      stops = λ some. c.in-Some-common_span_at.ensures.stops;
+      unused = subst (All (λ (span : Span). span.hi ≡ 0)) (sym (drop-set-lt (l.axes + 1) l.cell.spans l.axes c.in-Some-common_span_at.span (omega arith)))
+          (All-rest (λ (span : Span). span.hi ≡ 0) _ _ _ (drop_more l.cell.spans l.axes c.in-Some-common_span_at.span below) i.unused);
     }
 
 pub returns-in_default-behind : goal.returns-in_default-behind

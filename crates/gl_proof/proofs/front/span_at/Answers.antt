@@ -1,7 +1,7 @@
 use Rattle.std.proofs.Common.{◌++◌, arith}
 use Rattle.std.specs.Fmt.{decimal}
 use Rattle.gl_proof.proofs.Codes.{high_at, low_front, span_front}
-use Rattle.gl_proof.proofs.front.any_span_at.Goals as goal
+use Rattle.gl_proof.proofs.front.span_at.Goals as goal
 
 pub returns-in_err-behind : goal.returns-in_err-behind
 returns-in_err-behind c = rw c.from_residual-in_err-behind.ensures (λ span more at.
