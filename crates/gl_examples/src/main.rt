@@ -15,6 +15,7 @@ mod recordings;
 mod sphere;
 mod tasks;
 mod texts;
+mod walks;
 mod zones;
 
 use anyhow::{Result, bail};
@@ -33,6 +34,7 @@ fn answer(rt: &HostRuntime, table: &str, row: &Row<'_>) -> Result<String> {
         "FLIGHTS.CSV" => flights::answer(rt, row.verb, row.input),
         "GOALS.CSV" => goals::answer(alloc, row.verb, row.input),
         "PROOFS.CSV" => proofs::answer(alloc, row.verb, row.input),
+        "WALKS.CSV" => walks::answer(alloc, row.verb, row.input),
         "DAYS.CSV" => days::answer(alloc, row.verb, row.input),
         _ => bail!("a table without verbs"),
     }
